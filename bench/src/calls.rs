@@ -1,0 +1,91 @@
+//! Each call of the library, on one demand.
+
+use crate::demands::{Demand, ROOM};
+use crate::timing::Pair;
+use reference::RECORD_SIZE;
+use std::hint::black_box;
+
+#[cfg(feature = "proved")]
+use chordvenus as proved;
+// Without the archive the proved half is built from the reference, and is never run.
+#[cfg(not(feature = "proved"))]
+use reference as proved;
+
+/// The calls in the order of the header, with what one timed run does.
+pub const CALLS: [(&str, &str); 10] = [
+    ("wish", "one call for each pair with slots"),
+    ("wishes", "a list of the pairs with slots"),
+    ("exact", "one plan"),
+    ("doubled", "one plan"),
+    ("quick", "one plan, cells scaled so that T is at most 1,024"),
+    ("check", "the exact plan against its demand"),
+    ("length", "the exact plan"),
+    ("write", "one record"),
+    ("open", "the exact plan"),
+    ("step_at", "one call for each record of the exact plan"),
+];
+
+/// Ends a timed call whose answer nothing reads.
+fn run<T>(answer: T) {
+    black_box(answer);
+}
+
+/// The same lines once over each library.
+macro_rules! both {
+    ($library:ident => $call:expr) => {
+        Pair {
+            reference: {
+                use reference as $library;
+                Box::new($call)
+            },
+            proved: {
+                use proved as $library;
+                Box::new($call)
+            },
+        }
+    };
+}
+
+macro_rules! planner {
+    ($planner:ident, $n:expr, $cells:expr) => {
+        both!(library => {
+            let (cells, mut plan) = ($cells, vec![0; ROOM * RECORD_SIZE]);
+            move || run(library::$planner($n, black_box(&cells), &mut plan))
+        })
+    };
+}
+
+pub fn pair<'a>(call: &str, demand: &'a Demand) -> Pair<'a> {
+    let (n, cells, plan) = (demand.n as u64, &demand.cells, &demand.plan);
+    match call {
+        "exact" => planner!(exact, n, cells.clone()),
+        "doubled" => planner!(doubled, n, cells.clone()),
+        "quick" => planner!(quick, n, demand.quick_cells()),
+        "check" => both!(library => move || run(library::check(n, black_box(cells), plan))),
+        "length" => both!(library => move || run(library::length(n, black_box(plan), 5))),
+        "open" => both!(library => move || run(library::open(n, black_box(plan)))),
+        "step_at" => both!(library => move || {
+            for at in 0..demand.records() as u64 {
+                run(library::step_at(n, black_box(plan), at));
+            }
+        }),
+        "write" => both!(library => {
+            let mut lent = [0; RECORD_SIZE];
+            let outputs = *plan[..RECORD_SIZE].last_chunk().expect("a demand with a plan");
+            move || run(library::write(1, n, black_box(&outputs), &mut lent))
+        }),
+        "wishes" => both!(library => {
+            let (list, mut lent) = (demand.wish_list(), vec![0; demand.n * demand.n]);
+            move || run(library::wishes(n, black_box(&list), &mut lent))
+        }),
+        "wish" => both!(library => {
+            let list = demand.wish_list();
+            let bits = |record: &[u8]| u32::from_le_bytes(*record.last_chunk().expect("8 bytes"));
+            let wishes: Vec<u32> = list.chunks(reference::WISH_SIZE).map(bits).collect();
+            move || for &bits in &wishes {
+                run(library::wish(black_box(bits)));
+            }
+        }),
+        _ => unreachable!("a call of the table"),
+    }
+}

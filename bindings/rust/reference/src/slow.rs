@@ -1,0 +1,186 @@
+//! The same plans in the plainest words: no labels, no kept matching, nothing but the sentences of
+//! document 01. Slow, and meant to be seen to be right.
+
+use crate::{Record, IDLE, MOST_PORTS};
+
+/// A demand as rows of cells.
+pub type Demand = Vec<Vec<u64>>;
+
+/// Chooses a full setting that uses only non-zero cells, the first in dictionary order.
+pub type First = fn(&Demand) -> Vec<usize>;
+
+pub fn rows(n: usize, cells: &[u32]) -> Demand {
+    cells.chunks(n).map(|row| row.iter().map(|&cell| u64::from(cell)).collect()).collect()
+}
+
+/// The largest line sum.
+pub fn longest(demand: &Demand) -> u64 {
+    let inputs = demand.iter().map(|row| row.iter().sum());
+    let outputs = (0..demand.len()).map(|j| demand.iter().map(|row| row[j]).sum());
+    inputs.chain(outputs).max().unwrap_or(0)
+}
+
+/// Over cells in order, add to each cell the smaller of what its row and its column still lack of T.
+pub fn filled(demand: &Demand) -> Demand {
+    let (n, longest) = (demand.len(), longest(demand));
+    let mut filled = demand.clone();
+    for i in 0..n {
+        for j in 0..n {
+            let row: u64 = filled[i].iter().sum();
+            let column: u64 = filled.iter().map(|row| row[j]).sum();
+            filled[i][j] += (longest - row).min(longest - column);
+        }
+    }
+    filled
+}
+
+/// The exact plan, with the first setting found as `first` does.
+pub fn exact(demand: &Demand, first: First) -> Vec<Record> {
+    let mut rest = filled(demand);
+    let mut plan = Vec::new();
+    while rest.iter().flatten().any(|&cell| cell != 0) {
+        let setting = first(&rest);
+        let hold = setting.iter().enumerate().map(|(i, &j)| rest[i][j]).min().expect("N is at least 1");
+        for (i, &j) in setting.iter().enumerate() {
+            rest[i][j] -= hold;
+        }
+        plan.push(record(hold, &setting));
+    }
+    plan
+}
+
+/// The doubled plan, over the exact plan with the first setting found as `first` does.
+pub fn doubled(demand: &Demand, first: First) -> Vec<Record> {
+    let (n, longest) = (demand.len() as u64, longest(demand));
+    if longest == 0 {
+        return Vec::new();
+    }
+    let unit = longest.div_ceil(n);
+    let quotients = demand.iter().map(|row| row.iter().map(|cell| cell / unit).collect()).collect();
+    let mut plan = exact(&quotients, first);
+    for record in &mut plan {
+        record.hold *= unit as u16;
+    }
+    if unit >= 2 {
+        for k in 0..demand.len() {
+            let rotation: Vec<usize> = (0..demand.len()).map(|i| (i + k) % demand.len()).collect();
+            plan.push(record(unit - 1, &rotation));
+        }
+    }
+    plan
+}
+
+/// The quick cover.
+pub fn quick(demand: &Demand) -> Vec<Record> {
+    let n = demand.len();
+    let mut left = demand.clone();
+    let mut plan = Vec::new();
+    while left.iter().flatten().any(|&cell| cell != 0) {
+        let mut outputs = [IDLE; MOST_PORTS];
+        for turn in 0..n {
+            let i = (plan.len() + turn) % n;
+            if let Some(j) = (0..n).find(|&j| left[i][j] != 0 && !outputs.contains(&(j as u8))) {
+                left[i][j] -= 1;
+                outputs[i] = j as u8;
+            }
+        }
+        plan.push(Record { hold: 1, outputs });
+    }
+    plan
+}
+
+/// The first setting by trying outputs in order and going back: for small N.
+pub fn first_by_going_back(rest: &Demand) -> Vec<usize> {
+    fn go_on(rest: &Demand, chosen: &mut Vec<usize>) -> bool {
+        let i = chosen.len();
+        if i == rest.len() {
+            return true;
+        }
+        for j in 0..rest.len() {
+            if rest[i][j] != 0 && !chosen.contains(&j) {
+                chosen.push(j);
+                if go_on(rest, chosen) {
+                    return true;
+                }
+                chosen.pop();
+            }
+        }
+        false
+    }
+    let mut chosen = Vec::new();
+    assert!(go_on(rest, &mut chosen), "lines with equal sums have a full setting");
+    chosen
+}
+
+/// The first setting by asking, for each input and each output in order, whether a full setting
+/// goes on from there, each time with a matching from nothing: for larger N.
+pub fn first_by_asking_anew(rest: &Demand) -> Vec<usize> {
+    let mut chosen = Vec::new();
+    for i in 0..rest.len() {
+        let output = (0..rest.len()).find(|&j| {
+            chosen.push(j);
+            let goes_on = rest[i][j] != 0 && !chosen[..i].contains(&j) && can_be_full(rest, &chosen);
+            chosen.pop();
+            goes_on
+        });
+        chosen.push(output.expect("lines with equal sums have a full setting"));
+    }
+    chosen
+}
+
+/// Whether the inputs behind those chosen can all be joined to outputs that are not chosen.
+fn can_be_full(rest: &Demand, chosen: &[usize]) -> bool {
+    fn moves(rest: &Demand, i: usize, tried: &mut [bool], holder: &mut [Option<usize>]) -> bool {
+        for j in 0..rest.len() {
+            if rest[i][j] != 0 && !tried[j] {
+                tried[j] = true;
+                let free = match holder[j] {
+                    None => true,
+                    Some(other) => moves(rest, other, tried, holder),
+                };
+                if free {
+                    holder[j] = Some(i);
+                    return true;
+                }
+            }
+        }
+        false
+    }
+    let n = rest.len();
+    let mut holder = vec![None; n];
+    (chosen.len()..n).all(|i| {
+        let mut tried: Vec<bool> = (0..n).map(|j| chosen.contains(&j)).collect();
+        moves(rest, i, &mut tried, &mut holder)
+    })
+}
+
+/// One wish by whole numbers alone: a finite binary32 is m × 2^e, and the slots are that, rounded
+/// up. The error is the code.
+pub fn wish(bits: u32) -> Result<u64, u64> {
+    let (sign, exponent, fraction) = (bits >> 31, bits >> 23 & 0xff, u64::from(bits & 0x7f_ffff));
+    if exponent == 0xff {
+        return Err(6);
+    }
+    let (m, e) = match exponent {
+        0 => (fraction, -149),
+        _ => (fraction | 1 << 23, exponent as i32 - 150),
+    };
+    if sign == 1 && m != 0 {
+        return Err(7);
+    }
+    // Below 2^-63 a wish rounds as 2^-63 × m does; above 2^40 it is too large in any case.
+    let slots = if e < 0 { m.div_ceil(1 << (-e).min(63)) } else { m << e.min(40) };
+    let exceeds = if e < 0 { m > 65_535 << (-e).min(40) } else { m << e.min(40) > 65_535 };
+    if exceeds {
+        return Err(8);
+    }
+    Ok(slots)
+}
+
+fn record(hold: u64, setting: &[usize]) -> Record {
+    let mut outputs = [IDLE; MOST_PORTS];
+    for (i, &j) in setting.iter().enumerate() {
+        outputs[i] = j as u8;
+    }
+    Record { hold: hold as u16, outputs }
+}

@@ -1,0 +1,179 @@
+//! Safe calls of Chordvenus, the proved switch planner, over its static library.
+//!
+//! Each function is one call of include/chordvenus.h, with slices in the place of pointers and
+//! lengths; what it does, its codes and what it writes are said there. An [`Answer`] has the
+//! numbers as they are; [`Answer::done`] makes a `Result` of it. [`Plan`] reads a plan record by
+//! record.
+//!
+//! ```
+//! let cells = [2, 1, 1, 2];
+//! let mut plan = [0; 3 * chordvenus::RECORD_SIZE];
+//! let answer = chordvenus::exact(2, &cells, &mut plan).done()?;
+//! let used = &plan[..answer.records as usize * chordvenus::RECORD_SIZE];
+//! for record in chordvenus::Plan::open(2, used)? {
+//!     let record = record?;
+//!     println!("{} {:?}", record.hold, &record.outputs[..2]);
+//! }
+//! # Ok::<(), chordvenus::Refused>(())
+//! ```
+
+use std::fmt;
+
+pub mod sys;
+
+pub use sys::Answer;
+
+/// Bytes of a plan record.
+pub const RECORD_SIZE: usize = 68;
+/// Bytes of a wish record.
+pub const WISH_SIZE: usize = 8;
+/// The output of an idle input.
+pub const IDLE: u8 = 255;
+
+/// One wish, as the bits of a binary32, to slots, which are the answer's total.
+pub fn wish(bits: u32) -> Answer {
+    // SAFETY: no memory is lent.
+    unsafe { sys::cv_wish(bits) }
+}
+
+/// A wish list to a demand.
+pub fn wishes(n: u64, list: &[u8], cells: &mut [u32]) -> Answer {
+    // SAFETY: a slice has as many elements as its length says, and a mutable one overlaps no other;
+    // the same holds for each call below.
+    unsafe { sys::cv_wishes(n, list.as_ptr(), list.len(), cells.as_mut_ptr(), cells.len()) }
+}
+
+/// The exact plan of a demand.
+pub fn exact(n: u64, cells: &[u32], plan: &mut [u8]) -> Answer {
+    unsafe { sys::cv_exact(n, cells.as_ptr(), cells.len(), plan.as_mut_ptr(), plan.len()) }
+}
+
+/// The doubled plan of a demand.
+pub fn doubled(n: u64, cells: &[u32], plan: &mut [u8]) -> Answer {
+    unsafe { sys::cv_doubled(n, cells.as_ptr(), cells.len(), plan.as_mut_ptr(), plan.len()) }
+}
+
+/// The quick cover of a demand.
+pub fn quick(n: u64, cells: &[u32], plan: &mut [u8]) -> Answer {
+    unsafe { sys::cv_quick(n, cells.as_ptr(), cells.len(), plan.as_mut_ptr(), plan.len()) }
+}
+
+/// Checks a plan from anywhere against a demand.
+pub fn check(n: u64, cells: &[u32], plan: &[u8]) -> Answer {
+    unsafe { sys::cv_check(n, cells.as_ptr(), cells.len(), plan.as_ptr(), plan.len()) }
+}
+
+/// The length of a plan at a switching time of d slots.
+pub fn length(n: u64, plan: &[u8], d: u16) -> Answer {
+    unsafe { sys::cv_length(n, plan.as_ptr(), plan.len(), d) }
+}
+
+/// Writes one record at the start of a buffer.
+pub fn write(hold: u16, n: u64, outputs: &[u8; 64], plan: &mut [u8]) -> Answer {
+    unsafe { sys::cv_write(hold, n, outputs.as_ptr(), plan.as_mut_ptr(), plan.len()) }
+}
+
+/// Opens a plan for N and counts its records; no record is judged.
+pub fn open(n: u64, plan: &[u8]) -> Answer {
+    unsafe { sys::cv_open(n, plan.as_ptr(), plan.len()) }
+}
+
+/// The step at record `at` of a plan opened for N.
+pub fn step_at(n: u64, plan: &[u8], at: u64) -> Step {
+    let step = unsafe { sys::cv_step_at(n, plan.as_ptr(), plan.len(), at) };
+    match step.kind {
+        0 => Step::Record(Record { hold: step.hold as u16, outputs: step.outputs }),
+        1 => Step::End,
+        _ => Step::Malformed(step.place),
+    }
+}
+
+/// One setting of a plan and its hold.
+#[derive(Clone, Copy, Debug, PartialEq, Eq)]
+pub struct Record {
+    pub hold: u16,
+    pub outputs: [u8; 64],
+}
+
+/// What one step of reading gives.
+#[derive(Clone, Copy, Debug, PartialEq, Eq)]
+pub enum Step {
+    Record(Record),
+    End,
+    /// Code 11, with the record's number.
+    Malformed(u64),
+}
+
+/// A plan that was opened, and the place reached.
+pub struct Plan<'a> {
+    n: u64,
+    plan: &'a [u8],
+    at: u64,
+}
+
+impl<'a> Plan<'a> {
+    /// Opens a plan for N.
+    pub fn open(n: u64, plan: &'a [u8]) -> Result<Plan<'a>, Refused> {
+        open(n, plan).done()?;
+        Ok(Plan { n, plan, at: 0 })
+    }
+}
+
+/// Gives record after record; where one is not well formed, its refusal once, and then no more.
+impl Iterator for Plan<'_> {
+    type Item = Result<Record, Refused>;
+
+    fn next(&mut self) -> Option<Result<Record, Refused>> {
+        match step_at(self.n, self.plan, self.at) {
+            Step::End => None,
+            Step::Record(record) => {
+                self.at += 1;
+                Some(Ok(record))
+            }
+            Step::Malformed(place) => {
+                self.at = u64::MAX;
+                Some(Err(Refused(Answer { code: 11, place, ..Answer::default() })))
+            }
+        }
+    }
+}
+
+impl Answer {
+    /// The answer if nothing was refused, or else the refusal.
+    pub fn done(self) -> Result<Answer, Refused> {
+        match self.code {
+            0 => Ok(self),
+            _ => Err(Refused(self)),
+        }
+    }
+}
+
+/// An answer with a code other than 0.
+#[derive(Clone, Copy, Debug, PartialEq, Eq)]
+pub struct Refused(pub Answer);
+
+impl fmt::Display for Refused {
+    fn fmt(&self, f: &mut fmt::Formatter<'_>) -> fmt::Result {
+        let Answer { code, place, side, .. } = self.0;
+        let line = if side == 1 { "input" } else { "output" };
+        write!(f, "refused, code {code}: ")?;
+        match code {
+            1 => write!(f, "the number of ports is 0 or over 64"),
+            2 => write!(f, "the cells lent are not {place}"),
+            3 => write!(f, "the line of {line} {place} sums over 65,535"),
+            4 => write!(f, "a line sums over 1,024"),
+            5 => write!(f, "the plan has {place} records, and the buffer has room for fewer"),
+            6 => write!(f, "wish {place} is not a finite number"),
+            7 => write!(f, "wish {place} is below zero"),
+            8 => write!(f, "wish {place} is above 65,535"),
+            9 => write!(f, "bytes are left over after {place} whole records"),
+            10 => write!(f, "the plan has over {place} records"),
+            11 => write!(f, "record {place} is not well formed"),
+            12 => write!(f, "wish {place} names a pair that was named before"),
+            13 => write!(f, "cell {place} is not covered"),
+            _ => write!(f, "place {place}"),
+        }
+    }
+}
+
+impl std::error::Error for Refused {}

@@ -1,0 +1,37 @@
+//! include/chordvenus.h, declared again.
+
+/// What every call answers; what does not apply is 0.
+#[repr(C)]
+#[derive(Clone, Copy, Debug, Default, PartialEq, Eq)]
+pub struct Answer {
+    pub code: u64,
+    pub place: u64,
+    pub side: u64,
+    pub records: u64,
+    pub longest: u64,
+    pub total: u64,
+    pub length: u64,
+}
+
+/// One step of reading a plan, as the archive gives it: kind 0 a record, 1 the end, 2 code 11.
+#[repr(C)]
+#[derive(Clone, Copy, Debug, PartialEq, Eq)]
+pub struct RawStep {
+    pub kind: u64,
+    pub place: u64,
+    pub hold: u64,
+    pub outputs: [u8; 64],
+}
+
+extern "C" {
+    pub fn cv_wish(bits: u32) -> Answer;
+    pub fn cv_wishes(n: u64, list: *const u8, list_len: usize, cells: *mut u32, cells_len: usize) -> Answer;
+    pub fn cv_exact(n: u64, cells: *const u32, cells_len: usize, plan: *mut u8, plan_len: usize) -> Answer;
+    pub fn cv_doubled(n: u64, cells: *const u32, cells_len: usize, plan: *mut u8, plan_len: usize) -> Answer;
+    pub fn cv_quick(n: u64, cells: *const u32, cells_len: usize, plan: *mut u8, plan_len: usize) -> Answer;
+    pub fn cv_check(n: u64, cells: *const u32, cells_len: usize, plan: *const u8, plan_len: usize) -> Answer;
+    pub fn cv_length(n: u64, plan: *const u8, plan_len: usize, d: u16) -> Answer;
+    pub fn cv_write(hold: u16, n: u64, outputs: *const u8, plan: *mut u8, plan_len: usize) -> Answer;
+    pub fn cv_open(n: u64, plan: *const u8, plan_len: usize) -> Answer;
+    pub fn cv_step_at(n: u64, plan: *const u8, plan_len: usize, at: u64) -> RawStep;
+}

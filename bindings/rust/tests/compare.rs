@@ -1,0 +1,393 @@
+//! Every call of the archive against the reference: the same inputs must give the same answer and
+//! leave the same bytes. Cases are sound, damaged, and damaged in several ways at once. Lent memory
+//! is filled with random bytes and lies between random bytes, and all of it is compared, so a byte
+//! that should stay untouched is seen. Each test counts the codes it met, so that no refusal goes
+//! untried.
+
+use cases::Rng;
+use chordvenus::{sys, Answer, Plan};
+use reference::{
+    slow, Numbers, Outcome, MOST_LINE, MOST_PORTS, MOST_QUICK, MOST_RECORDS, RECORD_SIZE, WISH_SIZE,
+};
+
+/// Cases for each call.
+const CASES: usize = 20_000;
+/// How often each code of a call is met at least in them.
+const ENOUGH: usize = 20;
+
+fn expected(outcome: Outcome) -> Answer {
+    let Numbers { code, place, side, counts } = outcome.into();
+    let reference::Counts { records, longest, total, length } = counts;
+    Answer { code, place, side, records, longest, total, length }
+}
+
+/// The codes met.
+#[derive(Default)]
+struct Met([usize; 14]);
+
+impl Met {
+    fn note(&mut self, answer: Answer) {
+        self.0[answer.code as usize] += 1;
+    }
+
+    /// Each of these codes was met often enough, and no other.
+    fn are(&self, codes: &[usize]) {
+        for (code, &times) in self.0.iter().enumerate() {
+            let enough = if codes.contains(&code) { times >= ENOUGH } else { times == 0 };
+            assert!(enough, "code {code} was met {times} times, of {codes:?}");
+        }
+    }
+}
+
+/// Memory of random content, of which the middle is lent.
+#[derive(Clone, PartialEq)]
+struct Lent<T> {
+    whole: Vec<T>,
+    start: usize,
+    len: usize,
+}
+
+impl<T> Lent<T> {
+    fn new(rng: &mut Rng, len: usize, mut any: impl FnMut(&mut Rng) -> T) -> Lent<T> {
+        let (start, behind) = (rng.between(1, 16), rng.between(1, 16));
+        let whole = (0..start + len + behind).map(|_| any(rng)).collect();
+        Lent { whole, start, len }
+    }
+
+    fn bytes(rng: &mut Rng, len: usize) -> Lent<u8> {
+        Lent::new(rng, len, |rng| rng.draw() as u8)
+    }
+
+    fn middle(&mut self) -> &mut [T] {
+        &mut self.whole[self.start..self.start + self.len]
+    }
+}
+
+/// N, cells and a planner's faults: out of range, of the wrong number, over a line's limit.
+fn demand(rng: &mut Rng, most_line: usize) -> (u64, Vec<u32>) {
+    let n = cases::ports(rng);
+    let mut cells = cases::demand(rng, n, most_line);
+    if rng.one_in(8) {
+        cases::overload(rng, &mut cells);
+    }
+    if rng.one_in(12) {
+        cells.resize(cases::wrong_size(rng, n), 1);
+    }
+    let n = if rng.one_in(16) { cases::wild_ports(rng, n) } else { n as u64 };
+    (n, cells)
+}
+
+/// A length in bytes for a plan of so many records: just enough, too little, or more.
+fn room(rng: &mut Rng, records: usize) -> usize {
+    let bytes = records * RECORD_SIZE;
+    match rng.below(6) {
+        0 => bytes,
+        1 => bytes + rng.below(RECORD_SIZE),
+        2 => bytes.saturating_sub(1),
+        3 => rng.below(bytes + 1),
+        4 => bytes.saturating_sub(RECORD_SIZE) + rng.below(RECORD_SIZE),
+        _ => bytes + rng.below(4 * RECORD_SIZE),
+    }
+}
+
+/// A plan for N, perhaps spoiled, torn or far too long.
+fn plan(rng: &mut Rng, n: usize) -> Vec<u8> {
+    let records = if rng.one_in(8) { rng.between(0, 40) } else { rng.between(0, 5) };
+    let plan = if rng.one_in(150) { longest_plan(rng, n) } else { cases::plan(rng, n, records) };
+    spoiled(rng, n, plan)
+}
+
+/// A plan of 8,192 records or one more.
+fn longest_plan(rng: &mut Rng, n: usize) -> Vec<u8> {
+    let records = MOST_RECORDS + rng.below(2);
+    cases::plan(rng, n, 1).repeat(records)
+}
+
+fn spoiled(rng: &mut Rng, n: usize, mut plan: Vec<u8>) -> Vec<u8> {
+    if rng.one_in(3) {
+        for _ in 0..rng.between(1, 2) {
+            cases::spoil_plan(rng, n, &mut plan);
+        }
+    }
+    if rng.one_in(10) {
+        cases::tear(rng, RECORD_SIZE, &mut plan);
+    }
+    plan
+}
+
+fn maybe_wild(rng: &mut Rng, n: usize) -> u64 {
+    match rng.below(12) {
+        0 => cases::wild_ports(rng, n),
+        1 => rng.between(1, MOST_PORTS) as u64,
+        _ => n as u64,
+    }
+}
+
+type Planner = fn(u64, &[u32], &mut [u8]) -> Outcome;
+type Proved = fn(u64, &[u32], &mut [u8]) -> Answer;
+
+fn compare_planner(seed: u64, proved: Proved, planner: Planner, most_line: usize, codes: &[usize]) {
+    let mut rng = Rng::new(seed);
+    let mut met = Met::default();
+    let mut ample = vec![0; 4_096 * RECORD_SIZE];
+    for case in 0..CASES {
+        let over = if rng.one_in(8) { MOST_LINE as usize } else { most_line };
+        let line = rng.pick(&[3, 17, 300, over, over]);
+        let (n, cells) = demand(&mut rng, line);
+        let records = planner(n, &cells, &mut ample).map_or(3, |counts| counts.records as usize);
+        let len = room(&mut rng, records);
+        let mut lent = Lent::<u8>::bytes(&mut rng, len);
+        let (mut wanted, before) = (lent.clone(), cells.clone());
+        let answer = proved(n, &cells, lent.middle());
+        let said = format!("case {case}: N = {n}, {len} bytes, cells {cells:?}");
+        assert_eq!(answer, expected(planner(n, &cells, wanted.middle())), "{said}");
+        assert!(lent == wanted, "other bytes, {said}");
+        assert!(cells == before, "the demand has changed, {said}");
+        met.note(answer);
+    }
+    met.are(codes);
+}
+
+#[test]
+fn exact() {
+    compare_planner(1, chordvenus::exact, reference::exact, MOST_LINE as usize, &[0, 1, 2, 3, 5]);
+}
+
+#[test]
+fn doubled() {
+    compare_planner(2, chordvenus::doubled, reference::doubled, MOST_LINE as usize, &[0, 1, 2, 3, 5]);
+}
+
+#[test]
+fn quick() {
+    compare_planner(3, chordvenus::quick, reference::quick, MOST_QUICK as usize, &[0, 1, 2, 3, 4, 5]);
+}
+
+#[test]
+fn check() {
+    let mut rng = Rng::new(4);
+    let mut met = Met::default();
+    let mut ample = vec![0; 4_096 * RECORD_SIZE];
+    for case in 0..CASES {
+        let line = rng.pick(&[3, 17, 300, MOST_LINE as usize]);
+        let (n, mut cells) = demand(&mut rng, line);
+        let planner = rng.pick(&[reference::exact as Planner, reference::doubled, reference::quick]);
+        let small = n.clamp(1, MOST_PORTS as u64) as usize;
+        let plan = match planner(n, &cells, &mut ample) {
+            _ if rng.one_in(200) => longest_plan(&mut rng, small),
+            Ok(counts) if !rng.one_in(5) => {
+                let mut plan = ample[..counts.records as usize * RECORD_SIZE].to_vec();
+                if rng.one_in(4) && !plan.is_empty() {
+                    plan.truncate(rng.below(counts.records as usize) * RECORD_SIZE);
+                }
+                spoiled(&mut rng, small, plan)
+            }
+            _ => plan(&mut rng, small),
+        };
+        if rng.one_in(6) && !cells.is_empty() {
+            let cell = rng.below(cells.len());
+            cells[cell] = cells[cell].saturating_add(1);
+        }
+        let (cells_before, plan_before) = (cells.clone(), plan.clone());
+        let answer = chordvenus::check(n, &cells, &plan);
+        assert_eq!(
+            answer,
+            expected(reference::check(n, &cells, &plan)),
+            "case {case}: N = {n}, {cells:?}, {plan:?}"
+        );
+        assert!(cells == cells_before && plan == plan_before, "case {case} was written to");
+        met.note(answer);
+    }
+    met.are(&[0, 1, 2, 3, 9, 10, 11, 13]);
+}
+
+#[test]
+fn length() {
+    let mut rng = Rng::new(5);
+    let mut met = Met::default();
+    for case in 0..CASES {
+        let ports = cases::ports(&mut rng);
+        let (plan, n) = (plan(&mut rng, ports), maybe_wild(&mut rng, ports));
+        let d = rng.pick(&[0, 1, 2, 255, 256, 65_535, case as u16]);
+        let before = plan.clone();
+        let answer = chordvenus::length(n, &plan, d);
+        assert_eq!(
+            answer,
+            expected(reference::length(n, &plan, d)),
+            "case {case}: N = {n}, d = {d}, {plan:?}"
+        );
+        assert!(plan == before, "case {case} was written to");
+        met.note(answer);
+    }
+    met.are(&[0, 1, 9, 10, 11]);
+}
+
+#[test]
+fn write() {
+    let mut rng = Rng::new(6);
+    let mut met = Met::default();
+    for case in 0..2 * CASES {
+        let ports = rng.between(1, MOST_PORTS);
+        let hold = if rng.one_in(8) { 0 } else { cases::hold(&mut rng) };
+        let mut outputs = cases::setting(&mut rng, ports);
+        if rng.one_in(3) {
+            cases::spoil_outputs(&mut rng, ports, &mut outputs);
+        }
+        let n = maybe_wild(&mut rng, ports);
+        let len = rng.pick(&[0, 1, 67, 68, 68, 68, 69, 70, 136, 140]);
+        let mut lent = Lent::<u8>::bytes(&mut rng, len);
+        let mut wanted = lent.clone();
+        let answer = chordvenus::write(hold, n, &outputs, lent.middle());
+        let said = format!("case {case}: hold {hold}, N = {n}, {len} bytes, {outputs:?}");
+        assert_eq!(answer, expected(reference::write(hold, n, &outputs, wanted.middle())), "{said}");
+        assert!(lent == wanted, "other bytes, {said}");
+        met.note(answer);
+    }
+    met.are(&[0, 1, 5, 11]);
+}
+
+#[test]
+fn open() {
+    let mut rng = Rng::new(7);
+    let mut met = Met::default();
+    for case in 0..CASES {
+        let ports = cases::ports(&mut rng);
+        let (plan, n) = (plan(&mut rng, ports), maybe_wild(&mut rng, ports));
+        let answer = chordvenus::open(n, &plan);
+        assert_eq!(answer, expected(reference::open(n, &plan)), "case {case}: N = {n}, {} bytes", plan.len());
+        met.note(answer);
+    }
+    met.are(&[0, 1, 9, 10]);
+}
+
+/// A step of the reference with every field of the C struct.
+fn raw(step: reference::Step) -> sys::RawStep {
+    let idle = sys::RawStep { kind: 1, place: 0, hold: 0, outputs: [chordvenus::IDLE; 64] };
+    match step {
+        reference::Step::End => idle,
+        reference::Step::Malformed(place) => sys::RawStep { kind: 2, place, ..idle },
+        reference::Step::Record(record) => {
+            sys::RawStep { kind: 0, place: 0, hold: u64::from(record.hold), outputs: record.outputs }
+        }
+    }
+}
+
+#[test]
+fn step_at() {
+    let mut rng = Rng::new(8);
+    let mut met = [0; 3];
+    for case in 0..2 * CASES {
+        let ports = cases::ports(&mut rng);
+        let (plan, n) = (plan(&mut rng, ports), maybe_wild(&mut rng, ports));
+        let records = (plan.len() / RECORD_SIZE) as u64;
+        // Far places, some of which would lie in the plan if the place in bytes wrapped.
+        let far = [records, records + 1, 8_192, u64::MAX, u64::MAX / 68 + 1, 1 << 62, 1 << 32, 1 << 16];
+        let at = if rng.one_in(4) { rng.pick(&far) } else { rng.below(records as usize + 1) as u64 };
+        let step = unsafe { sys::cv_step_at(n, plan.as_ptr(), plan.len(), at) };
+        assert_eq!(step, raw(reference::step_at(n, &plan, at)), "case {case}: N = {n}, at {at}, {plan:?}");
+        met[step.kind as usize] += 1;
+    }
+    assert!(met.iter().all(|&times| times >= CASES / 10), "kinds met: {met:?}");
+}
+
+#[test]
+fn reading_a_plan_through() {
+    let mut rng = Rng::new(9);
+    for case in 0..CASES / 4 {
+        let ports = cases::ports(&mut rng);
+        let (plan, n) = (plan(&mut rng, ports), maybe_wild(&mut rng, ports));
+        let (opened, mut reader) = reference::Reader::open(n, &plan);
+        let Ok(records) = Plan::open(n, &plan) else {
+            assert!(opened.is_err(), "case {case}");
+            continue;
+        };
+        for record in records {
+            match (record, reader.step()) {
+                (Ok(record), reference::Step::Record(wanted)) => {
+                    assert_eq!((record.hold, record.outputs), (wanted.hold, wanted.outputs), "case {case}");
+                }
+                (Err(refused), reference::Step::Malformed(place)) => {
+                    assert_eq!((refused.0.code, refused.0.place), (11, place), "case {case}");
+                }
+                (record, wanted) => panic!("case {case}: {record:?} in the place of {wanted:?}"),
+            }
+        }
+        assert!(!matches!(reader.step(), reference::Step::Record(_)), "case {case} ended early");
+    }
+}
+
+#[test]
+fn wishes() {
+    let mut rng = Rng::new(10);
+    let mut met = Met::default();
+    for case in 0..CASES {
+        let ports = cases::ports(&mut rng);
+        let mut list = cases::wish_list(&mut rng, ports);
+        if rng.one_in(2) {
+            for _ in 0..rng.between(1, 3) {
+                cases::spoil_list(&mut rng, ports, &mut list);
+            }
+        }
+        if rng.one_in(12) {
+            cases::tear(&mut rng, WISH_SIZE, &mut list);
+        }
+        let n = maybe_wild(&mut rng, ports);
+        let len = if rng.one_in(12) { cases::wrong_size(&mut rng, ports) } else { ports * ports };
+        let mut lent = Lent::new(&mut rng, len, |rng| rng.draw() as u32);
+        let (mut wanted, before) = (lent.clone(), list.clone());
+        let answer = chordvenus::wishes(n, &list, lent.middle());
+        let said = format!("case {case}: N = {n}, {len} cells, {list:?}");
+        assert_eq!(answer, expected(reference::wishes(n, &list, wanted.middle())), "{said}");
+        assert!(lent == wanted, "other cells, {said}");
+        assert!(list == before, "the list has changed, {said}");
+        met.note(answer);
+    }
+    met.are(&[0, 1, 2, 6, 7, 8, 9, 11, 12]);
+}
+
+#[test]
+fn wish() {
+    let mut rng = Rng::new(11);
+    let mut met = Met::default();
+    for case in 0..10 * CASES {
+        let bits = if case % 2 == 0 { cases::wish_bits(&mut rng) } else { cases::wild_bits(&mut rng) };
+        let answer = chordvenus::wish(bits);
+        assert_eq!(answer, expected(reference::wish(bits)), "{bits:08x}");
+        met.note(answer);
+    }
+    met.are(&[0, 6, 7, 8]);
+}
+
+#[test]
+#[ignore = "every one of the 2^32 patterns: a minute"]
+fn wishes_of_every_pattern() {
+    for bits in 0..=u32::MAX {
+        let answer = chordvenus::wish(bits);
+        let (code, total) = slow::wish(bits).map_or_else(|code| (code, 0), |slots| (0, slots));
+        assert_eq!(answer, Answer { code, total, ..Answer::default() }, "{bits:08x}");
+    }
+}
+
+#[test]
+fn a_length_of_0_may_come_with_a_null_pointer() {
+    use std::ptr::{null, null_mut};
+    let mut plan = [7; RECORD_SIZE];
+    let outputs = [chordvenus::IDLE; MOST_PORTS];
+    let code = |code, place| Answer { code, place, ..Answer::default() };
+    unsafe {
+        assert_eq!(sys::cv_exact(0, null(), 0, null_mut(), 0), code(1, 0));
+        assert_eq!(sys::cv_doubled(2, null(), 0, plan.as_mut_ptr(), 68), code(2, 4));
+        assert_eq!(sys::cv_quick(1, [1].as_ptr(), 1, null_mut(), 0), code(5, 1));
+        assert_eq!(sys::cv_exact(1, [0].as_ptr(), 1, null_mut(), 0), code(0, 0));
+        assert_eq!(sys::cv_check(1, [1].as_ptr(), 1, null(), 0), code(13, 0));
+        assert_eq!(sys::cv_length(1, null(), 0, 9), code(0, 0));
+        assert_eq!(sys::cv_open(1, null(), 0), code(0, 0));
+        assert_eq!(sys::cv_step_at(1, null(), 0, 0), raw(reference::Step::End));
+        assert_eq!(sys::cv_write(1, 1, outputs.as_ptr(), null_mut(), 0), code(5, 1));
+        assert_eq!(sys::cv_wishes(1, null(), 0, null_mut(), 0), code(2, 1));
+        let mut cell = 7;
+        assert_eq!(sys::cv_wishes(1, null(), 0, &mut cell, 1), code(0, 0));
+        assert_eq!(cell, 0);
+    }
+    assert_eq!(plan, [7; RECORD_SIZE]);
+}

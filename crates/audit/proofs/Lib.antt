@@ -1,0 +1,9 @@
+pub mod Reading
+pub mod Pass
+pub mod Grant
+pub mod Cover
+pub mod Check
+pub mod Length
+pub mod Passes
+pub mod Planners
+pub mod Written

@@ -1,0 +1,102 @@
+-- One pass over a plan: as long as every record is well formed, the scan for the first that is not stands where the pass stands, and the sum
+-- of the holds is that of the records passed.
+use mathlib.Core.Path.{_≡_, refl, sym, ap, _∙_}
+use mathlib.Core.Bool.{Bool, true, false, not}
+use mathlib.Core.List.{List, [], _∷_, _++_}
+use Prim.Native.Nat.{ℕ, zero, suc, _+_, _*_, _-_, _<_, _≤_}
+use native.Mathlib.Nat.{add-zero, suc-add, add-suc}
+use native.Mathlib.Numerals.{add-one}
+use native.Mathlib.Omega.{arith}
+use lib.ListN.{length}
+use borrow.Author.Tests.{not-true, not-false}
+use Rattle.counting.specs.Count.{δ}
+use Rattle.switch.specs.Plan.{Record, output, grant, total}
+use Rattle.rules.proofs.Doubled.{total-append, grant-append}
+use Rattle.plans.specs.declared.Edition.{Edition}
+use Rattle.records.specs.Record.{hold, decoded, wellFormed}
+use Rattle.records.specs.Bytes.{recordAt, whole, planFrom}
+use Rattle.plans.specs.Read.{malformed}
+use Rattle.records.proofs.Part.{whole-fits, record-fits, record-size}
+use Rattle.plans.proofs.Read.{scan-stop, scan-more, scan-end}
+use Rattle.audit.specs.Reading.{Readable, Passed}
+
+-- ---- one record more
+
+module _ (W : ℕ) (plan : List ℕ) where
+  plan-append : (a m : ℕ) → planFrom W plan a (suc m) ≡ planFrom W plan a m ++ decoded (recordAt W plan (a + m)) ∷ []
+  unfolding planFrom
+  plan-append a zero = ap (λ (k : ℕ). decoded (recordAt W plan k) ∷ []) (sym (add-zero a))
+  plan-append a (suc m) =
+      ap (λ (p : List Record). decoded (recordAt W plan a) ∷ p) (plan-append (suc a) m
+      ∙ ap (λ (k : ℕ). planFrom W plan (suc a) m ++ decoded (recordAt W plan k) ∷ []) (suc-add a m ∙ sym (add-suc a m)))
+
+  pub plan-next : (k : ℕ) → planFrom W plan 0 (k + 1) ≡ planFrom W plan 0 k ++ decoded (recordAt W plan k) ∷ []
+  plan-next k = rw add-one (plan-append 0 k ∙ ap (λ (i : ℕ). planFrom W plan 0 k ++ decoded (recordAt W plan i) ∷ []) (let e : 0 + k ≡ k = omega arith in e))
+
+  pub length-plan : (k m : ℕ) → length (planFrom W plan k m) ≡ m
+  unfolding planFrom
+  length-plan k zero = refl
+  length-plan k (suc m) = ap suc (length-plan (suc k) m)
+
+pub total-next : (p : List Record) (r : Record) → total (p ++ r ∷ []) ≡ total p + r .hold
+unfolding total
+total-next p r = omega (arith, total-append p (r ∷ []))
+
+pub grant-next : (p : List Record) (r : Record) (i j : ℕ) → grant (p ++ r ∷ []) i j ≡ r .hold * δ (output r i) j + grant p i j
+unfolding grant
+grant-next p r i j = omega (arith, grant-append p (r ∷ []) i j)
+
+-- ---- the pass
+
+-- the pass stands at record k of m, all before it well formed, with the sum t of their holds
+pub record Through (E : Edition) (N : ℕ) (plan : List ℕ) (m k t : ℕ) : Type 0 where
+  pub inside : k ≤ m
+  pub scan : malformed (E .width) (E .byte) N plan m 0 ≡ malformed (E .width) (E .byte) N plan (m - k) k
+  pub holds : t ≡ total (planFrom (E .width) plan 0 k)
+  pub small : t ≤ 65535 * k
+
+module _ (E : Edition) (N : ℕ) (plan : List ℕ) (m : ℕ) where
+  pub through-none : Through E N plan m 0 0
+  unfolding planFrom total
+  through-none = record {
+    inside = omega arith;
+    scan = ap (λ (i : ℕ). malformed (E .width) (E .byte) N plan i 0) (let e : m ≡ m - 0 = omega arith in e);
+    holds = refl;
+    small = omega arith;
+  }
+
+  module _ (r : Readable E N plan m) where
+    pub pass-end : (k t : ℕ) → m ≤ k → Through E N plan m k t → Passed E N plan m t
+    pass-end k t l th =
+        let e : k ≡ m = omega (arith, th .inside) in record {
+          inside = omega (arith, r .records);
+          records = sym (ap (λ (i : ℕ). malformed (E .width) (E .byte) N plan i 0) (sym (r .records)) ∙ th .scan ∙ scan-end (E .width) (E .byte) N plan m k l ∙ e);
+          holds = th .holds ∙ ap (λ (i : ℕ). total (planFrom (E .width) plan 0 i)) e;
+        }
+
+    -- record k, as the pass reads it
+    module _ (k t : ℕ) (l : k < m) (b : List ℕ) (is : b ≡ recordAt (E .width) plan k) where
+      pub read-inside : k < whole (E .width) plan
+      read-inside = omega (arith, r .records)
+
+      pub read-size : length b ≡ E .width + 4
+      read-size = ap length is ∙ record-size (E .width) plan k (record-fits (E .width) plan k (whole (E .width) plan) read-inside (whole-fits (E .width) plan))
+
+      same : wellFormed (length b - 4) (E .byte) N b ≡ wellFormed (E .width) (E .byte) N (recordAt (E .width) plan k)
+      same = ap (λ (w : ℕ). wellFormed w (E .byte) N b) (let e : length b - 4 ≡ E .width = omega (arith, read-size) in e) ∙ ap (wellFormed (E .width) (E .byte) N) is
+
+      module _ (th : Through E N plan m k t) (fine : Bool) (found : fine ≡ wellFormed (length b - 4) (E .byte) N b) where
+        pub pass-stop : not fine ≡ true → Passed E N plan k t
+        pass-stop n = record {
+          inside = omega (arith, r .records);
+          records = sym (ap (λ (i : ℕ). malformed (E .width) (E .byte) N plan i 0) (sym (r .records)) ∙ th .scan ∙ scan-stop (E .width) (E .byte) N plan m k l (sym same ∙ sym found ∙ not-true fine n));
+          holds = th .holds;
+        }
+
+        pub pass-more : not fine ≡ false → (h : ℕ) → h ≡ hold b → h ≤ 65535 → Through E N plan m (k + 1) (t + h)
+        pass-more n h e s = record {
+          inside = omega arith;
+          scan = th .scan ∙ scan-more (E .width) (E .byte) N plan m k l (sym same ∙ sym found ∙ not-false fine n);
+          holds = omega (arith, th .holds, ap hold is, ap total (plan-next (E .width) plan k), total-next (planFrom (E .width) plan 0 k) (decoded (recordAt (E .width) plan k)));
+          small = omega (arith, th .small);
+        }

@@ -1,0 +1,70 @@
+-- Each return is the case of the definition whose tests led there; a pass that came to the end has granted what the plan grants.
+use mathlib.Core.Path.{sym, _∙_}
+use native.Mathlib.Omega.{arith}
+use Rattle.plans.proofs.Read.{opened-records}
+use Rattle.audit.proofs.Reading.{reading-refused, reading-malformed, readable}
+use Rattle.audit.proofs.Check.{check-uncovered, check-covered}
+use borrow.Author.Needs.{needs}
+use Rattle.audit.proofs.check_records.Statement.{statement}
+use Rattle.audit.proofs.check_records.Tie as tie
+
+open-requires : tie.Need-open-requires
+open-requires c κs = search needs
+
+enum-known-opened : tie.Need-enum-known-opened
+enum-known-opened c = search needs
+
+enum-told : tie.Need-enum-told
+enum-told c = search needs
+
+returns : tie.Need-returns
+returns c = c .enum-told .given .1 ∙ reading-refused _ _ _ _ (sym (c .enum-told .given .1) ∙ c .before .before .«open» .ensures)
+
+grant-plan-requires : tie.Need-grant-plan-requires
+grant-plan-requires c κs = (readable _ _ _ _ (c .before .before .before .before .before .before .before .before .pre .0) (sym (c .before .before .opened .given .1) ∙ c .before .before .before .before .«open» .ensures), record { room = omega (arith, c .before .before .before .before .before .before .before .before .pre .1, c .before .before .before .before .before .before .before .before .pre .2 .room); clear = c .before .before .before .before .before .before .before .before .pre .2 .clear })
+
+same-length : tie.Need-same-length
+same-length c = search needs
+
+returns-2 : tie.Need-returns-2
+returns-2 c =
+    let o = sym (c .before .before .before .before .before .before .before .opened .given .1) ∙ c .before .before .before .before .before .before .before .before .before .«open» .ensures in
+    reading-malformed _ _ _ _ o _ (c .before .before .before .before .grant-plan .ensures .0 .records) (omega (arith, opened-records _ _ _ _ o))
+
+first-uncovered-requires : tie.Need-first-uncovered-requires
+first-uncovered-requires c κs = search needs
+
+same-length-2 : tie.Need-same-length-2
+same-length-2 c = search needs
+
+returns-3 : tie.Need-returns-3
+returns-3 c =
+    let o = sym (c .before .before .before .before .before .before .before .before .before .before .opened .given .1) ∙ c .before .before .before .before .before .before .before .before .before .before .before .before .«open» .ensures in
+    let p = c .before .before .before .before .before .before .before .grant-plan .ensures in
+    check-uncovered _ _ _ _ _ _ _ o _ _ (p .0) (omega (arith, c .before .before .before .if1 .left, opened-records _ _ _ _ o)) (p .1) _ (c .before .first-uncovered .ensures) (omega (arith, c .before .before .before .before .before .before .before .before .before .before .before .before .before .before .before .before .pre .1))
+
+same-length-3 : tie.Need-same-length-3
+same-length-3 c = search needs
+
+returns-4 : tie.Need-returns-4
+returns-4 c =
+    let o = sym (c .before .before .before .before .before .before .before .before .before .before .opened .given .1) ∙ c .before .before .before .before .before .before .before .before .before .before .before .before .«open» .ensures in
+    let p = c .before .before .before .before .before .before .before .grant-plan .ensures in
+    check-covered _ _ _ _ _ _ _ o _ _ (p .0) (omega (arith, c .before .before .before .if1 .left, opened-records _ _ _ _ o)) (p .1) _ (c .before .first-uncovered .ensures) (omega (arith, c .before .before .before .before .before .before .before .before .before .before .before .before .before .before .before .before .pre .1)) _ (opened-records _ _ _ _ o)
+
+pub check-records-spec : {M : Type 1} → statement M
+check-records-spec =
+    tie.close
+    (tie.spec
+    open-requires
+    enum-known-opened
+    enum-told
+    returns
+    grant-plan-requires
+    same-length
+    returns-2
+    first-uncovered-requires
+    same-length-2
+    returns-3
+    same-length-3
+    returns-4)

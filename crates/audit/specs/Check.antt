@@ -1,0 +1,74 @@
+-- The checker: whether a plan from anywhere covers a demand. Definitions only.
+use mathlib.Core.Path.{_≡_}
+use mathlib.Core.Bool.{cond}
+use mathlib.Core.List.{List}
+use Prim.Native.Nat.{ℕ, _+_, _*_, _-_, _/_, _%_, _<_, _≤_}
+use lib.ListN.{length, getD}
+use lib.Dec.{ltb}
+use Rattle.counting.specs.Count.{δ}
+use Rattle.switch.specs.declared.Outcome.{Outcome}
+use Rattle.switch.specs.declared.Outcome.the-variants.{Done, Refused}
+use Rattle.switch.specs.declared.Refusal.the-variants.{Uncovered}
+use Rattle.switch.specs.Answer.{planCounts}
+use Rattle.switch.specs.Demand.{cell}
+use Rattle.switch.specs.Plan.{Record, output, grant, total}
+use Rattle.demand.specs.declared.Checked.{Checked}
+use Rattle.demand.specs.declared.Checked.the-variants.{Fine, Faulty}
+use Rattle.demand.specs.Lines.{over}
+use Rattle.demand.specs.Check.{checkDemand}
+use Rattle.plans.specs.declared.Edition.{Edition}
+use Rattle.audit.specs.Reading.{reading}
+
+-- the slots of cell k that M asks and G does not grant
+unfoldable pub missing : ℕ → (ℕ → ℕ → ℕ) → (ℕ → ℕ → ℕ) → ℕ → ℕ
+missing N M G k = M (k / N) (k % N) - G (k / N) (k % N)
+
+-- the first cell, in cell order, that is granted less than asked; N² where there is none
+unfoldable pub uncovered : ℕ → (ℕ → ℕ → ℕ) → (ℕ → ℕ → ℕ) → ℕ
+uncovered N M G = over 0 (missing N M G) (N * N) 0
+
+-- the same in plain statements: cell k is granted less than asked, and no cell before it
+pub record Short (N : ℕ) (M G : ℕ → ℕ → ℕ) (k : ℕ) : Type 0 where
+  pub inside : k < N * N
+  pub here : G (k / N) (k % N) < M (k / N) (k % N)
+  pub before : (j : ℕ) → j < k → M (j / N) (j % N) ≤ G (j / N) (j % N)
+
+-- code 13: some pair not covered; else records, T and total
+unfoldable pub covering : ℕ → ℕ → List ℕ → List Record → Outcome
+covering T N d p =
+    cond (ltb (uncovered N (cell N d) (grant p)) (N * N))
+    (Refused (Uncovered (uncovered N (cell N d) (grant p))))
+    (Done (planCounts (length p) T (total p)))
+
+-- a demand that is refused by itself, and else what is done with its longest line
+abbrev pub afterDemand : Checked → (ℕ → Outcome) → Outcome
+afterDemand (Fine T) go = go T
+afterDemand (Faulty r) go = Refused r
+
+-- checker 1, 2, 3, 9, 10, 11, 13
+unfoldable pub checkPlan : Edition → ℕ → List ℕ → List ℕ → Outcome
+checkPlan E N d plan = afterDemand (checkDemand (E .ports) N d) (λ T. reading E N plan (covering T N d))
+
+-- ---- what the code is told of the grants
+
+-- room for m grants, all 0
+pub record Blank (m : ℕ) (g : List ℕ) : Type 0 where
+  pub room : m ≤ length g
+  pub clear : (k : ℕ) → getD g k 0 ≡ 0
+
+-- g holds what the records p grant
+pub record Grants (N : ℕ) (p : List Record) (g : List ℕ) : Type 0 where
+  pub room : N * N ≤ length g
+  pub is : (i j : ℕ) → i < N → j < N → cell N g i j ≡ grant p i j
+
+-- a record with N outputs, a hold, and grants that do not wrap where the hold is added
+pub record Granting (N : ℕ) (b : List ℕ) (h : ℕ) (g : List ℕ) : Type 0 where
+  pub few : N ≤ 128
+  pub size : N + 4 ≤ length b
+  pub room : N * N ≤ length g
+  pub small : (i j : ℕ) → i < N → j < N → cell N g i j + h < 4294967296
+
+-- each pair that record r joins is granted h more
+pub record Granted (N h : ℕ) (r : Record) (before after : List ℕ) : Type 0 where
+  pub size : length after ≡ length before
+  pub more : (i j : ℕ) → i < N → j < N → cell N after i j ≡ h * δ (output r i) j + cell N before i j

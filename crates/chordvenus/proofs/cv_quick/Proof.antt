@@ -1,0 +1,21 @@
+-- The call's own answer, flattened, and what it leaves in the lent memory.
+use mathlib.Core.Path.{ap, _∙_}
+use Rattle.chordvenus.specs.Flat.{flat}
+use borrow.Author.Needs.{needs}
+use Rattle.chordvenus.proofs.cv_quick.Statement.{statement}
+use Rattle.chordvenus.proofs.cv_quick.Tie as tie
+
+quick-plan-requires : tie.Need-quick-plan-requires
+quick-plan-requires c κs = search needs
+
+flatten-requires : tie.Need-flatten-requires
+flatten-requires c κs = search needs
+
+same-length : tie.Need-same-length
+same-length c = search needs
+
+returns : tie.Need-returns
+returns c = (c .flatten .ensures ∙ ap flat (c .before .before .before .quick-plan .ensures .0), c .before .before .before .quick-plan .ensures .1)
+
+pub cv-quick-spec : {M : Type 1} → statement M
+cv-quick-spec = tie.close (tie.spec quick-plan-requires flatten-requires same-length returns)

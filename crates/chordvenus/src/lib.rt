@@ -1,0 +1,158 @@
+// The edge: every public call as a C function, for callers that are not written in Rattle. Each function calls one public function and
+// flattens its answer to the numbers of document 01; include/chordvenus.h says what each call does. No thinking stands here: what a
+// call promises is its own crate's matter, and every field of an answer is given by that promise.
+use plans::Step;
+use switch::Outcome;
+ghost use mathlib.Core.Path.{_≡_};
+ghost use lib.ListN.{length};
+ghost use Rattle.wish.specs.Wish.{wishBits};
+ghost use Rattle.wishes.specs.Wishes.{outcome, cellsAfter};
+ghost use Rattle.rules.specs.Exact.{exactPlan};
+ghost use Rattle.rules.specs.Quick.{quickPlan};
+ghost use Rattle.planner.specs.Planned.{planned, plannedUpTo};
+ghost use Rattle.records.specs.Write.{written};
+ghost use Rattle.plans.specs.Read.{firstEdition, opening, stepAt};
+ghost use Rattle.audit.specs.Check.{checkPlan};
+ghost use Rattle.audit.specs.Length.{planLength};
+ghost use Rattle.chordvenus.specs.Flat.{flat, flatStep, flatWish};
+
+// What every call answers; what does not apply is 0.
+#[repr(C)]
+pub struct CvAnswer {
+    pub code: u64,
+    pub place: u64,
+    pub side: u64,
+    pub records: u64,
+    pub longest: u64,
+    pub total: u64,
+    pub length: u64,
+}
+
+// One step of reading a plan: kind 0 is a record, 1 the end, 2 code 11.
+#[repr(C)]
+pub struct CvStep {
+    pub kind: u64,
+    pub place: u64,
+    pub hold: u64,
+    pub outputs: [u8; 64],
+}
+
+// One wish: its code, and its slots as total.
+#[no_mangle]
+pub extern "C" fn cv_wish(bits: u32) -> CvAnswer
+    ensures { λ r. ⌜ r ≡ flatWish (wishBits bits) ⌝ }
+{
+    let asked = wish::of_bits(bits);
+    CvAnswer {
+        code: wish::code_of(asked) as u64,
+        place: 0,
+        side: 0,
+        records: 0,
+        longest: 0,
+        total: wish::slots_of(asked) as u64,
+        length: 0,
+    }
+}
+
+// A wish list to a demand.
+#[no_mangle]
+pub extern "C" fn cv_wishes(n: usize, list: &[u8], cells: &mut [u32]) -> CvAnswer
+    ensures { λ r. ⌜ (r ≡ flat (outcome 64 n (now (list .entry)) (length (now (cells .entry))))) × (now (cells .exit) ≡ cellsAfter 64 n (now (list .entry)) (now (cells .entry))) ⌝ }
+{
+    flatten(wishes::wishes(n, list, cells))
+}
+
+// The exact plan.
+#[no_mangle]
+pub extern "C" fn cv_exact(n: usize, cells: &[u32], plan: &mut [u8]) -> CvAnswer
+    ensures { λ r. ⌜ (r ≡ flat (planned 64 0 n (now (cells .entry)) (exactPlan 64 n (now (cells .entry))) (now (plan .entry)) .outcome)) × (now (plan .exit) ≡ planned 64 0 n (now (cells .entry)) (exactPlan 64 n (now (cells .entry))) (now (plan .entry)) .bytes) ⌝ }
+{
+    flatten(exact::exact_plan(n, cells, plan))
+}
+
+// The quick cover.
+#[no_mangle]
+pub extern "C" fn cv_quick(n: usize, cells: &[u32], plan: &mut [u8]) -> CvAnswer
+    ensures { λ r. ⌜ (r ≡ flat (plannedUpTo 1024 64 0 n (now (cells .entry)) (quickPlan 64 n (now (cells .entry))) (now (plan .entry)) .outcome)) × (now (plan .exit) ≡ plannedUpTo 1024 64 0 n (now (cells .entry)) (quickPlan 64 n (now (cells .entry))) (now (plan .entry)) .bytes) ⌝ }
+{
+    flatten(quick::quick_plan(n, cells, plan))
+}
+
+// A plan from anywhere against a demand.
+#[no_mangle]
+pub extern "C" fn cv_check(n: usize, cells: &[u32], plan: &[u8]) -> CvAnswer
+    ensures { λ r. ⌜ r ≡ flat (checkPlan firstEdition n (now (cells .entry)) (now (plan .entry))) ⌝ }
+{
+    flatten(audit::check_plan(n, cells, plan))
+}
+
+// The length of a plan at a switching time of d slots.
+#[no_mangle]
+pub extern "C" fn cv_length(n: usize, plan: &[u8], d: u16) -> CvAnswer
+    ensures { λ r. ⌜ r ≡ flat (planLength firstEdition d n (now (plan .entry))) ⌝ }
+{
+    flatten(audit::plan_length(n, plan, d))
+}
+
+// One record written at the start of a lent buffer.
+#[no_mangle]
+pub extern "C" fn cv_write(hold: u16, n: usize, outputs: &[u8; 64], plan: &mut [u8]) -> CvAnswer
+    ensures { λ r. ⌜ (r ≡ flat (written hold n (now (outputs .entry)) (now (plan .entry)) .answer)) × (now (plan .exit) ≡ written hold n (now (outputs .entry)) (now (plan .entry)) .bytes) ⌝ }
+{
+    flatten(records::write_record(hold, n, outputs, plan))
+}
+
+// A plan opened for n.
+#[no_mangle]
+pub extern "C" fn cv_open(n: usize, plan: &[u8]) -> CvAnswer
+    ensures { λ r. ⌜ r ≡ flat (opening firstEdition n (now (plan .entry))) ⌝ }
+{
+    flatten(plans::open_plan(n, plan))
+}
+
+// The step at record `at` of a plan opened for n.
+#[no_mangle]
+pub extern "C" fn cv_step_at(n: usize, plan: &[u8], at: usize) -> CvStep
+    ensures { λ r. ⌜ r ≡ flatStep (stepAt n (now (plan .entry)) at) ⌝ }
+{
+    let stepped = plans::step_at(n, plan, at);
+    let outputs = stepped.outputs;
+    let step = stepped.step;
+    let hold = stepped.hold as u64;
+    match step {
+        Step::Record => CvStep {
+            kind: 0,
+            place: 0,
+            hold,
+            outputs,
+        },
+        Step::End => CvStep {
+            kind: 1,
+            place: 0,
+            hold,
+            outputs,
+        },
+        Step::Malformed(k) => CvStep {
+            kind: 2,
+            place: k as u64,
+            hold,
+            outputs,
+        },
+    }
+}
+
+// An outcome as document 01's numbers.
+fn flatten(o: Outcome) -> CvAnswer
+    ensures { λ r. ⌜ r ≡ flat o ⌝ }
+{
+    let counts = switch::counts_of(o);
+    CvAnswer {
+        code: switch::code_of(o),
+        place: switch::place_of(o) as u64,
+        side: switch::side_of(o),
+        records: counts.records as u64,
+        longest: counts.longest,
+        total: counts.total,
+        length: counts.length,
+    }
+}

@@ -1,0 +1,11 @@
+-- The line sums of a matrix of N × N numbers, given as a function of row and column. Definitions only.
+use Prim.Native.Nat.{ℕ}
+use Rattle.counting.specs.Sum.{sum}
+
+-- the sum of row i
+unfoldable pub row : ℕ → (ℕ → ℕ → ℕ) → ℕ → ℕ
+row N M i = sum N (λ j. M i j)
+
+-- the sum of column j
+unfoldable pub col : ℕ → (ℕ → ℕ → ℕ) → ℕ → ℕ
+col N M j = sum N (λ i. M i j)

@@ -1,0 +1,30 @@
+-- The checks that every call on a demand shares, in document 01's order. Definitions only.
+use mathlib.Core.Path.{_≡_}
+use mathlib.Core.Bool.{cond}
+use mathlib.Core.List.{List}
+use Prim.Native.Nat.{ℕ, _*_, _<_, _≤_}
+use lib.ListN.{length}
+use lib.Dec.{leb, eqb}
+use Rattle.switch.specs.declared.Refusal.the-variants.{Ports, Cells, Line}
+use Rattle.switch.specs.Demand.{cell, longest}
+use Rattle.switch.specs.Check.{portsFine}
+use Rattle.demand.specs.declared.Checked.{Checked}
+use Rattle.demand.specs.declared.Checked.the-variants.{Fine, Faulty}
+use Rattle.demand.specs.Lines.{lineOver}
+
+-- code 1: N is no number of ports; 2: cells lent are not N²; 3: a line sums over 65,535
+unfoldable pub checkDemand : ℕ → ℕ → List ℕ → Checked
+checkDemand most N d =
+    cond (portsFine most N)
+    (cond (eqb (length d) (N * N))
+    (cond (leb (longest N (cell N d)) 65535) (Fine (longest N (cell N d))) (Faulty (Line (lineOver N d))))
+    (Faulty (Cells (N * N))))
+    (Faulty Ports)
+
+-- a demand that no check refuses, and its longest line
+pub record Asked (most N T : ℕ) (d : List ℕ) : Type 0 where
+  pub some : 0 < N
+  pub few : N ≤ most
+  pub size : length d ≡ N * N
+  pub longest-is : T ≡ longest N (cell N d)
+  pub small : T ≤ 65535

@@ -1,0 +1,123 @@
+// The checks that every call on a demand shares: N (code 1), the cells lent (code 2), and the lines (code 3, with the line's side).
+// It promises each refusal exactly in document 01's case and order, and T where there is none. Cells are any 32-bit numbers, so a
+// line's sum is kept in 64 bits and cannot wrap. What a call then does with the demand is left to the crates above.
+use switch::InputPort;
+use switch::LONGEST;
+use switch::OutputPort;
+use switch::Refusal;
+use switch::Side;
+ghost use mathlib.Core.Path.{_≡_};
+ghost use Prim.Native.Nat.{ℕ, _+_, _*_, _<_, _≤_};
+ghost use lib.ListN.{length};
+ghost use Rattle.switch.specs.Demand.{cell, line, longest};
+ghost use Rattle.demand.specs.Lines.{strided, over, lineOver, Sized};
+ghost use Rattle.demand.specs.Check.{checkDemand};
+
+// What the checks of a demand find: its longest line, or why it is refused.
+pub enum Checked {
+    Fine(u64),
+    Faulty(Refusal),
+}
+
+// Codes 1, 2 and 3, in this order, for a switch of up to `most` ports; else T.
+pub fn check_demand(n: usize, most: usize, cells: &[u32]) -> Checked
+    requires { ⌜ most ≤ 128 ⌝ }
+    ensures { λ r. ⌜ r ≡ checkDemand most n (now (cells .entry)) ⌝ }
+{
+    if n == 0 {
+        return Checked::Faulty(Refusal::Ports);
+    }
+    if most < n {
+        return Checked::Faulty(Refusal::Ports);
+    }
+    let square = n * n;
+    if cells.len() != square {
+        return Checked::Faulty(Refusal::Cells(square));
+    }
+    let longest = longest_line(cells, n);
+    if LONGEST < longest {
+        return Checked::Faulty(Refusal::Line(line_over(cells, n)));
+    }
+    Checked::Fine(longest)
+}
+
+// T, the largest line sum.
+pub fn longest_line(cells: &[u32], n: usize) -> u64
+    requires { ⌜ Sized n (now cells) ⌝ }
+    ensures { λ r. ⌜ r ≡ longest n (cell n (now (cells .entry))) ⌝ }
+{
+    let mut longest: u64 = 0;
+    for k in 0..n + n {
+        let sum = line_sum(cells, n, k);
+        if longest < sum {
+            longest = sum;
+        }
+    }
+    longest
+}
+
+// The first line over 65,535, inputs before outputs, of a demand that has one.
+fn line_over(cells: &[u32], n: usize) -> Side
+    requires { ⌜ Sized n (now cells) ⌝ }
+    ensures { λ r. ⌜ r ≡ lineOver n (now (cells .entry)) ⌝ }
+{
+    let k = first_over(cells, n);
+    if k < n {
+        return Side::Input(InputPort(k));
+    }
+    Side::Output(OutputPort(k - n))
+}
+
+// The number of the first line over 65,535, or 2 n: the inputs are lines 0 to n - 1, the outputs n to 2 n - 1.
+fn first_over(cells: &[u32], n: usize) -> usize
+    requires { ⌜ Sized n (now cells) ⌝ }
+    ensures { λ r. ⌜ r ≡ over 65535 (line n (now (cells .entry))) (n + n) 0 ⌝ }
+{
+    let end = n + n;
+    for k in 0..end {
+        if LONGEST < line_sum(cells, n, k) {
+            return k;
+        }
+    }
+    end
+}
+
+// The sum of line k. It may need more than 32 bits.
+pub fn line_sum(cells: &[u32], n: usize, k: usize) -> u64
+    requires { ⌜ Sized n (now cells) × (k < n + n) ⌝ }
+    ensures { λ r. ⌜ r ≡ line n (now (cells .entry)) k ⌝ }
+{
+    if k < n {
+        return sum_of(cells, k * n, 1, n);
+    }
+    sum_of(cells, k - n, n, n)
+}
+
+// The sum of n cells from `from` on, `step` apart.
+fn sum_of(cells: &[u32], from: usize, step: usize, n: usize) -> u64
+    requires { ⌜ (n ≤ 128) × (step ≤ 128) × (from ≤ 16384) × ((b : ℕ) → b < n → from + b * step < length (now cells)) ⌝ }
+    ensures { λ r. ⌜ r ≡ strided (now (cells .entry)) from step n ⌝ }
+{
+    let mut sum: u64 = 0;
+    let mut at = from;
+    for b in 0..n {
+        sum += wide(cells[at]);
+        at += step;
+    }
+    sum
+}
+
+fn wide(x: u32) -> u64
+    ensures { λ r. ⌜ r ≡ x ⌝ }
+{
+    x as u64
+}
+
+// Where the cell of a pair stands: cell i × N + j.
+pub fn cell_at(n: usize, i: InputPort, j: OutputPort) -> usize
+    requires { ⌜ (n ≤ 128) × (i .0 < n) × (j .0 < n) ⌝ }
+    ensures { λ r. ⌜ r ≡ i .0 * n + j .0 ⌝ }
+{
+    let row = i.0 * n;
+    row + j.0
+}

@@ -1,0 +1,87 @@
+-- The demand at the start of the working copy has the demand's exact plan; and a shortage is 0 just where the plan fits.
+use mathlib.Core.Path.{_≡_, refl, sym, ap, ap₂, _∙_}
+use mathlib.Core.List.{List, [], _∷_, _++_, map}
+use Prim.Native.Nat.{ℕ, zero, suc, _+_, _*_, _/_, _≤_, _<_}
+use native.Mathlib.Omega.{arith}
+use native.Mathlib.Nat.{mul-le-mul, mul-le-mul-right, le-of-eq, div-mul-le-self, mul-one}
+use native.Mathlib.Decide.{decLt}
+use lib.ListN.{length, getD, length-append, List·getD-append}
+use lib.Arith.{digits-lt}
+use borrow.Author.Tests.{lt-ltb, le-ltb}
+use Rattle.switch.specs.Demand.{cell}
+use Rattle.switch.specs.Plan.{Record}
+use Rattle.demand.specs.Check.{Asked}
+use Rattle.rules.specs.Exact.{exactPlan}
+use Rattle.rules.specs.Doubled.{stretch}
+use Rattle.rules.proofs.Exact.{longest-cong, exact-cong}
+use Rattle.peel.specs.Standing.{Cells}
+use Rattle.exact.specs.Laying.{Place, shortage}
+
+-- ---- room
+
+pub twice-small : (n : ℕ) → 2 * n ≤ n * n + 2
+twice-small zero = omega arith
+twice-small (suc zero) = omega arith
+twice-small (suc (suc m)) =
+    let a : 2 ≤ suc (suc m) = omega arith in
+    let b : suc (suc m) ≤ suc (suc m) = omega arith in
+    omega (arith, mul-le-mul a b)
+
+pub fits-room : (room need : ℕ) → need ≤ room → 0 ≡ shortage room need
+unfolding shortage
+fits-room room need l = rw (le-ltb _ _ l)
+
+pub lacks-room : (room need : ℕ) → room < need → need ≡ shortage room need
+unfolding shortage
+lacks-room room need l = rw (lt-ltb _ _ l)
+
+pub shortage-none : (room need : ℕ) → shortage room need ≡ 0 → need ≤ room
+shortage-none room need e = go (decLt room need)
+  where
+    go : Dec (room < need) → need ≤ room
+    go (yes l) = omega (arith, lacks-room room need l)
+    go (no l) = omega arith
+
+pub shortage-some : (room need : ℕ) → (shortage room need ≡ 0 → ⊥) → (room < need) × (shortage room need ≡ need)
+shortage-some room need h = go (decLt room need)
+  where
+    go : Dec (room < need) → (room < need) × (shortage room need ≡ need)
+    go (yes l) = (l, sym (lacks-room room need l))
+    go (no l) = absurd (h (sym (fits-room room need (omega arith))))
+
+-- ---- a demand copied to the start of a longer list
+
+module _ (W N T : ℕ) (d w : List ℕ) (narrow : W ≤ 128) (a : Asked W N T d) (z : List ℕ) (copied : w ≡ d ++ z) where
+  padded : (i j : ℕ) → i < N → j < N → cell N w i j ≡ cell N d i j
+  unfolding cell
+  padded i j li lj = ap (λ (l : List ℕ). getD l (i * N + j) 0) copied
+      ∙ List·getD-append d z 0 (i * N + j) (omega (arith, a .size, digits-lt {q = i} {m = N} {r = j} {c = N} li lj))
+
+  room : N * N ≤ length w
+  room = omega (arith, a .size, length-append d z, ap length copied)
+
+  pub copied-cells : Cells N T w
+  copied-cells = record {
+    some = a .some;
+    few = omega (arith, a .few);
+    room = room;
+    longest-is = a .longest-is ∙ sym (longest-cong N (cell N w) (cell N d) padded);
+    small = a .small;
+  }
+
+  pub copied-plan : exactPlan W N w ≡ exactPlan W N d
+  copied-plan = exact-cong W N (a .some) (a .few) w d room (le-of-eq (sym (a .size))) padded
+
+  -- all holds once as long: the plan itself
+  pub place : (plan : List ℕ) → length (exactPlan W N d) ≤ length plan / (W + 4) → Place N T 1 W 0 (exactPlan W N w) plan
+  place plan l = record {
+    wide = a .few;
+    narrow = narrow;
+    fits = omega (arith, a .small);
+    room = omega (arith, ap (λ (p : List Record). length p * (W + 4)) copied-plan, div-mul-le-self (length plan) (W + 4), mul-le-mul-right (W + 4) l);
+  }
+
+pub stretch-once : (p : List Record) → map (stretch 1) p ≡ p
+unfolding stretch
+stretch-once [] = refl
+stretch-once (r ∷ p) = ap₂ _∷_ (λ i. record { hold = mul-one (r .hold) i; outputs = r .outputs }) (stretch-once p)

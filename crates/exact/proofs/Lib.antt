@@ -1,0 +1,4 @@
+pub mod Turn
+pub mod Fitting
+pub mod Outcome
+pub mod Promise

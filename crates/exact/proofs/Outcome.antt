@@ -1,0 +1,57 @@
+-- Code 5 is given just where the plan's records do not fit; else what is laid is the plan, whose total is T.
+use mathlib.Core.Path.{_≡_, sym, ap, _∙_}
+use mathlib.Core.List.{List, _++_, map}
+use Prim.Native.Nat.{ℕ, _+_, _/_, _≤_}
+use native.Mathlib.Nat.{le-of-eq}
+use lib.ListN.{length}
+use Rattle.switch.specs.declared.Refusal.the-variants.{Room}
+use Rattle.switch.specs.declared.Outcome.{Outcome}
+use Rattle.switch.specs.declared.Outcome.the-variants.{Done, Refused}
+use Rattle.switch.specs.Answer.{planCounts}
+use Rattle.switch.specs.Plan.{Record}
+use Rattle.demand.specs.declared.Checked.the-variants.{Fine}
+use Rattle.demand.specs.Check.{checkDemand, Asked}
+use Rattle.demand.proofs.Check.{fine-asked}
+use Rattle.rules.specs.Exact.{exactPlan}
+use Rattle.rules.specs.Doubled.{stretch}
+use Rattle.rules.proofs.Exact.{exact-total}
+use Rattle.records.specs.Bytes.{bytes, laid}
+use Rattle.planner.specs.Planned.{Planned, planned}
+use Rattle.planner.proofs.Planned.{planned-short, planned-done, written-outcome, written-bytes}
+use Rattle.exact.specs.Laying.{shortage}
+use Rattle.exact.proofs.Fitting.{shortage-none, shortage-some, copied-plan, stretch-once}
+
+-- what the call answers and leaves in the buffer
+pub record Answers (W e N : ℕ) (d buf : List ℕ) (r : Outcome) (after : List ℕ) : Type 0 where
+  pub outcome : r ≡ planned W e N d (exactPlan W N d) buf .outcome
+  pub bytes : after ≡ planned W e N d (exactPlan W N d) buf .bytes
+
+module _ (W e N T : ℕ) (d buf : List ℕ) (narrow : W ≤ 128) (fine : checkDemand W N d ≡ Fine T) where
+  pub asked : Asked W N T d
+  asked = fine-asked W N T d fine
+
+  answers : (x : Planned) → planned W e N d (exactPlan W N d) buf ≡ x → (r : Outcome) (after : List ℕ) → r ≡ x .outcome → after ≡ x .bytes → Answers W e N d buf r after
+  answers x q r after o b = record { outcome = o ∙ ap (λ (y : Planned). y .outcome) (sym q); bytes = b ∙ ap (λ (y : Planned). y .bytes) (sym q) }
+
+  -- a working copy w of the demand, and what its count finds
+  module _ (w z : List ℕ) (copied : w ≡ d ++ z) (need : ℕ)
+      (short : (X : ℕ) → N ≤ X → X ≤ 128 → need ≡ shortage (length buf / (W + 4)) (length (exactPlan X N w))) where
+    need-is : need ≡ shortage (length buf / (W + 4)) (length (exactPlan W N d))
+    need-is = short W (asked .few) narrow ∙ ap (λ (p : List Record). shortage (length buf / (W + 4)) (length p)) (copied-plan W N T d w narrow asked z copied)
+
+    pub enough : need ≡ 0 → length (exactPlan W N d) ≤ length buf / (W + 4)
+    enough q = shortage-none _ _ (sym need-is ∙ q)
+
+    pub refuses-room : (need ≡ 0 → ⊥) → Answers W e N d buf (Refused (Room need)) buf
+    refuses-room q =
+        let m = shortage-some _ _ (λ x. q (need-is ∙ x)) in
+        answers _ (planned-short W e N d (exactPlan W N d) buf T fine (m .0)) _ _ (ap {B = Outcome} (λ (k : ℕ). Refused (Room k)) (need-is ∙ m .1)) (λ i. buf)
+
+    -- another working copy, laid
+    pub writes-plan : need ≡ 0 → (w' z' : List ℕ) → w' ≡ d ++ z' → (records : ℕ) → records ≡ length (exactPlan W N w') → (after : List ℕ)
+        → after ≡ laid buf 0 (bytes e N (map (stretch 1) (exactPlan W N w'))) → Answers W e N d buf (Done (planCounts records T T)) after
+    writes-plan q w' z' copied' records r after a =
+        let p = copied-plan W N T d w' narrow asked z' copied' in
+        answers _ (planned-done W e N d (exactPlan W N d) buf T fine (enough q)) _ _
+        (written-outcome e N T records T (exactPlan W N d) buf (r ∙ ap length p) (asked .longest-is ∙ sym (exact-total W N (asked .some) (asked .few) d (le-of-eq (sym (asked .size))))))
+        (a ∙ ap (λ (x : List Record). laid buf 0 (bytes e N x)) (stretch-once (exactPlan W N w') ∙ p) ∙ written-bytes e N T (exactPlan W N d) buf)

@@ -1,0 +1,65 @@
+-- The room is known before the first byte is written: a shortage is code 5, and else the plan is laid.
+use native.Mathlib.Omega.{arith}
+use Rattle.exact.proofs.Fitting.{copied-cells, place}
+use Rattle.exact.proofs.Outcome.{asked, enough, refuses-room, writes-plan}
+use borrow.Author.Needs.{needs}
+use Rattle.exact.proofs.lay_or_refuse.Statement.{statement}
+use Rattle.exact.proofs.lay_or_refuse.Tie as tie
+
+copy-requires : tie.Need-copy-requires
+copy-requires c κs = let p = c .before .before .before .before .pre in omega (arith, asked _ 0 _ _ _ (c .before .before .before .before .args .plan .now) (p .1) (p .0) .size)
+
+add-short-of : tie.Need-add-short-of
+add-short-of c = search needs
+
+div-short-of : tie.Need-div-short-of
+div-short-of c = search needs
+
+short-of-requires : tie.Need-short-of-requires
+short-of-requires c κs = let p = c .before .before .before .before .before .before .before .before .pre in copied-cells _ _ _ _ _ (p .1) (asked _ 0 _ _ _ (c .before .before .before .before .before .before .before .before .args .plan .now) (p .1) (p .0)) _ (c .before .before .before .copy .ensures)
+
+same-length : tie.Need-same-length
+same-length c = search needs
+
+returns : tie.Need-returns
+returns c = let p = c .before .before .before .before .before .before .before .before .before .before .before .before .pre in let r = refuses-room _ _ _ _ _ _ (p .1) (p .0) _ _ (c .before .before .before .before .before .before .before .copy .ensures) _ (c .before .before .before .short-of .ensures) (c .if1 .taken) in (r .outcome, r .bytes)
+
+copy-requires-2 : tie.Need-copy-requires-2
+copy-requires-2 c κs = let p = c .before .before .before .before .before .before .before .before .before .before .before .before .before .pre in omega (arith, asked _ 0 _ _ _ (c .before .before .before .before .before .before .before .before .before .before .before .before .before .args .plan .now) (p .1) (p .0) .size, c .before .before .before .before .short-of .kept, c .before .before .before .before .before .before .before .before .copy .kept)
+
+lay-requires : tie.Need-lay-requires
+lay-requires c κs =
+    let p = c .before .before .before .before .before .before .before .before .before .before .before .before .before .before .before .before .before .before .pre in
+    let b = c .before .before .before .before .before .before .before .before .before .before .before .before .before .before .before .before .before .before .args .plan .now in
+    let a = asked _ 0 _ _ _ b (p .1) (p .0) in
+    let e = enough _ 0 _ _ _ b (p .1) (p .0) _ _ (c .before .before .before .before .before .before .before .before .before .before .before .before .before .copy .ensures) _ (c .before .before .before .before .before .before .before .before .before .short-of .ensures) (c .before .before .before .before .before .before .if1 .left) in
+    (copied-cells _ _ _ _ _ (p .1) a _ (c .before .before .before .before .copy2 .ensures), place _ _ _ _ _ (p .1) a _ (c .before .before .before .before .copy2 .ensures) b e)
+
+same-length-2 : tie.Need-same-length-2
+same-length-2 c = search needs
+
+same-length-3 : tie.Need-same-length-3
+same-length-3 c = search needs
+
+returns-2 : tie.Need-returns-2
+returns-2 c =
+    let p = c .before .before .before .before .before .before .before .before .before .before .before .before .before .before .before .before .before .before .before .before .before .before .before .pre in
+    let l = c .before .before .before .before .lay .ensures in
+    let r = writes-plan _ _ _ _ _ _ (p .1) (p .0) _ _ (c .before .before .before .before .before .before .before .before .before .before .before .before .before .before .before .before .before .before .copy .ensures) _ (c .before .before .before .before .before .before .before .before .before .before .before .before .before .before .short-of .ensures) (c .before .before .before .before .before .before .before .before .before .before .before .if1 .left) _ _ (c .before .before .before .before .before .before .before .before .before .copy2 .ensures) _ (l .0) _ (l .1) in
+    (r .outcome, r .bytes)
+
+pub lay-or-refuse-spec : {M : Type 1} → statement M
+lay-or-refuse-spec =
+    tie.close
+    (tie.spec
+    copy-requires
+    add-short-of
+    div-short-of
+    short-of-requires
+    same-length
+    returns
+    copy-requires-2
+    lay-requires
+    same-length-2
+    same-length-3
+    returns-2)

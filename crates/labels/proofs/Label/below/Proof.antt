@@ -1,0 +1,21 @@
+-- What is left by 1 << j: the digits below j stay, and there are no others.
+use native.Mathlib.Omega.{arith}
+use lib.Pow.{pow-pos}
+use Rattle.labels.proofs.Digits.{below, one-shifted}
+use borrow.Author.Needs.{needs}
+use Rattle.labels.proofs.Label.below.Statement.{statement}
+use Rattle.labels.proofs.Label.below.Tie as tie
+
+shl-first : tie.Need-shl-first
+shl-first c = search needs
+
+rem-t5 : tie.Need-rem-t5
+rem-t5 c = let j = c .before .args .j .0 in omega (arith, one-shifted j (c .before .pre), pow-pos j)
+
+returns : tie.Need-returns
+returns c =
+    let a = c .before .args in
+    rw (one-shifted (a .j .0) (c .before .pre)) (below (a .self .0) (a .j .0))
+
+pub below-spec : {M : Type 1} → statement M
+below-spec = tie.close (tie.spec shl-first rem-t5 returns)

@@ -1,0 +1,17 @@
+-- A shift brings digit j to the front, and the mask keeps it.
+use mathlib.Core.Path.{ap}
+use Prim.Native.Nat.{ℕ}
+use lib.Dec.{eqb}
+use Rattle.labels.proofs.Digits.{has-digit}
+use borrow.Author.Needs.{needs}
+use Rattle.labels.proofs.Label.has.Statement.{statement}
+use Rattle.labels.proofs.Label.has.Tie as tie
+
+shr-result : tie.Need-shr-result
+shr-result c = search needs
+
+returns : tie.Need-returns
+returns c = ap (λ (x : ℕ). eqb x 1) (has-digit (c .before .args .self .0) (c .before .args .j .0))
+
+pub has-spec : {M : Type 1} → statement M
+has-spec = tie.close (tie.spec shr-result returns)

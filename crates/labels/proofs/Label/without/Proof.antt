@@ -1,0 +1,16 @@
+-- The set less what it shares with 1 << j: digit j becomes 0 and no other changes.
+use Rattle.labels.proofs.Digits.{cleared, one-shifted}
+use borrow.Author.Needs.{needs}
+use Rattle.labels.proofs.Label.without.Statement.{statement}
+use Rattle.labels.proofs.Label.without.Tie as tie
+
+shl-t5 : tie.Need-shl-t5
+shl-t5 c = search needs
+
+returns : tie.Need-returns
+returns c =
+    let a = c .before .before .args in
+    rw (one-shifted (a .j .0) (c .before .before .pre)) (cleared (a .self .0) (a .j .0))
+
+pub without-spec : {M : Type 1} → statement M
+without-spec = tie.close (tie.spec shl-t5 returns)

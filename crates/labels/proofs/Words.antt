@@ -1,0 +1,113 @@
+-- The laws of sets of two words: output k is in the low word, or output k - 64 in the high one.
+use mathlib.Core.Path.{_≡_, sym, ap, _∙_, subst}
+use mathlib.Core.Logic.{_⊎_, inl, inr, ⊎-elim}
+use Prim.Native.Nat.{ℕ, _+_, _-_, _^_, _<_}
+use native.Mathlib.Decide.{decLt}
+use native.Mathlib.Omega.{arith}
+use Rattle.labels.specs.Label.{digit, In, Sub, Marked, Cleared, Union, Below, LowestAt}
+use Rattle.labels.proofs.Digits.{cat-low, cat-high}
+use Rattle.labels.specs.Wide.{two}
+
+pub low : (a r k : ℕ) → k < 64 → digit (two a r) k ≡ digit r k
+unfolding two
+low a r k h = cat-low 64 a r k h
+
+pub high : (a r k : ℕ) → r < 2 ^ 64 → digit (two a r) (64 + k) ≡ digit a k
+unfolding two
+high a r k h = cat-high 64 a r k h
+
+-- what holds of the outputs of either word holds of all
+by-word : (P : ℕ → Type 0) → ((k : ℕ) → k < 64 → P k) → ((i : ℕ) → P (64 + i)) → (k : ℕ) → P k
+by-word P l h k = go (decLt k 64)
+  where
+    go : Dec (k < 64) → P k
+    go (yes q) = l k q
+    go (no q) = let e : 64 + (k - 64) ≡ k = omega arith in subst P e (h (k - 64))
+
+pub none : (a r : ℕ) → r < 2 ^ 64 → ((k : ℕ) → In a k → ⊥) → ((k : ℕ) → In r k → ⊥) → (k : ℕ) → In (two a r) k → ⊥
+none a r hr na nr = by-word (λ k. In (two a r) k → ⊥) (λ k l h. nr k (sym (low a r k l) ∙ h)) (λ i h. na i (sym (high a r i hr) ∙ h))
+
+-- a change of the low word
+module _ (a r s j : ℕ) (hr : r < 2 ^ 64) (hs : s < 2 ^ 64) (hj : j < 64) where
+  same-high : (i : ℕ) → digit (two a r) (64 + i) ≡ digit (two a s) (64 + i)
+  same-high i = high a r i hr ∙ sym (high a s i hs)
+
+  pub marked-low : Marked r j s → Marked (two a r) j (two a s)
+  marked-low m = record {
+    put = low a s j hj ∙ m .put;
+    more = by-word (λ k. In (two a r) k → In (two a s) k) (λ k l h. low a s k l ∙ m .more k (sym (low a r k l) ∙ h)) (λ i h. sym (same-high i) ∙ h);
+    only = by-word (λ k. In (two a s) k → In (two a r) k ⊎ (k ≡ j)) (λ k l h. ⊎-elim (λ x. inl (low a r k l ∙ x)) (λ x. inr x) (m .only k (sym (low a s k l) ∙ h))) (λ i h. inl (same-high i ∙ h));
+  }
+
+  pub cleared-low : Cleared r j s → Cleared (two a r) j (two a s)
+  cleared-low m = record {
+    gone = λ h. m .gone (sym (low a s j hj) ∙ h);
+    less = by-word (λ k. In (two a s) k → In (two a r) k) (λ k l h. low a r k l ∙ m .less k (sym (low a s k l) ∙ h)) (λ i h. same-high i ∙ h);
+    kept = by-word (λ k. In (two a r) k → (k ≡ j → ⊥) → In (two a s) k) (λ k l h d. low a s k l ∙ m .kept k (sym (low a r k l) ∙ h) d) (λ i h d. sym (same-high i) ∙ h);
+  }
+
+-- a change of the high word
+module _ (a b r i : ℕ) (hr : r < 2 ^ 64) where
+  same-low : (k : ℕ) → k < 64 → digit (two a r) k ≡ digit (two b r) k
+  same-low k l = low a r k l ∙ sym (low b r k l)
+
+  pub marked-high : Marked a i b → Marked (two a r) (64 + i) (two b r)
+  marked-high m = record {
+    put = high b r i hr ∙ m .put;
+    more = by-word (λ k. In (two a r) k → In (two b r) k) (λ k l h. sym (same-low k l) ∙ h) (λ k h. high b r k hr ∙ m .more k (sym (high a r k hr) ∙ h));
+    only = by-word (λ k. In (two b r) k → In (two a r) k ⊎ (k ≡ 64 + i)) (λ k l h. inl (same-low k l ∙ h)) (λ k h. ⊎-elim (λ x. inl (high a r k hr ∙ x)) (λ x. inr (ap (λ (y : ℕ). 64 + y) x)) (m .only k (sym (high b r k hr) ∙ h)));
+  }
+
+  pub cleared-high : Cleared a i b → Cleared (two a r) (64 + i) (two b r)
+  cleared-high m = record {
+    gone = λ h. m .gone (sym (high b r i hr) ∙ h);
+    less = by-word (λ k. In (two b r) k → In (two a r) k) (λ k l h. same-low k l ∙ h) (λ k h. high a r k hr ∙ m .less k (sym (high b r k hr) ∙ h));
+    kept = by-word (λ k. In (two a r) k → (k ≡ 64 + i → ⊥) → In (two b r) k) (λ k l h d. sym (same-low k l) ∙ h) (λ k h d. high b r k hr ∙ m .kept k (sym (high a r k hr) ∙ h) (λ e. d (ap (λ (y : ℕ). 64 + y) e)));
+  }
+
+module _ (a r b t : ℕ) (hr : r < 2 ^ 64) (ht : t < 2 ^ 64) where
+  pub lowest-low : (j : ℕ) → LowestAt 64 r t j → LowestAt 128 (two a r) (two b t) j
+  lowest-low j m = record {
+    small = omega (arith, m .small);
+    here = low a r j (m .small) ∙ m .here;
+    new = λ h. m .new (sym (low b t j (m .small)) ∙ h);
+    past = λ k l h. let q : k < 64 = omega (arith, m .small) in low b t k q ∙ m .past k l (sym (low a r k q) ∙ h);
+  }
+
+  pub lowest-high : Sub r t → (j : ℕ) → LowestAt 64 a b j → LowestAt 128 (two a r) (two b t) (64 + j)
+  lowest-high f j m = record {
+    small = omega (arith, m .small);
+    here = high a r j hr ∙ m .here;
+    new = λ h. m .new (sym (high b t j ht) ∙ h);
+    past = by-word (λ k. k < 64 + j → In (two a r) k → In (two b t) k) (λ k l _ h. low b t k l ∙ f k (sym (low a r k l) ∙ h))
+        (λ k l h. high b t k ht ∙ m .past k (omega arith) (sym (high a r k hr) ∙ h));
+  }
+
+  pub nothing : Sub r t → Sub a b → Sub (two a r) (two b t)
+  nothing f g = by-word (λ k. In (two a r) k → In (two b t) k) (λ k l h. low b t k l ∙ f k (sym (low a r k l) ∙ h)) (λ k h. high b t k ht ∙ g k (sym (high a r k hr) ∙ h))
+
+pub union : (a r b t c s : ℕ) → r < 2 ^ 64 → t < 2 ^ 64 → s < 2 ^ 64 → Union a b c → Union r t s → Union (two a r) (two b t) (two c s)
+union a r b t c s hr ht hs h l = record {
+  left = by-word (λ k. In (two a r) k → In (two c s) k) (λ k q x. low c s k q ∙ l .left k (sym (low a r k q) ∙ x)) (λ i x. high c s i hs ∙ h .left i (sym (high a r i hr) ∙ x));
+  right = by-word (λ k. In (two b t) k → In (two c s) k) (λ k q x. low c s k q ∙ l .right k (sym (low b t k q) ∙ x)) (λ i x. high c s i hs ∙ h .right i (sym (high b t i ht) ∙ x));
+  only = by-word (λ k. In (two c s) k → In (two a r) k ⊎ In (two b t) k)
+      (λ k q x. ⊎-elim (λ y. inl (low a r k q ∙ y)) (λ y. inr (low b t k q ∙ y)) (l .only k (sym (low c s k q) ∙ x)))
+      (λ i x. ⊎-elim (λ y. inl (high a r i hr ∙ y)) (λ y. inr (high b t i ht ∙ y)) (h .only i (sym (high c s i hs) ∙ x)));
+}
+
+pub below-low : (a r c s j : ℕ) → r < 2 ^ 64 → s < 2 ^ 64 → j < 64 → ((k : ℕ) → In c k → ⊥) → Below r j s → Below (two a r) j (two c s)
+below-low a r c s j hr hs hj nc b = record {
+  less = by-word (λ k. In (two c s) k → In (two a r) k) (λ k q x. low a r k q ∙ b .less k (sym (low c s k q) ∙ x)) (λ i x. absurd (nc i (sym (high c s i hs) ∙ x)));
+  small = by-word (λ k. In (two c s) k → k < j) (λ k q x. b .small k (sym (low c s k q) ∙ x)) (λ i x. absurd (nc i (sym (high c s i hs) ∙ x)));
+  all = λ k q x. let l : k < 64 = omega arith in low c s k l ∙ b .all k q (sym (low a r k l) ∙ x);
+}
+
+pub below-high : (a r c j : ℕ) → r < 2 ^ 64 → Below a j c → Below (two a r) (64 + j) (two c r)
+below-high a r c j hr b = record {
+  less = by-word (λ k. In (two c r) k → In (two a r) k) (λ k q x. low a r k q ∙ sym (low c r k q) ∙ x) (λ i x. high a r i hr ∙ b .less i (sym (high c r i hr) ∙ x));
+  small = by-word (λ k. In (two c r) k → k < 64 + j) (λ k q x. omega arith) (λ i x. let l : i < j = b .small i (sym (high c r i hr) ∙ x) in omega arith);
+  all = by-word (λ k. k < 64 + j → In (two a r) k → In (two c r) k) (λ k q l x. low c r k q ∙ sym (low a r k q) ∙ x) (λ i l x. high c r i hr ∙ b .all i (omega arith) (sym (high a r i hr) ∙ x));
+}
+
+pub every : (a r : ℕ) → r < 2 ^ 64 → ((k : ℕ) → k < 64 → In a k) → ((k : ℕ) → k < 64 → In r k) → (k : ℕ) → k < 128 → In (two a r) k
+every a r hr fa fr = by-word (λ k. k < 128 → In (two a r) k) (λ k q l. low a r k q ∙ fr k q) (λ i l. high a r i hr ∙ fa i (omega arith))

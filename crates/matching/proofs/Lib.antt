@@ -1,0 +1,9 @@
+pub mod Tables
+pub mod Search
+pub mod Waves
+pub mod Closed
+pub mod Completing
+pub mod Settling
+pub mod Firm
+pub mod Kept
+pub mod Unique

@@ -1,0 +1,78 @@
+-- From a matching to the full setting that is first in dictionary order: what each step promises. Definitions only.
+use mathlib.Core.Path.{_≡_}
+use mathlib.Core.Bool.{Bool, true, false}
+use mathlib.Core.List.{List}
+use Prim.Native.Nat.{ℕ, _<_, _≤_}
+use lib.ListN.{length}
+use Rattle.labels.specs.Label.{In}
+use Rattle.rules.specs.First.{Fits, Agree, First}
+use Rattle.matching.specs.Tables.{Held, Holds, joined, Matching}
+use Rattle.matching.specs.Search.{Around}
+
+-- the outputs of the inputs below i, and no others, are fixed
+pub record Fixed (out : List ℕ) (i fixed : ℕ) : Type 0 where
+  pub from : (k : ℕ) → In fixed k → (m : ℕ) × (m < i) × (joined out m ≡ k)
+  pub got : (m : ℕ) → m < i → In fixed (joined out m)
+
+-- every fixed output is held
+abbrev pub AllHeld : List ℕ → ℕ → Type 0
+AllHeld by fixed = (k : ℕ) → In fixed k → (m : ℕ) × Held by k m
+
+-- o joins the holders of the fixed outputs to them
+abbrev pub Keeps : List ℕ → ℕ → (ℕ → ℕ) → Type 0
+Keeps by fixed o = (k m : ℕ) → In fixed k → Held by k m → o m ≡ k
+
+-- no setting that fits and agrees below input m has a lower output there
+abbrev pub Best : ℕ → (ℕ → ℕ → Type 0) → List ℕ → ℕ → Type 0
+Best n E out m = (o : ℕ → ℕ) → Fits n E o → Agree m o (joined out) → joined out m ≤ o m
+
+-- what completing may start from: the fixed outputs are held, and so is one by each input below `from`
+pub record CompletePre (w n : ℕ) (E : ℕ → ℕ → Type 0) (by out : List ℕ) (fixed from : ℕ) : Type 0 where
+  pub good : Matching w n E by out
+  pub held : AllHeld by fixed
+  pub short : from ≤ n
+  pub begun : (m : ℕ) → m < from → Holds by m
+
+-- the answer to whether input i holds an output
+pub record HoldsPost (by out : List ℕ) (i : ℕ) (r : Bool) : Type 0 where
+  pub held : r ≡ true → Held by (joined out i) i
+  pub idle : r ≡ false → Held by (joined out i) i → ⊥
+
+-- every input below `to` holds an output; or no full setting keeps the fixed ones. What was fixed is left alone
+pub record CompletePost (w n : ℕ) (E : ℕ → ℕ → Type 0) (by out : List ℕ) (fixed to : ℕ) (by' out' : List ℕ) (full : Bool) : Type 0 where
+  pub good : Matching w n E by' out'
+  pub around : Around n by out fixed by' out'
+  pub all : full ≡ true → (m : ℕ) → m < to → Holds by' m
+  pub none : full ≡ false → (o : ℕ → ℕ) → Fits n E o → Keeps by fixed o → ⊥
+
+-- every input holds an output; those of the inputs below i are fixed, and each is the best
+pub record Settled (w n : ℕ) (E : ℕ → ℕ → Type 0) (by out : List ℕ) (fixed i : ℕ) : Type 0 where
+  pub good : Matching w n E by out
+  pub all : (m : ℕ) → m < n → Holds by m
+  pub prefix : Fixed out i fixed
+  pub best : (m : ℕ) → m < i → Best n E out m
+
+-- the tables are settled, and ports past n are as they were
+pub record SettledPost (w n : ℕ) (E : ℕ → ℕ → Type 0) (out by' out' : List ℕ) (fixed i : ℕ) : Type 0 where
+  pub settled : Settled w n E by' out' fixed i
+  pub beyond : (m : ℕ) → n ≤ m → joined out' m ≡ joined out m
+
+-- every input is settled
+abbrev pub SettledAll : ℕ → ℕ → (ℕ → ℕ → Type 0) → List ℕ → List ℕ → List ℕ → Type 0
+SettledAll w n E out by' out' = (fixed : ℕ) × SettledPost w n E out by' out' fixed n
+
+-- what the next setting may start from: the inputs below `kept` hold outputs that are the best so far, and there is a full setting
+pub record Ready (w n : ℕ) (E : ℕ → ℕ → Type 0) (by out : List ℕ) (kept : ℕ) : Type 0 where
+  pub good : Matching w n E by out
+  pub inside : (i j : ℕ) → i < n → E i j → j < n
+  pub some : (o : ℕ → ℕ) × Fits n E o
+  pub short : kept ≤ n
+  pub held : (m : ℕ) → m < kept → Held by (joined out m) m
+  pub best : (m : ℕ) → m < kept → Best n E out m
+
+-- every input holds an output, by the setting that is first in dictionary order; ports past n are as they were
+pub record Chosen (w n : ℕ) (E : ℕ → ℕ → Type 0) (out by' out' : List ℕ) : Type 0 where
+  pub good : Matching w n E by' out'
+  pub held : (m : ℕ) → m < n → Held by' (joined out' m) m
+  pub first : First n E (joined out')
+  pub beyond : (m : ℕ) → n ≤ m → joined out' m ≡ joined out m

@@ -1,0 +1,3 @@
+pub mod Release
+pub mod Left
+pub mod Starting

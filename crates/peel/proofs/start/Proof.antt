@@ -1,0 +1,28 @@
+-- The cells are filled to T, and then labelled.
+use Rattle.peel.proofs.Starting.{within, sized-filled, started}
+use borrow.Author.Needs.{needs}
+use Rattle.peel.proofs.start.Statement.{statement}
+use Rattle.peel.proofs.start.Tie as tie
+
+fill-up-requires : tie.Need-fill-up-requires
+fill-up-requires c κs = within _ _ _ (c .before .before .before .before .pre .0)
+
+label-rows-requires : tie.Need-label-rows-requires
+label-rows-requires c κs = (sized-filled _ _ _ (c .before .before .before .before .before .before .before .before .before .before .pre .0) _ (c .before .before .before .before .before .fill-up .ensures), c .before .before .before .before .before .before .before .before .before .before .pre .1, c .before .before .before .before .before .before .before .before .before .before .pre .2)
+
+same-length : tie.Need-same-length
+same-length c = search needs
+
+same-length-2 : tie.Need-same-length-2
+same-length-2 c = search needs
+
+same-length-3 : tie.Need-same-length-3
+same-length-3 c = search needs
+
+returns : tie.Need-returns
+returns c = started _ _ _ (c .before .before .before .before .before .before .before .before .before .before .before .before .before .before .before .pre .0) _ _ _ (c .before .before .before .before .before .before .before .before .before .before .fill-up .ensures) (c .before .before .before .before .label-rows .ensures)
+
+pub start-spec : {M : Type 1} → statement M
+start-spec =
+    tie.close
+    (tie.spec fill-up-requires label-rows-requires same-length same-length-2 same-length-3 returns)

@@ -1,0 +1,68 @@
+-- A planner's answer case by case: each refusal is given exactly where its test is the first that fails, and else the plan is written.
+use mathlib.Core.Path.{_≡_, refl}
+use mathlib.Core.List.{List}
+use Prim.Native.Nat.{ℕ, _<_, _≤_}
+use lib.ListN.{length}
+use borrow.Author.Tests.{lt-ltb, le-ltb}
+use Rattle.switch.specs.declared.Refusal.{Refusal}
+use Rattle.switch.specs.declared.Refusal.the-variants.{Longest, Room}
+use Rattle.switch.specs.declared.Outcome.the-variants.{Done}
+use Rattle.switch.specs.Answer.{planCounts}
+use Rattle.switch.specs.Plan.{Record, total}
+use Rattle.demand.specs.declared.Checked.the-variants.{Fine, Faulty}
+use Rattle.demand.specs.Check.{checkDemand}
+use Rattle.records.specs.Bytes.{whole, bytes, laid}
+use Rattle.planner.specs.Planned.{refuses, writes, roomFor, planned, plannedUpTo}
+
+module _ (W e N T : ℕ) (p : List Record) (buf : List ℕ) where
+  no-room : whole W buf < length p → roomFor W e N T p buf ≡ refuses (Room (length p)) buf
+  unfolding roomFor
+  no-room l = rw (lt-ltb _ _ l)
+
+  room : length p ≤ whole W buf → roomFor W e N T p buf ≡ writes e N T p buf
+  unfolding roomFor
+  room l = rw (le-ltb _ _ l)
+
+module _ (W e N : ℕ) (d : List ℕ) (p : List Record) (buf : List ℕ) where
+  -- codes 1, 2 and 3
+  pub planned-faulty : (r : Refusal) → checkDemand W N d ≡ Faulty r → planned W e N d p buf ≡ refuses r buf
+  unfolding planned
+  planned-faulty r c = rw c
+
+  module _ (T : ℕ) (fine : checkDemand W N d ≡ Fine T) where
+    -- code 5
+    pub planned-short : whole W buf < length p → planned W e N d p buf ≡ refuses (Room (length p)) buf
+    unfolding planned
+    planned-short l = rw fine (no-room W e N T p buf l)
+
+    pub planned-done : length p ≤ whole W buf → planned W e N d p buf ≡ writes e N T p buf
+    unfolding planned
+    planned-done l = rw fine (room W e N T p buf l)
+
+module _ (limit W e N : ℕ) (d : List ℕ) (p : List Record) (buf : List ℕ) where
+  pub limited-faulty : (r : Refusal) → checkDemand W N d ≡ Faulty r → plannedUpTo limit W e N d p buf ≡ refuses r buf
+  unfolding plannedUpTo
+  limited-faulty r c = rw c
+
+  module _ (T : ℕ) (fine : checkDemand W N d ≡ Fine T) where
+    -- code 4
+    pub limited-long : limit < T → plannedUpTo limit W e N d p buf ≡ refuses Longest buf
+    unfolding plannedUpTo
+    limited-long l = rw (fine, lt-ltb _ _ l)
+
+    pub limited-short : T ≤ limit → whole W buf < length p → plannedUpTo limit W e N d p buf ≡ refuses (Room (length p)) buf
+    unfolding plannedUpTo
+    limited-short h l = rw (fine, le-ltb _ _ h) (no-room W e N T p buf l)
+
+    pub limited-done : T ≤ limit → length p ≤ whole W buf → plannedUpTo limit W e N d p buf ≡ writes e N T p buf
+    unfolding plannedUpTo
+    limited-done h l = rw (fine, le-ltb _ _ h) (room W e N T p buf l)
+
+-- what is written: the counts and the bytes
+pub written-outcome : (e N T r t : ℕ) (p : List Record) (buf : List ℕ) → r ≡ length p → t ≡ total p → Done (planCounts r T t) ≡ writes e N T p buf .outcome
+unfolding writes
+written-outcome e N T r t p buf a b = λ i. Done (planCounts (a i) T (b i))
+
+pub written-bytes : (e N T : ℕ) (p : List Record) (buf : List ℕ) → laid buf 0 (bytes e N p) ≡ writes e N T p buf .bytes
+unfolding writes
+written-bytes e N T p buf = refl

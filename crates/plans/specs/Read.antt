@@ -1,0 +1,81 @@
+-- Opening a plan, reading it record by record, and checking it whole. Definitions only.
+use mathlib.Core.Bool.{cond}
+use mathlib.Core.List.{List}
+use Prim.Native.Nat.{ℕ, zero, suc, _+_, _%_, _≤_}
+use lib.ListN.{length, replicate}
+use lib.Dec.{ltb, leb, eqb}
+use Rattle.switch.specs.declared.Outcome.{Outcome}
+use Rattle.switch.specs.declared.Outcome.the-variants.{Done, Refused}
+use Rattle.switch.specs.declared.Refusal.the-variants.{Ports, Torn, Records, Malformed}
+use Rattle.switch.specs.Answer.{planCounts}
+use Rattle.switch.specs.Check.{portsFine}
+use Rattle.switch.specs.Plan.{total}
+use Rattle.plans.specs.declared.Edition.{Edition}
+use Rattle.plans.specs.declared.Step.{Step}
+use Rattle.plans.specs.declared.Step.the-variants as step
+use Rattle.plans.specs.declared.Stepped.{Stepped}
+use Rattle.records.specs.Record.{hold, outputs, wellFormed}
+use Rattle.records.specs.Bytes.{recordAt, whole, planFrom}
+
+-- document 01's records: 64 outputs, a zero byte, N of 1 to 64, at most 8,192 records
+abbrev pub firstEdition : Edition
+firstEdition = record { width = 64; byte = 0; ports = 64; records = 8192 }
+
+-- what the code relies on of an edition
+pub record Bounded (E : Edition) : Type 0 where
+  pub width : E .width ≤ 128
+  pub ports : E .ports ≤ E .width
+  pub records : E .records ≤ 65536
+
+-- opening refuses by codes 1, 9 and 10, and gives records only
+unfoldable pub opening : Edition → ℕ → List ℕ → Outcome
+opening E N plan =
+    cond (portsFine (E .ports) N)
+    (cond (eqb (length plan % (E .width + 4)) 0)
+    (cond (leb (whole (E .width) plan) (E .records)) (Done (planCounts (whole (E .width) plan) 0 0)) (Refused (Records (E .records))))
+    (Refused (Torn (whole (E .width) plan))))
+    (Refused Ports)
+
+-- both come with hold 0 and 64 outputs of 255, and leave the place reached
+abbrev pub nothing : Step → ℕ → Stepped
+nothing s at = record { step = s; hold = 0; outputs = replicate 64 255; next = at }
+
+-- the next record: hold and 64 outputs
+abbrev pub given : List ℕ → ℕ → Stepped
+given b next = record { step = step.Record; hold = hold b; outputs = outputs b; next = next }
+
+-- of m records: the next, or code 11 with the record's number, or the end
+unfoldable pub stepIn : ℕ → ℕ → List ℕ → ℕ → Stepped
+stepIn m N plan at =
+    cond (ltb at m)
+    (cond (wellFormed 64 0 N (recordAt 64 plan at)) (given (recordAt 64 plan at) (at + 1)) (nothing (step.Malformed at) at))
+    (nothing step.End at)
+
+-- every step of a refused reader is the end
+abbrev pub stepOf : Outcome → ℕ → List ℕ → ℕ → Stepped
+stepOf (Done c) N plan at = stepIn (c .records) N plan at
+stepOf (Refused r) N plan at = nothing step.End at
+
+-- the step at record `at` of a plan opened for N
+unfoldable pub stepAt : ℕ → List ℕ → ℕ → Stepped
+stepAt N plan at = stepOf (opening firstEdition N plan) N plan at
+
+-- the first of m records from k on that is not well formed; k + m where all are
+unfoldable pub malformed : ℕ → ℕ → ℕ → List ℕ → ℕ → ℕ → ℕ
+malformed W e N plan zero k = k
+malformed W e N plan (suc m) k = cond (wellFormed W e N (recordAt W plan k)) (malformed W e N plan m (suc k)) k
+
+-- a whole plan: code 11 at its first record that is not well formed, else records and total
+unfoldable pub checkingIn : ℕ → Edition → ℕ → List ℕ → Outcome
+checkingIn m E N plan =
+    cond (ltb (malformed (E .width) (E .byte) N plan m 0) m)
+    (Refused (Malformed (malformed (E .width) (E .byte) N plan m 0)))
+    (Done (planCounts m 0 (total (planFrom (E .width) plan 0 m))))
+
+abbrev pub checkingOf : Outcome → Edition → ℕ → List ℕ → Outcome
+checkingOf (Done c) E N plan = checkingIn (c .records) E N plan
+checkingOf (Refused r) E N plan = Refused r
+
+-- who reads a whole plan refuses by 1, 9, 10 and 11
+unfoldable pub checking : Edition → ℕ → List ℕ → Outcome
+checking E N plan = checkingOf (opening E N plan) E N plan

@@ -1,0 +1,121 @@
+-- The room decides the rest: too few records are code 5 with those needed, and else the plan is written, each of its records W outputs wide.
+use mathlib.Core.Path.{_≡_, refl, sym, ap, _∙_}
+use mathlib.Core.Bool.{Bool, true, false, cond}
+use mathlib.Core.List.{List, [], _∷_}
+use Prim.Native.Nat.{ℕ, zero, suc, _+_, _*_, _-_, _≤_, _<_}
+use native.Mathlib.Nat.{mul-le-mul, le-div-iff-mul-le}
+use native.Mathlib.Omega.{arith}
+use lib.ListN.{length, take, getD, replicate}
+use lib.Seq.{length-take-le}
+use lib.Dec.{eqb}
+use Rattle.counting.specs.Sum.{sum}
+use Rattle.counting.specs.Matrix.{row}
+use Rattle.switch.specs.declared.Refusal.{Refusal}
+use Rattle.switch.specs.declared.Refusal.the-variants.{Longest, Room}
+use Rattle.switch.specs.declared.Outcome.{Outcome}
+use Rattle.switch.specs.declared.Outcome.the-variants.{Done, Refused}
+use Rattle.switch.specs.Answer.{planCounts}
+use Rattle.switch.specs.Demand.{cell}
+use Rattle.switch.specs.Plan.{Record}
+use Rattle.demand.specs.declared.Checked.the-variants.{Fine, Faulty}
+use Rattle.demand.specs.Check.{checkDemand, Asked}
+use Rattle.demand.proofs.Check.{fine-asked}
+use Rattle.records.specs.Bytes.{whole, bytes, laid, Each, none, more, OfWidth}
+use Rattle.records.proofs.Bytes.{bytes-size}
+use Rattle.rules.specs.Peel.{peel}
+use Rattle.rules.specs.Exact.{tab}
+use Rattle.rules.specs.Quick.{slot, slots, quickFrom, quickPlan}
+use Rattle.rules.proofs.Peels.{length-tab}
+use Rattle.rules.proofs.Quick.{quick-total, quick-at-most}
+use Rattle.planner.specs.Planned.{Planned, plannedUpTo}
+use Rattle.planner.proofs.Planned.{limited-faulty, limited-long, limited-short, limited-done, written-outcome, written-bytes}
+use Rattle.quick.specs.Slots.{Shortage, Lent, Space}
+
+-- ---- whether it fits
+
+pub fits-room : (room need : ℕ) → need ≤ room → Shortage room need 0
+fits-room room need l = record { fits = λ _. l; short = λ h. absurd (h refl) }
+
+pub lacks-room : (room need r : ℕ) → room < need → r ≡ need → Shortage room need r
+lacks-room room need r l e = record { fits = λ z. omega arith; short = λ _. (l, e) }
+
+-- room for 2T - 1 records is always enough
+pub enough : (W N T room : ℕ) (d : List ℕ) → W ≤ 128 → Asked W N T d → 2 * T - 1 ≤ room → length (quickPlan W N d) ≤ room
+enough W N T room d w a l = omega (arith, quick-at-most W N (a .some) (a .few) (omega (arith, a .few)) d, a .longest-is)
+
+-- ---- the plan's bytes
+
+slots-wide : (W k N s : ℕ) (M : ℕ → ℕ → ℕ) → Each (OfWidth W) (slots W k N s M)
+unfolding slots
+slots-wide W zero N s M = none
+slots-wide W (suc k) N s M = go (eqb (sum N (row N M)) 0) (slots-wide W k N (suc s) (peel 1 (slot N M s) M))
+  where
+    go : (b : Bool) {p : List Record} → Each (OfWidth W) p → Each (OfWidth W) (cond b [] (record { hold = 1; outputs = tab W 0 (slot N M s) } ∷ p))
+    go true e = none
+    go false e = more (length-tab W 0 (slot N M s)) e
+
+plan-size : (W e N : ℕ) (d : List ℕ) → length (bytes e N (quickPlan W N d)) ≡ length (quickPlan W N d) * (W + 4)
+unfolding quickPlan quickFrom
+plan-size W e N d = bytes-size e N W (slots-wide W (sum N (row N (cell N d))) N 0 (cell N d))
+
+-- a plan of no more records than there is room for
+pub plan-fits : (W e N : ℕ) (d buf : List ℕ) → length (quickPlan W N d) ≤ whole W buf → length (bytes e N (quickPlan W N d)) ≤ length buf
+plan-fits W e N d buf l = omega (arith, plan-size W e N d, le-div-iff-mul-le {k = W + 4} {x = length (quickPlan W N d)} {y = length buf} (omega arith) .0 l)
+
+-- ---- the answer
+
+module _ (W e N T : ℕ) (d buf : List ℕ) (fine : checkDemand W N d ≡ Fine T) (small : T ≤ 1024) where
+  abbrev answer : Planned
+  answer = plannedUpTo 1024 W e N d (quickPlan W N d) buf
+
+  -- code 5, and the buffer as it was
+  pub answers-room : (r : ℕ) → whole W buf < length (quickPlan W N d) → r ≡ length (quickPlan W N d) → (Refused (Room r) ≡ answer .outcome) × (buf ≡ answer .bytes)
+  answers-room r l q =
+      let a = limited-short 1024 W e N d (quickPlan W N d) buf T fine small l in
+      (ap {B = Outcome} (λ (k : ℕ). Refused (Room k)) q ∙ sym (ap (λ (x : Planned). x .outcome) a), sym (ap (λ (x : Planned). x .bytes) a))
+
+  -- written: as many records as the plan has, each held for one slot
+  pub answers-done : W ≤ 128 → (r : ℕ) (buf' : List ℕ) → length (quickPlan W N d) ≤ whole W buf → r ≡ length (quickPlan W N d) → buf' ≡ laid buf 0 (bytes e N (quickPlan W N d))
+      → (Done (planCounts r T r) ≡ answer .outcome) × (buf' ≡ answer .bytes)
+  answers-done w r buf' l q b =
+      let a = limited-done 1024 W e N d (quickPlan W N d) buf T fine small l in
+      let k = fine-asked W N T d fine in (
+        written-outcome e N T r r (quickPlan W N d) buf q (q ∙ sym (quick-total W N (k .some) (k .few) (omega (arith, k .few)) d)) ∙ sym (ap (λ (x : Planned). x .outcome) a),
+        b ∙ written-bytes e N T (quickPlan W N d) buf ∙ sym (ap (λ (x : Planned). x .bytes) a),
+      )
+
+-- codes 1 to 4
+module _ (W e N : ℕ) (d buf : List ℕ) where
+  pub answers-faulty : (r : Refusal) → checkDemand W N d ≡ Faulty r → (Refused r ≡ plannedUpTo 1024 W e N d (quickPlan W N d) buf .outcome) × (buf ≡ plannedUpTo 1024 W e N d (quickPlan W N d) buf .bytes)
+  answers-faulty r c =
+      let a = limited-faulty 1024 W e N d (quickPlan W N d) buf r c in
+      (sym (ap (λ (x : Planned). x .outcome) a), sym (ap (λ (x : Planned). x .bytes) a))
+
+  pub answers-longest : (T : ℕ) → checkDemand W N d ≡ Fine T → 1024 < T → (Refused Longest ≡ plannedUpTo 1024 W e N d (quickPlan W N d) buf .outcome) × (buf ≡ plannedUpTo 1024 W e N d (quickPlan W N d) buf .bytes)
+  answers-longest T c l =
+      let a = limited-long 1024 W e N d (quickPlan W N d) buf T c l in
+      (sym (ap (λ (x : Planned). x .outcome) a), sym (ap (λ (x : Planned). x .bytes) a))
+
+-- ---- what is lent
+
+pub all-idle : (n i : ℕ) → getD {A = ℕ} (replicate n 255) i 255 ≡ 255
+all-idle zero i = refl
+all-idle (suc n) zero = refl
+all-idle (suc n) (suc i) = all-idle n i
+
+-- as many labels as ports are lent of those that there are
+pub lends : (N T : ℕ) (d w lows highs out : List ℕ) → Lent w lows highs out → checkDemand (length out) N d ≡ Fine T → (N ≤ length lows) × (N ≤ length highs) × Space N w (take N lows) (take N highs) out
+lends N T d w lows highs out l f =
+    let k : Asked (length out) N T d = fine-asked (length out) N T d f in
+    let a : N ≤ length lows = omega (arith, k .few, l .low) in
+    let b : N ≤ length highs = omega (arith, k .few, l .high) in (
+      a,
+      b,
+      record {
+        sized = record { some = k .some; few = omega (arith, k .few, l .few); room = omega (arith, mul-le-mul (k .few) (k .few), l .cells) };
+        low = length-take-le N lows a;
+        high = length-take-le N highs b;
+        wide = l .few;
+        seats = record { wide = k .few; idle = λ i _. l .idle i };
+      },
+    )

@@ -1,0 +1,49 @@
+-- The demand is copied in, its rows labelled, and its cells summed.
+use lib.ListN.{length, drop}
+use Rattle.work.proofs.Cells.{sized-as}
+use Rattle.quick.proofs.Loading.{loaded}
+use borrow.Author.Needs.{needs}
+use Rattle.quick.proofs.load.Statement.{statement}
+use Rattle.quick.proofs.load.Tie as tie
+
+copy-requires : tie.Need-copy-requires
+copy-requires c κs = search needs
+
+label-rows-requires : tie.Need-label-rows-requires
+label-rows-requires c κs =
+    let s = c .before .before .before .before .before .before .before .before .before .before .before in
+    let k = c .before .before .before .before .before .copy in
+    (sized-as (s .args .n) (s .args .work .now) (k .last .1 .0) (k .kept .1 .0) (s .pre .1), s .pre .2, s .pre .3)
+
+all-slots-requires : tie.Need-all-slots-requires
+all-slots-requires c κs = c .before .before .before .before .before .before .before .before .before .before .before .before .before .before .before .before .pre .0
+
+same-length : tie.Need-same-length
+same-length c = search needs
+
+same-length-2 : tie.Need-same-length-2
+same-length-2 c = search needs
+
+same-length-3 : tie.Need-same-length-3
+same-length-3 c = search needs
+
+returns : tie.Need-returns
+returns c =
+    let s = c .before .before .before .before .before .before .before .before .before .before .before .before .before .before .before .before .before in
+    let k = c .before .before .before .before .before .before .before .before .before .before .before .copy in
+    let r = c .before .before .before .before .before .label-rows in
+    let a = s .args in
+    loaded (a .n) (a .cells .now) (drop (length (a .cells .now)) (a .work .now)) (s .pre .0) (k .last .1 .0) (r .last .1 .1 .0) (r .last .1 .1 .1 .0) (c .all-slots .result)
+    (k .ensures) (sized-as (a .n) (a .work .now) (k .last .1 .0) (k .kept .1 .0) (s .pre .1)) (r .ensures) (c .all-slots .ensures)
+
+pub load-spec : {M : Type 1} → statement M
+load-spec =
+    tie.close
+    (tie.spec
+    copy-requires
+    label-rows-requires
+    all-slots-requires
+    same-length
+    same-length-2
+    same-length-3
+    returns)

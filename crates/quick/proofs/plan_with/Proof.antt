@@ -1,0 +1,100 @@
+-- What the demand is refused for by itself comes first, then T, and then what is left to the room.
+use mathlib.Core.Path.{_≡_, sym, _∙_}
+use Prim.Native.Nat.{_≤_}
+use lib.ListN.{length, take}
+use Rattle.demand.specs.declared.Checked.the-variants.{Fine}
+use Rattle.demand.specs.Check.{checkDemand}
+use Rattle.quick.specs.Slots.{Space}
+use Rattle.quick.proofs.Planning.{answers-faulty, answers-longest, lends}
+use borrow.Author.Needs.{needs}
+use Rattle.quick.proofs.plan_with.Statement.{statement}
+use Rattle.quick.proofs.plan_with.Tie as tie
+
+check-demand-requires : tie.Need-check-demand-requires
+check-demand-requires c κs = c .before .before .before .before .before .before .pre .few
+
+enum-known-checked : tie.Need-enum-known-checked
+enum-known-checked c = search needs
+
+enum-known-checked-2 : tie.Need-enum-known-checked-2
+enum-known-checked-2 c = search needs
+
+-- the demand is not refused by itself
+abbrev start : tie.After-checked2 → tie.Start
+start c = c .before .before .before .before .before .before .before .before .before
+
+fine : (c : tie.After-checked2) → checkDemand (length (start c .args .out .now)) (start c .args .n) (start c .args .cells .now) ≡ Fine (c .checked2 .given .0 .0)
+fine c = sym (c .before .before .check-demand .ensures) ∙ c .checked2 .given .1
+
+returns : tie.Need-returns
+returns c =
+    let f = c .before .before in
+    let a = start f .args in
+    answers-longest (length (a .out .now)) (a .edition) (a .n) (a .cells .now) (a .plan .now) (f .checked2 .given .0 .0) (fine f) (c .if1 .taken)
+
+-- what it lends
+lent : (c : tie.After-checked2) → (start c .args .n ≤ length (start c .args .lows .now)) × (start c .args .n ≤ length (start c .args .highs .now))
+    × Space (start c .args .n) (start c .args .work .now) (take (start c .args .n) (start c .args .lows .now)) (take (start c .args .n) (start c .args .highs .now)) (start c .args .out .now)
+lent c =
+    let a = start c .args in
+    lends (a .n) (c .checked2 .given .0 .0) (a .cells .now) (a .work .now) (a .lows .now) (a .highs .now) (a .out .now) (start c .pre) (fine c)
+
+slice-relend-prefix-plan-fine : tie.Need-slice-relend-prefix-plan-fine
+slice-relend-prefix-plan-fine c = lent (c .before .before .before .before) .0
+
+slice-aggregate-plan-fine : tie.Need-slice-aggregate-plan-fine
+slice-aggregate-plan-fine c = sym (lent (c .before .before .before .before .before) .2 .low)
+
+slice-relend-prefix-plan-fine-2 : tie.Need-slice-relend-prefix-plan-fine-2
+slice-relend-prefix-plan-fine-2 c = lent (c .before .before .before .before .before) .1
+
+slice-aggregate-plan-fine-2 : tie.Need-slice-aggregate-plan-fine-2
+slice-aggregate-plan-fine-2 c = sym (lent (c .before .before .before .before .before .before) .2 .high)
+
+plan-fine-requires : tie.Need-plan-fine-requires
+plan-fine-requires c κs = (fine (c .before .before .before .before .before .before .before), c .before .before .before .before .before .if1 .left, lent (c .before .before .before .before .before .before .before) .2)
+
+returns-2 : tie.Need-returns-2
+returns-2 c =
+    let k = c .before in
+    let a = c .before .before .before .before .before .before .before .before .before .before .args in
+    answers-faulty (length (a .out .now)) (a .edition) (a .n) (a .cells .now) (a .plan .now) (k .checked .given .0 .0) (sym (k .before .before .check-demand .ensures) ∙ k .checked .given .1)
+
+same-length : tie.Need-same-length
+same-length c = search needs
+
+same-length-2 : tie.Need-same-length-2
+same-length-2 c = search needs
+
+same-length-3 : tie.Need-same-length-3
+same-length-3 c = search needs
+
+same-length-4 : tie.Need-same-length-4
+same-length-4 c = search needs
+
+same-length-5 : tie.Need-same-length-5
+same-length-5 c = search needs
+
+returns-3 : tie.Need-returns-3
+returns-3 c = c .before .before .before .before .before .before .before .before .before .before .plan-fine .ensures
+
+pub plan-with-spec : {M : Type 1} → statement M
+plan-with-spec =
+    tie.close
+    (tie.spec
+    check-demand-requires
+    enum-known-checked
+    enum-known-checked-2
+    returns
+    slice-relend-prefix-plan-fine
+    slice-aggregate-plan-fine
+    slice-relend-prefix-plan-fine-2
+    slice-aggregate-plan-fine-2
+    plan-fine-requires
+    returns-2
+    same-length
+    same-length-2
+    same-length-3
+    same-length-4
+    same-length-5
+    returns-3)

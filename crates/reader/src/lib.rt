@@ -1,0 +1,56 @@
+// The reader: it keeps a plan's bytes and the place reached. Each function over it takes it apart and calls the covered one of `plans`,
+// and `first_step`, whose parameters are plain, stands above them, so that its callers need not know of a reader.
+// What a step gives is promised by `plans`; here it is promised that the place goes on with it and the plan stays.
+use plans::Stepped;
+use switch::Outcome;
+ghost use mathlib.Core.Path.{_≡_};
+ghost use Rattle.plans.specs.Read.{firstEdition, opening, stepAt};
+ghost use Rattle.reader.specs.Reader.{starting, movedTo};
+
+// A plan opened for n, and the record that the next step is at.
+pub struct Reader<'a> {
+    pub n: usize,
+    pub plan: &'a [u8],
+    pub at: usize,
+}
+
+// What opening gives: its answer and the reader.
+pub struct Opened<'a> {
+    pub answer: Outcome,
+    pub reader: Reader<'a>,
+}
+
+// Opens a plan for n. Where opening is refused every step of the reader is the end.
+pub fn open<'a>(n: usize, plan: &'a [u8]) -> Opened<'a>
+    ensures { λ o. ⌜ (o .answer ≡ opening firstEdition n (now (plan .entry))) × (o .reader ≡ starting n (plan .entry)) ⌝ }
+{
+    let answer = plans::open_plan(n, plan);
+    let reader = start(n, plan);
+    Opened { answer, reader }
+}
+
+impl<'a> Reader<'a> {
+    // The step at the reader's place, and the reader goes on to the next.
+    pub fn step(&mut self) -> Stepped
+        ensures { λ s. ⌜ (s ≡ stepAt (now (self .entry) .n) (now (now (self .entry) .plan)) (now (self .entry) .at)) × (now (self .exit) ≡ movedTo (now (self .entry)) (s .next)) ⌝ }
+    {
+        let s = plans::step_at(self.n, self.plan, self.at);
+        self.at = s.next;
+        s
+    }
+}
+
+// The first step of a plan, by a reader of its own.
+pub fn first_step(n: usize, plan: &[u8]) -> Stepped
+    ensures { λ s. ⌜ s ≡ stepAt n (now (plan .entry)) 0 ⌝ }
+{
+    let mut r = start(n, plan);
+    r.step()
+}
+
+// A reader at a plan's first record.
+fn start<'a>(n: usize, plan: &'a [u8]) -> Reader<'a>
+    ensures { λ r. ⌜ r ≡ starting n (plan .entry) ⌝ }
+{
+    Reader { n, plan, at: 0 }
+}

@@ -1,0 +1,9 @@
+pub mod Laid
+pub mod Bytes
+pub mod Part
+pub mod Round
+pub mod Every
+pub mod Fine
+pub mod Write
+pub mod Meaning
+pub mod Sound

@@ -1,0 +1,46 @@
+-- Plans as bytes: one record after the other, W outputs and W + 4 bytes each, no header. Definitions only.
+use mathlib.Core.Path.{_≡_}
+use mathlib.Core.List.{List, [], _∷_, _++_}
+use Prim.Native.Nat.{ℕ, zero, suc, _+_, _*_, _/_, _%_}
+use lib.ListN.{length, take, drop}
+use Rattle.switch.specs.Plan.{Record}
+use Rattle.records.specs.Record.{decoded}
+
+-- a record's bytes: hold in two bytes, low first; N; the edition's byte; the outputs
+abbrev pub encode : ℕ → ℕ → ℕ → List ℕ → List ℕ
+encode e hold N outputs = hold % 256 ∷ hold / 256 ∷ N ∷ e ∷ outputs
+
+-- record k of a plan; records are counted from 0
+abbrev pub recordAt : ℕ → List ℕ → ℕ → List ℕ
+recordAt W plan k = take (W + 4) (drop (k * (W + 4)) plan)
+
+-- how many whole records a plan's bytes have
+abbrev pub whole : ℕ → List ℕ → ℕ
+whole W plan = length plan / (W + 4)
+
+-- m records of a plan from record k on
+unfoldable pub planFrom : ℕ → List ℕ → ℕ → ℕ → List Record
+planFrom W plan k zero = []
+planFrom W plan k (suc m) = decoded (recordAt W plan k) ∷ planFrom W plan (suc k) m
+
+-- the records of a plan, in their order
+abbrev pub planOf : ℕ → List ℕ → List Record
+planOf W plan = planFrom W plan 0 (whole W plan)
+
+-- the bytes of a plan
+unfoldable pub bytes : ℕ → ℕ → List Record → List ℕ
+bytes e N [] = []
+bytes e N (r ∷ p) = encode e (r .hold) N (r .outputs) ++ bytes e N p
+
+-- what holds of each record of a plan
+pub data Each (P : Record → Type 0) : List Record → Type 0 where
+  none : Each P []
+  more : {r : Record} {p : List Record} → P r → Each P p → Each P (r ∷ p)
+
+-- a record of W outputs
+abbrev pub OfWidth : ℕ → Record → Type 0
+OfWidth W r = length (r .outputs) ≡ W
+
+-- d with s laid over it from at on
+unfoldable pub laid : List ℕ → ℕ → List ℕ → List ℕ
+laid d at s = take at d ++ s ++ drop (at + length s) d

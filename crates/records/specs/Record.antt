@@ -1,0 +1,69 @@
+-- A plan record over its width W (the number of its outputs, 64) and its edition byte e (0), and when it is well formed. Definitions only.
+use mathlib.Core.Path.{_≡_}
+use mathlib.Core.Bool.{Bool, true, false, not, _&&_, _||_}
+use mathlib.Core.Logic.{_⊎_}
+use mathlib.Core.List.{List}
+use Prim.Native.Nat.{ℕ, zero, suc, _+_, _*_, _<_, _≤_}
+use lib.ListN.{length, getD, drop}
+use lib.Dec.{ltb, eqb}
+use Rattle.switch.specs.Plan.{Record, Setting, output}
+
+-- p holds of every number below n
+unfoldable pub all : ℕ → (ℕ → Bool) → Bool
+all zero p = true
+all (suc n) p = all n p && p n
+
+-- p holds of some number below n
+unfoldable pub any : ℕ → (ℕ → Bool) → Bool
+any zero p = false
+any (suc n) p = any n p || p n
+
+-- hold in two bytes, low first
+abbrev pub hold : List ℕ → ℕ
+hold b = getD b 0 0 + 256 * getD b 1 0
+
+-- byte 4 + i is the output of input i
+abbrev pub outputs : List ℕ → List ℕ
+outputs b = drop 4 b
+
+-- 255 for idle
+abbrev pub idle : List ℕ → ℕ → Bool
+idle o i = eqb (getD o i 0) 255
+
+-- each of the first N outputs below N or 255
+unfoldable pub inside : ℕ → List ℕ → ℕ → Bool
+inside N o i = ltb (getD o i 0) N || idle o i
+
+-- no output twice, but for 255
+unfoldable pub new : List ℕ → ℕ → Bool
+new o i = idle o i || not (any i (λ j. eqb (getD o j 0) (getD o i 0)))
+
+-- all later outputs 255
+unfoldable pub later : ℕ → List ℕ → ℕ → Bool
+later N o i = ltb i N || idle o i
+
+-- each of the first N outputs below N or 255, no output below N twice, all later outputs 255
+unfoldable pub outputsFine : ℕ → ℕ → List ℕ → Bool
+outputsFine W N o = all N (inside N o) && all N (new o) && all W (later N o)
+
+-- well formed means: hold at least 1, the N of the call, the zero byte zero (the edition's byte), and the outputs fine
+unfoldable pub wellFormed : ℕ → ℕ → ℕ → List ℕ → Bool
+wellFormed W e N b = ltb 0 (hold b) && eqb (getD b 2 0) N && eqb (getD b 3 0) e && outputsFine W N (outputs b)
+
+-- a record's hold and outputs
+abbrev pub decoded : List ℕ → Record
+decoded b = record { hold = hold b; outputs = outputs b }
+
+-- the same in plain statements, of a hold and W outputs
+pub record Sound (W N : ℕ) (r : Record) : Type 0 where
+  pub held : 0 < r .hold
+  pub size : length (r .outputs) ≡ W
+  pub inside : (i : ℕ) → i < N → (output r i < N) ⊎ (output r i ≡ 255)
+  pub setting : Setting N (output r)
+  pub later : (i : ℕ) → N ≤ i → i < W → output r i ≡ 255
+
+-- and of a record's bytes
+pub record WellFormed (W e N : ℕ) (b : List ℕ) : Type 0 where
+  pub ports : getD b 2 0 ≡ N
+  pub edition : getD b 3 0 ≡ e
+  pub sound : Sound W N (decoded b)

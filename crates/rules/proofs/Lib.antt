@@ -1,0 +1,17 @@
+pub mod First
+pub mod Fill
+pub mod Peel
+pub mod Ports
+pub mod Search
+pub mod Exists
+pub mod Peels
+pub mod Parity
+pub mod Bound
+pub mod Room
+pub mod ExactFrom
+pub mod Exact
+pub mod Doubled
+pub mod Rotate
+pub mod Slot
+pub mod Quick
+pub mod QuickFrom

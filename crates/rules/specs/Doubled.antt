@@ -1,0 +1,64 @@
+-- The doubled plan: the exact plan of the cells divided by u, each hold then multiplied by u, and N settings that hold the remainders. Definitions only.
+use mathlib.Core.Path.{_≡_}
+use mathlib.Core.Bool.{cond}
+use mathlib.Core.List.{List, [], _∷_, _++_, map}
+use Prim.Native.Nat.{ℕ, zero, suc, _+_, _*_, _-_, _/_, _%_, _≤_, _<_}
+use lib.ListN.{length}
+use lib.Dec.{ltb, eqb}
+use Rattle.switch.specs.Demand.{cell, longest}
+use Rattle.switch.specs.Plan.{Full, Record, Plan, total, Covers}
+use Rattle.rules.specs.Exact.{tab, exactPlan}
+
+-- u is T / N rounded up
+unfoldable pub unit : ℕ → ℕ → ℕ
+unit N T = (T + (N - 1)) / N
+
+-- the cells divided by u, rounded down
+unfoldable pub divide : ℕ → List ℕ → List ℕ
+divide u d = map (λ x. x / u) d
+
+-- the hold multiplied by u
+unfoldable pub stretch : ℕ → Record → Record
+stretch u r = record { hold = r .hold * u; outputs = r .outputs }
+
+-- rotation k: input i to output (i + k) mod N
+unfoldable pub rotate : ℕ → ℕ → ℕ → ℕ
+rotate N k i = cond (ltb i N) ((i + k) % N) 255
+
+-- setting o held for h, and left out where h is 0
+unfoldable pub held : ℕ → ℕ → (ℕ → ℕ) → List Record
+held W zero o = []
+held W (suc h) o = record { hold = suc h; outputs = tab W 0 o } ∷ []
+
+-- the settings τ k, τ (k + 1), .., n of them, setting k held for H k
+unfoldable pub turns : ℕ → (ℕ → ℕ → ℕ) → (ℕ → ℕ) → ℕ → ℕ → List Record
+turns W τ H zero k = []
+turns W τ H (suc n) k = held W (H k) (τ k) ++ turns W τ H n (suc k)
+
+-- the doubled plan with the N settings τ in its second part, where τ k is held for H u k; empty if T is 0
+unfoldable pub doubledBy : ℕ → ℕ → (ℕ → ℕ → ℕ) → (ℕ → ℕ → ℕ) → List ℕ → List Record
+doubledBy W N τ H d =
+    let u = unit N (longest N (cell N d)) in
+    cond (eqb (longest N (cell N d)) 0) [] (map (stretch u) (exactPlan W N (divide u d)) ++ turns W τ (H u) N 0)
+
+-- every rotation is held for u - 1, and so left out where u is 1
+unfoldable pub flat : ℕ → ℕ → ℕ
+flat u k = u - 1
+
+-- the doubled plan: then, if u is at least 2, N rotations, hold u - 1
+unfoldable pub doubledPlan : ℕ → ℕ → List ℕ → List Record
+doubledPlan W N d = doubledBy W N (rotate N) flat d
+
+-- τ 0 .. τ (N - 1) are full settings, and τ (which i j) joins i to j: between them they join every pair
+pub record Joins (N : ℕ) (τ : ℕ → ℕ → ℕ) : Type 0 where
+  pub full : (k : ℕ) → k < N → Full N (τ k)
+  pub which : ℕ → ℕ → ℕ
+  pub inside : (i j : ℕ) → i < N → j < N → which i j < N
+  pub joins : (i j : ℕ) → i < N → j < N → τ (which i j) i ≡ j
+
+-- at most 2N records; total at most 2T - 1, and 0 if T is 0; and it covers the demand
+pub record Doubled (N : ℕ) (d : List ℕ) (p : List Record) : Type 0 where
+  pub plan : Plan N p
+  pub few : length p ≤ 2 * N
+  pub short : total p ≤ 2 * longest N (cell N d) - 1
+  pub covers : Covers N (cell N d) p

@@ -1,0 +1,62 @@
+-- An outcome is told by its numbers: the refusal can be read back from its code, its place and its side.
+use mathlib.Core.Path.{_≡_, refl, sym, ap, _∙_}
+use mathlib.Core.Bool.{cond}
+use Prim.Native.Nat.{ℕ}
+use lib.Dec.{eqb}
+use Rattle.switch.specs.Answer.{Answer, answerOf}
+use Rattle.switch.specs.declared.Side.{Side}
+use Rattle.switch.specs.declared.Side.the-variants.{Input, Output}
+use Rattle.switch.specs.declared.Refusal.{Refusal}
+use Rattle.switch.specs.declared.Refusal.the-variants.{Ports, Cells, Line, Longest, Room, NotFinite, BelowZero, AboveMost, Torn, Records, Malformed, Named, Uncovered}
+use Rattle.switch.specs.declared.Outcome.{Outcome}
+use Rattle.switch.specs.declared.Outcome.the-variants.{Done, Refused}
+
+sideFrom : ℕ → ℕ → Side
+sideFrom s p = cond (eqb s 1) (Input (record { 0 = p })) (Output (record { 0 = p }))
+
+-- codes 1 to 5, and 6 to 13
+early : ℕ → ℕ → ℕ → Refusal → Refusal
+early c p s other =
+    cond (eqb c 1) Ports
+    (cond (eqb c 2) (Cells p)
+    (cond (eqb c 3) (Line (sideFrom s p))
+    (cond (eqb c 4) Longest (cond (eqb c 5) (Room p) other))))
+
+late : ℕ → ℕ → Refusal
+late c p =
+    cond (eqb c 6) (NotFinite p)
+    (cond (eqb c 7) (BelowZero p)
+    (cond (eqb c 8) (AboveMost p)
+    (cond (eqb c 9) (Torn p)
+    (cond (eqb c 10) (Records p)
+    (cond (eqb c 11) (Malformed p)
+    (cond (eqb c 12) (Named p) (Uncovered p)))))))
+
+outcomeFrom : Answer → Outcome
+outcomeFrom a = cond (eqb (a .code) 0) (Done (a .counts)) (Refused (early (a .code) (a .place) (a .side) (late (a .code) (a .place))))
+
+told : (o : Outcome) → outcomeFrom (answerOf o) ≡ o
+unfolding outcomeFrom early late sideFrom
+told (Done c) = refl
+told (Refused Ports) = refl
+told (Refused (Cells k)) = refl
+told (Refused (Line (Input p))) = refl
+told (Refused (Line (Output p))) = refl
+told (Refused Longest) = refl
+told (Refused (Room k)) = refl
+told (Refused (NotFinite k)) = refl
+told (Refused (BelowZero k)) = refl
+told (Refused (AboveMost k)) = refl
+told (Refused (Torn k)) = refl
+told (Refused (Records k)) = refl
+told (Refused (Malformed k)) = refl
+told (Refused (Named k)) = refl
+told (Refused (Uncovered k)) = refl
+
+-- outcomes with the same code, place, side and counts are the same
+pub answer-tells : (o p : Outcome) → answerOf o ≡ answerOf p → o ≡ p
+answer-tells o p e = sym (told o) ∙ ap outcomeFrom e ∙ told p
+
+-- A contract that gives a result by a definition determines it: any two results that satisfy it are equal.
+pub determined : {A : Type 0} (a b given : A) → a ≡ given → b ≡ given → a ≡ b
+determined a b given p q = p ∙ sym q

@@ -1,0 +1,102 @@
+-- Document 01's numbers for each case of an answer: code, place, side, records, T, total and length. Definitions only.
+use Prim.Native.Nat.{ℕ}
+use Rattle.switch.specs.declared.Side.{Side}
+use Rattle.switch.specs.declared.Side.the-variants.{Input, Output}
+use Rattle.switch.specs.declared.Refusal.{Refusal}
+use Rattle.switch.specs.declared.Refusal.the-variants.{Ports, Cells, Line, Longest, Room, NotFinite, BelowZero, AboveMost, Torn, Records, Malformed, Named, Uncovered}
+use Rattle.switch.specs.declared.Counts.{Counts}
+use Rattle.switch.specs.declared.Outcome.{Outcome}
+use Rattle.switch.specs.declared.Outcome.the-variants.{Done, Refused}
+
+-- the table of codes
+abbrev pub refusalCode : Refusal → ℕ
+refusalCode Ports = 1
+refusalCode (Cells k) = 2
+refusalCode (Line s) = 3
+refusalCode Longest = 4
+refusalCode (Room k) = 5
+refusalCode (NotFinite k) = 6
+refusalCode (BelowZero k) = 7
+refusalCode (AboveMost k) = 8
+refusalCode (Torn k) = 9
+refusalCode (Records k) = 10
+refusalCode (Malformed k) = 11
+refusalCode (Named k) = 12
+refusalCode (Uncovered k) = 13
+
+-- a line's number on its side
+abbrev pub lineNumber : Side → ℕ
+lineNumber (Input p) = p .0
+lineNumber (Output p) = p .0
+
+-- the table of places
+abbrev pub refusalPlace : Refusal → ℕ
+refusalPlace Ports = 0
+refusalPlace (Cells k) = k
+refusalPlace (Line s) = lineNumber s
+refusalPlace Longest = 0
+refusalPlace (Room k) = k
+refusalPlace (NotFinite k) = k
+refusalPlace (BelowZero k) = k
+refusalPlace (AboveMost k) = k
+refusalPlace (Torn k) = k
+refusalPlace (Records k) = k
+refusalPlace (Malformed k) = k
+refusalPlace (Named k) = k
+refusalPlace (Uncovered k) = k
+
+-- the side's number: 1 input, 2 output
+abbrev pub sideNumber : Side → ℕ
+sideNumber (Input p) = 1
+sideNumber (Output p) = 2
+
+-- a refusal with code 3 says which side the line is on; 0 for any other
+abbrev pub refusalSide : Refusal → ℕ
+refusalSide Ports = 0
+refusalSide (Cells k) = 0
+refusalSide (Line s) = sideNumber s
+refusalSide Longest = 0
+refusalSide (Room k) = 0
+refusalSide (NotFinite k) = 0
+refusalSide (BelowZero k) = 0
+refusalSide (AboveMost k) = 0
+refusalSide (Torn k) = 0
+refusalSide (Records k) = 0
+refusalSide (Malformed k) = 0
+refusalSide (Named k) = 0
+refusalSide (Uncovered k) = 0
+
+-- code 0: nothing refused
+abbrev pub codeOf : Outcome → ℕ
+codeOf (Done c) = 0
+codeOf (Refused r) = refusalCode r
+
+abbrev pub placeOf : Outcome → ℕ
+placeOf (Done c) = 0
+placeOf (Refused r) = refusalPlace r
+
+abbrev pub sideOf : Outcome → ℕ
+sideOf (Done c) = 0
+sideOf (Refused r) = refusalSide r
+
+-- a refusal gives 0 for records, T, total and length
+abbrev pub noCounts : Counts
+noCounts = record { records = 0; longest = 0; total = 0; length = 0 }
+
+abbrev pub countsOf : Outcome → Counts
+countsOf (Done c) = c
+countsOf (Refused r) = noCounts
+
+-- a call answers code, place, records, T and total; what does not apply is 0
+pub record Answer : Type 0 where
+  pub code : ℕ
+  pub place : ℕ
+  pub side : ℕ
+  pub counts : Counts
+
+abbrev pub answerOf : Outcome → Answer
+answerOf o = record { code = codeOf o; place = placeOf o; side = sideOf o; counts = countsOf o }
+
+-- what the planners and the checker count: records, T and total
+abbrev pub planCounts : ℕ → ℕ → ℕ → Counts
+planCounts records longest total = record { records = records; longest = longest; total = total; length = 0 }

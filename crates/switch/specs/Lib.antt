@@ -1,0 +1,4 @@
+pub mod Answer
+pub mod Demand
+pub mod Check
+pub mod Plan

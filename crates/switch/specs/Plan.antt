@@ -1,0 +1,43 @@
+-- Settings, plans, what they grant, and cover. Definitions only.
+use mathlib.Core.Path.{_≡_}
+use mathlib.Core.List.{List, [], _∷_}
+use Prim.Native.Nat.{ℕ, _+_, _*_, _≤_, _<_}
+use lib.ListN.{getD}
+use Rattle.counting.specs.Count.{δ}
+
+-- A setting joins some inputs to outputs, no output twice; an input may be idle. It is a function o of inputs, idle where o i is not below N.
+pub record Setting (N : ℕ) (o : ℕ → ℕ) : Type 0 where
+  pub once : (i k : ℕ) → i < N → k < N → o i < N → o i ≡ o k → i ≡ k
+
+-- a setting that joins every input
+pub record Full (N : ℕ) (o : ℕ → ℕ) : Type 0 where
+  pub inside : (i : ℕ) → i < N → o i < N
+  pub once : (i k : ℕ) → i < N → k < N → o i ≡ o k → i ≡ k
+
+-- a setting, as its list of outputs by input, and its hold
+pub record Record : Type 0 where
+  pub hold : ℕ
+  pub outputs : List ℕ
+
+-- the output of input i, 255 for idle
+unfoldable pub output : Record → ℕ → ℕ
+output r i = getD (r .outputs) i 255
+
+-- A plan is a list of settings, each with a hold of at least 1.
+pub data Plan (N : ℕ) : List Record → Type 0 where
+  none : Plan N []
+  more : {r : Record} {p : List Record} → 0 < r .hold → Setting N (output r) → Plan N p → Plan N (r ∷ p)
+
+-- the holds of the settings that join input i to output j, summed
+unfoldable pub grant : List Record → ℕ → ℕ → ℕ
+grant [] i j = 0
+grant (r ∷ p) i j = r .hold * δ (output r i) j + grant p i j
+
+-- total hold is the sum of all holds
+unfoldable pub total : List Record → ℕ
+total [] = 0
+total (r ∷ p) = r .hold + total p
+
+-- It covers a demand if for every pair the holds of the settings that join it sum to at least its cell.
+abbrev pub Covers : ℕ → (ℕ → ℕ → ℕ) → List Record → Type 0
+Covers N M p = (i j : ℕ) → i < N → j < N → M i j ≤ grant p i j

@@ -1,0 +1,62 @@
+-- The steps that are still to be made fall by one each turn.
+use Prim.Native.Nat.{_≤_, _-_}
+use borrow.Author.Needs.{needs}
+use Rattle.vectors.proofs.record.read.Statement.{statement}
+use Rattle.vectors.proofs.record.read.Tie as tie
+
+abbrev Inv-loop : tie.InvT-loop
+Inv-loop n plan steps at₀ k₀ at k = k ≤ steps
+
+abbrev μ-loop : tie.MeasureT-loop
+μ-loop n plan steps at₀ k₀ at k = steps - k
+
+open-plan-requires : tie.Need-open-plan-requires Inv-loop μ-loop
+open-plan-requires c κs = search needs
+
+answer-requires : tie.Need-answer-requires Inv-loop μ-loop
+answer-requires c κs = search needs
+
+slice-aggregate-text : tie.Need-slice-aggregate-text Inv-loop μ-loop
+slice-aggregate-text c = search needs
+
+text-requires : tie.Need-text-requires Inv-loop μ-loop
+text-requires c κs = search needs
+
+loop-holds : tie.Need-loop-holds Inv-loop μ-loop
+loop-holds c = search needs
+
+step-at-requires : tie.Need-step-at-requires Inv-loop μ-loop
+step-at-requires c κs = search needs
+
+show-step-requires : tie.Need-show-step-requires Inv-loop μ-loop
+show-step-requires c κs = search needs
+
+add-k : tie.Need-add-k Inv-loop μ-loop
+add-k c = search needs
+
+loop-less : tie.Need-loop-less Inv-loop μ-loop
+loop-less c = search needs
+
+loop-again : tie.Need-loop-again Inv-loop μ-loop
+loop-again c = search needs
+
+returns : tie.Need-returns Inv-loop μ-loop
+returns c = search needs
+
+pub read-spec : {M : Type 1} → statement M
+read-spec =
+    tie.close
+    (tie.spec
+    Inv-loop
+    μ-loop
+    open-plan-requires
+    answer-requires
+    slice-aggregate-text
+    text-requires
+    loop-holds
+    step-at-requires
+    show-step-requires
+    add-k
+    loop-less
+    loop-again
+    returns)

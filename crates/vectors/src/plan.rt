@@ -1,0 +1,45 @@
+// The planners: a demand into lent bytes.
+use switch::Outcome;
+use tape::Step;
+ghost use Prim.Native.Nat.{_≤_};
+
+// The most cells that are lent.
+const CELLS: usize = 4225;
+
+// The most bytes that are lent for a plan: 4,096 records, and 255 bytes.
+const ROOM: usize = 278783;
+
+// Plans the cells that are laid, into as many records and bytes as the step says.
+pub fn plan(step: Step, laid: &[u8])
+    requires { ⌜ (step .small ≤ 255) × (step .second ≤ 65535) ⌝ }
+{
+    let mut cells = [0u32; CELLS];
+    let count = tape::load_cells(laid, &mut cells);
+    let size = step.second * records::RECORD + step.small;
+    plan_within(step.letter, step.first, &cells[..count], size);
+}
+
+// Plans cells into so many bytes.
+fn plan_within(letter: u8, n: usize, cells: &[u32], size: usize) {
+    let mut bytes = [0u8; ROOM];
+    let room = tape::within(size, &bytes);
+    plan_into(letter, n, cells, &mut bytes[..room]);
+}
+
+// Plans into lent bytes, and prints what comes of it.
+fn plan_into(letter: u8, n: usize, cells: &[u32], lent: &mut [u8]) {
+    tape::blank(lent);
+    let outcome = planned(letter, n, cells, lent);
+    show::answer(outcome);
+    show::sum(lent);
+    show::text(b"\n");
+    show::plan(n, outcome, lent);
+}
+
+// The planner that the letter stands for.
+fn planned(letter: u8, n: usize, cells: &[u32], lent: &mut [u8]) -> Outcome {
+    if letter == b'x' {
+        return exact::exact_plan(n, cells, lent);
+    }
+    quick::quick_plan(n, cells, lent)
+}

@@ -1,0 +1,5 @@
+pub mod Ceiling
+pub mod Answer
+pub mod Floats
+pub mod Rounding
+pub mod Rows

@@ -1,0 +1,4 @@
+pub mod Faults
+pub mod Pairs
+pub mod Cells
+pub mod Answers

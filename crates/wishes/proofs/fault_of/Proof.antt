@@ -1,0 +1,48 @@
+-- Each return is the first of document 01's faults that the record has, in their order.
+use native.Mathlib.Nat.{lt-of-lt-of-le}
+use mathlib.Core.Path.{sym, ap, _∙_}
+use borrow.Author.Tests.{not-true, not-false}
+use Rattle.wishes.specs.Fault.{wishFault}
+use Rattle.wishes.proofs.Faults.{malformed, twice, its-wish, inside}
+use borrow.Author.Needs.{needs}
+use Rattle.wishes.proofs.fault_of.Statement.{statement}
+use Rattle.wishes.proofs.fault_of.Tie as tie
+
+well-formed-requires : tie.Need-well-formed-requires
+well-formed-requires c κs = search needs
+
+returns : tie.Need-returns
+returns c = sym (malformed _ _ _ _ (sym (c .before .well-formed .ensures) ∙ not-true _ (c .if1 .taken)))
+
+seen-requires : tie.Need-seen-requires
+seen-requires c κs =
+    let p = c .before .before .before .before .pre in
+    let i = inside _ _ (sym (c .before .well-formed .ensures) ∙ not-false _ (c .if1 .left)) in
+    (lt-of-lt-of-le (i .output) (p .0), lt-of-lt-of-le (i .input) (p .1 .low), lt-of-lt-of-le (i .input) (p .1 .high))
+
+returns-2 : tie.Need-returns-2
+returns-2 c = sym (twice _ _ _ _ (sym (c .before .before .before .well-formed .ensures) ∙ not-false _ (c .before .before .if1 .left)) (sym (c .before .seen .ensures) ∙ c .if2 .taken))
+
+of-bits-requires : tie.Need-of-bits-requires
+of-bits-requires c κs = search needs
+
+wish-fault-requires : tie.Need-wish-fault-requires
+wish-fault-requires c κs = search needs
+
+returns-3 : tie.Need-returns-3
+returns-3 c =
+    let s = c .before .before .before in
+    c .wish-fault .ensures ∙ ap (wishFault _) (c .before .of-bits .ensures)
+    ∙ sym (its-wish _ _ _ _ (sym (s .before .before .well-formed .ensures) ∙ not-false _ (s .before .if1 .left)) (sym (s .seen .ensures) ∙ c .before .before .if2 .left))
+
+pub fault-of-spec : {M : Type 1} → statement M
+fault-of-spec =
+    tie.close
+    (tie.spec
+    well-formed-requires
+    returns
+    seen-requires
+    returns-2
+    of-bits-requires
+    wish-fault-requires
+    returns-3)

@@ -1,0 +1,4 @@
+pub mod Record
+pub mod Fault
+pub mod Seen
+pub mod Wishes

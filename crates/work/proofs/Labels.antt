@@ -1,0 +1,165 @@
+-- The labels of the rows: marked cell by cell, and after a cell falls only its own row's label can change.
+use mathlib.Core.Path.{_≡_, sym, ap, ap₂, subst, _∙_}
+use mathlib.Core.Logic.{_≢_, inl, inr}
+use mathlib.Core.List.{List}
+use Prim.Native.Nat.{ℕ, _+_, _-_, _*_, _<_, _≤_}
+use native.Mathlib.Decide.{ℕ-discrete}
+use native.Mathlib.Omega.{arith}
+use lib.ListN.{length, getD, set, length-set}
+use lib.Seq.{getD-set-same, getD-set-other}
+use Rattle.switch.specs.Demand.{cell}
+use Rattle.switch.proofs.Demand.{index-inj}
+use Rattle.labels.specs.Label.{In, Marked, Cleared}
+use Rattle.labels.specs.Wide.{two}
+use Rattle.work.specs.Level.{Sized}
+use Rattle.work.specs.Labelled.{labelOf, RowOf, Labelled, TakePre, TakePost}
+use Rattle.work.proofs.Cells.{index-in}
+
+-- ---- one label, marked cell by cell
+
+-- l has the outputs below j whose cells, counted from `row` on, are not zero
+pub record Part (w : List ℕ) (row l j : ℕ) : Type 0 where
+  pub all : (k : ℕ) → k < j → getD w (row + k) 0 ≢ 0 → In l k
+  pub only : (k : ℕ) → In l k → (k < j) × (getD w (row + k) 0 ≢ 0)
+
+module _ (w : List ℕ) (row l : ℕ) where
+  pub part-none : ((k : ℕ) → In l k → ⊥) → Part w row l 0
+  part-none e = record { all = λ k h _. absurd (omega arith); only = λ k h. absurd (e k h) }
+
+  pub part-mark : (j r : ℕ) → getD w (row + j) 0 ≢ 0 → Marked l j r → Part w row l j → Part w row r (j + 1)
+  part-mark j r e m p = record { all = all; only = only }
+    where
+      all : (k : ℕ) → k < j + 1 → getD w (row + k) 0 ≢ 0 → In r k
+      all k h q = go (ℕ-discrete k j)
+        where
+          go : Dec (k ≡ j) → In r k
+          go (yes z) = subst (In r) (sym z) (m .put)
+          go (no z) = m .more k (p .all k (omega arith) q)
+
+      only : (k : ℕ) → In r k → (k < j + 1) × (getD w (row + k) 0 ≢ 0)
+      only k h = elim (m .only k h) [ inl z ↦ (omega (arith, p .only k z .0), p .only k z .1) | inr z ↦ (omega arith, subst (λ x. getD w (row + x) 0 ≢ 0) (sym z) e) ]
+
+  pub part-skip : (j : ℕ) → getD w (row + j) 0 ≡ 0 → Part w row l j → Part w row l (j + 1)
+  part-skip j e p = record { all = all; only = λ k h. (omega (arith, p .only k h .0), p .only k h .1) }
+    where
+      all : (k : ℕ) → k < j + 1 → getD w (row + k) 0 ≢ 0 → In l k
+      all k h q = go (ℕ-discrete k j)
+        where
+          go : Dec (k ≡ j) → In l k
+          go (yes z) = absurd (q (ap (λ x. getD w (row + x) 0) z ∙ e))
+          go (no z) = p .all k (omega arith) q
+
+  pub part-row : (N i : ℕ) → row ≡ i * N → Part w row l N → RowOf N w i l
+  unfolding cell
+  part-row N i e p = record {
+    all = λ j h q. p .all j h (λ z. omega (arith, q, ap (λ x. getD w (x + j) 0) e));
+    only = λ j h. (p .only j h .0, above j (p .only j h .1));
+  }
+    where
+      above : (j : ℕ) → getD w (row + j) 0 ≢ 0 → 0 < getD w (i * N + j) 0
+      above j q = omega (arith, ap (λ x. getD w (x + j) 0) e, q)
+
+-- ---- a label for each input
+
+pub label-same : (lows highs : List ℕ) (i a b : ℕ) → i < length lows → i < length highs → labelOf (set lows i a) (set highs i b) i ≡ two b a
+label-same lows highs i a b ll lh = ap₂ two (getD-set-same highs i b 0 lh) (getD-set-same lows i a 0 ll)
+
+pub label-other : (lows highs : List ℕ) (i k a b : ℕ) → k ≢ i → labelOf (set lows i a) (set highs i b) k ≡ labelOf lows highs k
+label-other lows highs i k a b ne = ap₂ two (getD-set-other highs i k b 0 ne) (getD-set-other lows i k a 0 ne)
+
+-- the inputs below i have their labels
+pub record Begun (N : ℕ) (w lows highs : List ℕ) (i : ℕ) : Type 0 where
+  pub low : length lows ≡ N
+  pub high : length highs ≡ N
+  pub row : (k : ℕ) → k < i → RowOf N w k (labelOf lows highs k)
+
+pub begun-next : (N : ℕ) (w lows highs : List ℕ) (i a b : ℕ) → i < N → Begun N w lows highs i → RowOf N w i (two b a) → Begun N w (set lows i a) (set highs i b) (i + 1)
+begun-next N w lows highs i a b l p q = record {
+  low = length-set lows i a ∙ p .low;
+  high = length-set highs i b ∙ p .high;
+  row = λ k h. go k h (ℕ-discrete k i);
+}
+  where
+    go : (k : ℕ) → k < i + 1 → Dec (k ≡ i) → RowOf N w k (labelOf (set lows i a) (set highs i b) k)
+    go k h (yes z) = rw (z, label-same lows highs i a b (omega (arith, p .low)) (omega (arith, p .high))) q
+    go k h (no z) = rw (label-other lows highs i k a b z) (p .row k (omega arith))
+
+-- ---- the cell of a pair falls to v
+
+module _ (N : ℕ) (w lows highs : List ℕ) (i j v : ℕ) (s : Sized N w) (li : i < N) (lj : j < N) (was : v ≤ cell N w i j) (ls : Labelled N w lows highs) where
+  abbrev after : List ℕ
+  after = set w (i * N + j) v
+
+  same : cell N after i j ≡ v
+  unfolding cell
+  same = getD-set-same w (i * N + j) v 0 (index-in N i j w s li lj .0)
+
+  other : (k m : ℕ) → m < N → ((k ≡ i) × (m ≡ j) → ⊥) → cell N after k m ≡ cell N w k m
+  unfolding cell
+  other k m hm d = getD-set-other w (i * N + j) (k * N + m) v 0 (λ e. d (index-inj N k m i j hm lj e))
+
+  -- another row's label is right still
+  row-same : (k l : ℕ) → k ≢ i → RowOf N w k l → RowOf N after k l
+  row-same k l d q = record {
+    all = λ m h e. q .all m h (rw (← other k m h (λ x. d (x .0))) e);
+    only = λ m e. (q .only m e .0, rw (other k m (q .only m e .0) (λ x. d (x .0))) (q .only m e .1));
+  }
+
+  -- the cell is zero now, and its output has left the label
+  row-zero : (l r : ℕ) → v ≡ 0 → Cleared l j r → RowOf N w i l → RowOf N after i r
+  row-zero l r z c q = record {
+    all = λ m h e.
+        let d : m ≢ j = λ x. omega (arith, e, ap (cell N after i) x, same) in
+        c .kept m (q .all m h (rw (← other i m h (λ x. d (x .1))) e)) d;
+    only = λ m e.
+        let p = q .only m (c .less m e) in
+        (p .0, rw (other i m (p .0) (λ x. c .gone (subst (In r) (x .1) e))) (p .1));
+  }
+
+  -- something is left
+  row-some : (l : ℕ) → v ≢ 0 → RowOf N w i l → RowOf N after i l
+  row-some l ne q = record { all = λ m h e. all m h e (ℕ-discrete m j); only = λ m e. (q .only m e .0, only m e (ℕ-discrete m j)) }
+    where
+      all : (m : ℕ) → m < N → 0 < cell N after i m → Dec (m ≡ j) → In l m
+      all m h e (yes x) = q .all m h (rw x (omega arith))
+      all m h e (no x) = q .all m h (rw (← other i m h (λ y. x (y .1))) e)
+
+      only : (m : ℕ) → In l m → Dec (m ≡ j) → 0 < cell N after i m
+      only m e (yes x) = rw (x, same) (omega arith)
+      only m e (no x) = rw (other i m (q .only m e .0) (λ y. x (y .1))) (q .only m e .1)
+
+  pub labels-zero : (a b : ℕ) → v ≡ 0 → Cleared (labelOf lows highs i) j (two b a) → Labelled N (set w (i * N + j) v) (set lows i a) (set highs i b)
+  labels-zero a b z c = record { low = length-set lows i a ∙ ls .low; high = length-set highs i b ∙ ls .high; row = λ k h. go k h (ℕ-discrete k i) }
+    where
+      go : (k : ℕ) → k < N → Dec (k ≡ i) → RowOf N after k (labelOf (set lows i a) (set highs i b) k)
+      go k h (yes x) = rw (x, label-same lows highs i a b (omega (arith, ls .low)) (omega (arith, ls .high))) (row-zero (labelOf lows highs i) (two b a) z c (ls .row i li))
+      go k h (no x) = rw (label-other lows highs i k a b x) (row-same k (labelOf lows highs k) x (ls .row k h))
+
+  pub labels-some : v ≢ 0 → Labelled N (set w (i * N + j) v) lows highs
+  labels-some ne = record { low = ls .low; high = ls .high; row = λ k h. go k h (ℕ-discrete k i) }
+    where
+      go : (k : ℕ) → k < N → Dec (k ≡ i) → RowOf N after k (labelOf lows highs k)
+      go k h (yes x) = rw x (row-some (labelOf lows highs i) ne (ls .row i li))
+      go k h (no x) = row-same k (labelOf lows highs k) x (ls .row k h)
+
+-- the hold is taken off the pair's cell, which stands at r
+module _ (N : ℕ) (w lows highs : List ℕ) (i j hold : ℕ) (p : TakePre N w lows highs i j hold) (r : ℕ) (e : r ≡ i * N + j) where
+  value : getD w r 0 - hold ≡ cell N w i j - hold
+  unfolding cell
+  value = ap (λ x. getD w x 0 - hold) e
+
+  stored : set w r (getD w r 0 - hold) ≡ set w (i * N + j) (cell N w i j - hold)
+  stored = ap₂ (set w) e value
+
+  pub taken-zero : (a b : ℕ) → getD w r 0 - hold ≡ 0 → Cleared (labelOf lows highs i) j (two b a)
+      → TakePost N w i j hold (set w r (getD w r 0 - hold)) (set lows i a) (set highs i b)
+  taken-zero a b z c = record {
+    taken = stored;
+    labels = rw stored (labels-zero N w lows highs i j (cell N w i j - hold) (p .sized) (p .input) (p .output) (omega arith) (p .labels) a b (sym value ∙ z) c);
+  }
+
+  pub taken-some : getD w r 0 - hold ≢ 0 → TakePost N w i j hold (set w r (getD w r 0 - hold)) lows highs
+  taken-some z = record {
+    taken = stored;
+    labels = rw stored (labels-some N w lows highs i j (cell N w i j - hold) (p .sized) (p .input) (p .output) (omega arith) (p .labels) (λ q. z (value ∙ q)));
+  }

@@ -1,0 +1,557 @@
+#!/usr/bin/env python3
+"""The planner of document 01 once more, in another language, to make stored vectors and to compare with.
+
+Written from the words of the document, with the plainest method for each sentence and no regard for speed.
+A demand is a list of cells, a plan a list of (hold, outputs), 255 for an idle input, a lent buffer is bytes.
+Each call answers an Answer, and the lent memory as it is afterwards where the call may write it.
+
+python3 makers/reference.py     runs the document's examples, its edges and its laws on random demands
+"""
+import itertools
+import math
+import random
+from fractions import Fraction
+from typing import NamedTuple
+
+PORTS = 64  # the most inputs, and the outputs that a record has room for
+RECORD = 68  # bytes of a plan record: hold, N, a zero byte, the outputs
+WISH = 8  # bytes of a wish record
+IDLE = 255  # stands where an idle input's output would
+LINE = 65_535  # the most that a line may sum to, and the largest wish
+QUICK = 1_024  # the largest T of the quick cover
+RECORDS = 8_192  # the most records of a plan that is read
+LISTED = 4_096  # the bytes of a wish list that the lister reads
+LISTED_PORTS = 16  # the most ports of the lister
+
+
+class Answer(NamedTuple):
+    """What a call answers. What does not apply is 0; side is "input" or "output" with code 3 alone."""
+
+    code: int = 0
+    place: int = 0
+    side: str = ""
+    records: int = 0
+    longest: int = 0
+    total: int = 0
+    length: int = 0
+
+
+# ---- Demand, line, cover
+
+
+def inputs_lines(n, cells):
+    return [sum(cells[i * n + j] for j in range(n)) for i in range(n)]
+
+
+def outputs_lines(n, cells):
+    return [sum(cells[i * n + j] for i in range(n)) for j in range(n)]
+
+
+def longest_line(n, cells):
+    """T: the largest line sum."""
+    return max(inputs_lines(n, cells) + outputs_lines(n, cells))
+
+
+def refused_demand(n, cells):
+    """Codes 1, 2 and 3 in turn, or None where the demand stands."""
+    if n == 0 or n > PORTS:
+        return Answer(1)
+    if len(cells) != n * n:
+        return Answer(2, n * n)
+    for i, line in enumerate(inputs_lines(n, cells)):
+        if line > LINE:
+            return Answer(3, i, "input")
+    for j, line in enumerate(outputs_lines(n, cells)):
+        if line > LINE:
+            return Answer(3, j, "output")
+    return None
+
+
+def grants(n, plan):
+    """For every pair the holds of the settings that join it, summed; by cell."""
+    granted = [0] * (n * n)
+    for hold, outputs in plan:
+        for i, j in enumerate(outputs[:n]):
+            if j != IDLE:
+                granted[i * n + j] += hold
+    return granted
+
+
+def total_hold(plan):
+    return sum(hold for hold, _ in plan)
+
+
+# ---- Wishes
+
+
+def wish_slots(bits):
+    """One binary32 by its bits: (code, slots), the slots being the least whole number not below the wish."""
+    sign, exponent, fraction = bits >> 31, bits >> 23 & 255, bits & 0x7F_FFFF
+    if exponent == 255:
+        return 6, 0
+    if exponent == 0:
+        size = Fraction(fraction) * Fraction(2) ** -149
+    else:
+        size = Fraction(fraction + 2**23) * Fraction(2) ** (exponent - 150)
+    wish = -size if sign else size
+    if wish < 0:
+        return 7, 0
+    if wish > LINE:
+        return 8, 0
+    return 0, math.ceil(wish)
+
+
+def read_wishes(n, wishes, cells):
+    """A wish list to a demand: the answer, and the lent cells afterwards."""
+    if n == 0 or n > PORTS:
+        return Answer(1), cells
+    if len(cells) != n * n:
+        return Answer(2, n * n), cells
+    if len(wishes) % WISH:
+        return Answer(9, len(wishes) // WISH), cells
+    demand = [0] * (n * n)
+    named = set()
+    for k in range(len(wishes) // WISH):
+        record = wishes[k * WISH : (k + 1) * WISH]
+        i, j = record[0], record[1]
+        if record[2] or record[3] or i >= n or j >= n:
+            return Answer(11, k), cells
+        if (i, j) in named:
+            return Answer(12, k), cells
+        code, slots = wish_slots(int.from_bytes(record[4:], "little"))
+        if code:
+            return Answer(code, k), cells
+        named.add((i, j))
+        demand[i * n + j] = slots
+    return Answer(records=len(wishes) // WISH), demand
+
+
+# ---- Plan records
+
+
+def record_bytes(hold, n, outputs):
+    """The 68 bytes of one record; outputs beyond those given are idle."""
+    return bytes([hold % 256, hold // 256, n, 0, *outputs]) + bytes([IDLE] * (PORTS - len(outputs)))
+
+
+def well_formed(n, record):
+    hold = record[0] + 256 * record[1]
+    first, later = record[4 : 4 + n], record[4 + n :]
+    joined = [j for j in first if j < n]
+    return (
+        hold >= 1
+        and record[2] == n
+        and record[3] == 0
+        and all(j < n or j == IDLE for j in first)
+        and len(set(joined)) == len(joined)
+        and all(j == IDLE for j in later)
+    )
+
+
+def write_record(n, hold, outputs, buffer):
+    """One record at the start of the lent buffer, from 64 outputs: the answer, and the buffer afterwards."""
+    if n == 0 or n > PORTS:
+        return Answer(1), buffer
+    if len(buffer) < RECORD:
+        return Answer(5, 1), buffer
+    record = bytes([hold % 256, hold // 256, n, 0, *outputs])
+    if not well_formed(n, record):
+        return Answer(11), buffer
+    return Answer(records=1, total=hold), record + buffer[RECORD:]
+
+
+def refused_plan(n, plan):
+    """Codes 1, 9 and 10 in turn, or None where the plan may be read."""
+    if n == 0 or n > PORTS:
+        return Answer(1)
+    if len(plan) % RECORD:
+        return Answer(9, len(plan) // RECORD)
+    if len(plan) // RECORD > RECORDS:
+        return Answer(10, RECORDS)
+    return None
+
+
+class Reader(NamedTuple):
+    """The plan's bytes and the place reached; a refused reader stands at the end of nothing."""
+
+    n: int
+    plan: bytes
+    at: int
+
+
+def open_plan(n, plan):
+    """Opens a plan for an N: the answer, and the reader."""
+    refused = refused_plan(n, plan)
+    if refused:
+        return refused, Reader(n, b"", 0)
+    return Answer(records=len(plan) // RECORD), Reader(n, plan, 0)
+
+
+class Step(NamedTuple):
+    """What a step gives: "record", "end", or "malformed" with the record's number as the place."""
+
+    kind: str
+    place: int
+    hold: int
+    outputs: bytes
+
+
+def step(reader):
+    """The next record, or the end, or code 11; after the last two the reader stays where it is."""
+    nothing = bytes([IDLE] * PORTS)
+    record = reader.plan[reader.at * RECORD : (reader.at + 1) * RECORD]
+    if not record:
+        return Step("end", 0, 0, nothing), reader
+    if not well_formed(reader.n, record):
+        return Step("malformed", reader.at, 0, nothing), reader
+    hold = record[0] + 256 * record[1]
+    return Step("record", reader.at, hold, record[4:]), reader._replace(at=reader.at + 1)
+
+
+def read_plan(n, plan):
+    """Every record of a plan: (refusal or None, list of (hold, outputs))."""
+    refused, reader = open_plan(n, plan)
+    if refused.code:
+        return refused, []
+    records = []
+    while True:
+        given, reader = step(reader)
+        if given.kind == "end":
+            return None, records
+        if given.kind == "malformed":
+            return Answer(11, given.place), []
+        records.append((given.hold, list(given.outputs)))
+
+
+# ---- The exact plan
+
+
+def fill(n, cells, longest):
+    """Adds to each cell, row by row, the smaller of what its row and its column still lack of T."""
+    filled = list(cells)
+    rows, columns = inputs_lines(n, cells), outputs_lines(n, cells)
+    for i in range(n):
+        for j in range(n):
+            more = min(longest - rows[i], longest - columns[j])
+            filled[i * n + j] += more
+            rows[i] += more
+            columns[j] += more
+    return filled
+
+
+def full_matching(wanted, inputs, free, known):
+    """Joins every one of the inputs to a free output that it wants, each output once: a dict, or None if none exists.
+
+    wanted[i] and free are sets of outputs as bits. The pairs of an earlier joining that still may stand are where it begins.
+    An input asks its outputs; a held output asks its holder to move. An input that is refused when all its outputs, and those
+    of the inputs it asked, have been tried shows that the inputs cannot all be joined.
+    """
+    holder = {1 << known[i]: i for i in inputs if i in known and free >> known[i] & 1}  # of an output's bit, its input
+    joined = set(holder.values())
+
+    def ask(i, tried):
+        """Joins input i, moving others where it must: whether it could, and the outputs tried."""
+        for low in bits(wanted[i] & free):
+            if tried & low:
+                continue
+            tried |= low
+            moved = low not in holder
+            if not moved:
+                moved, tried = ask(holder[low], tried)
+            if moved:
+                holder[low] = i
+                return True, tried
+        return False, tried
+
+    for i in inputs:
+        if i not in joined and not ask(i, 0)[0]:
+            return None
+    return {i: low.bit_length() - 1 for low, i in holder.items()}
+
+
+def bits(label):
+    """The bits of a set, lowest first."""
+    while label:
+        low = label & -label
+        yield low
+        label ^= low
+
+
+def first_setting(n, cells):
+    """The full setting on non-zero cells whose list of outputs is first in dictionary order.
+
+    For each input in turn the lowest output after which the inputs that are left can still all be joined.
+    """
+    wanted = [sum(1 << j for j in range(n) if cells[i * n + j]) for i in range(n)]
+    known = full_matching(wanted, range(n), (1 << n) - 1, {})
+    free, outputs = (1 << n) - 1, []
+    for i in range(n):
+        for j in range(n):
+            if not (wanted[i] & free) >> j & 1:
+                continue
+            if known[i] == j:
+                break  # the setting already found shows that the rest can be joined
+            rest = full_matching(wanted, range(i + 1, n), free & ~(1 << j), known)
+            if rest is not None:
+                known = rest
+                break
+        outputs.append(j)
+        free &= ~(1 << j)
+    return outputs
+
+
+def exact_list(n, cells):
+    """The exact plan as a list of (hold, outputs)."""
+    longest = longest_line(n, cells)
+    left = fill(n, cells, longest)
+    plan = []
+    while any(left):
+        outputs = first_setting(n, left)
+        hold = min(left[i * n + j] for i, j in enumerate(outputs))
+        for i, j in enumerate(outputs):
+            left[i * n + j] -= hold
+        plan.append((hold, outputs))
+    return plan
+
+
+# ---- The doubled plan and the quick cover
+
+
+def doubled_list(n, cells):
+    """The exact plan of the quotients, holds times u; then, if u is at least 2, N rotations of hold u - 1."""
+    longest = longest_line(n, cells)
+    if longest == 0:
+        return []
+    u = -(-longest // n)
+    plan = [(hold * u, outputs) for hold, outputs in exact_list(n, [cell // u for cell in cells])]
+    if u >= 2:
+        plan += [(u - 1, [(i + k) % n for i in range(n)]) for k in range(n)]
+    return plan
+
+
+def quick_list(n, cells):
+    """One record of hold 1 per slot, inputs visited from slot mod N around, each taking the lowest free output."""
+    left, plan = list(cells), []
+    while any(left):
+        slot = len(plan)
+        outputs, taken = [IDLE] * n, set()
+        for i in [(slot + k) % n for k in range(n)]:
+            for j in range(n):
+                if left[i * n + j] and j not in taken:
+                    outputs[i] = j
+                    taken.add(j)
+                    left[i * n + j] -= 1
+                    break
+        plan.append((1, outputs))
+    return plan
+
+
+def planned(n, cells, plan, buffer):
+    """Writes a plan at the start of the lent buffer, or refuses with code 5 and writes nothing."""
+    if len(buffer) // RECORD < len(plan):
+        return Answer(5, len(plan)), buffer
+    written = b"".join(record_bytes(hold, n, outputs) for hold, outputs in plan)
+    answer = Answer(records=len(plan), longest=longest_line(n, cells), total=total_hold(plan))
+    return answer, written + buffer[len(written) :]
+
+
+def exact_plan(n, cells, buffer):
+    refused = refused_demand(n, cells)
+    return (refused, buffer) if refused else planned(n, cells, exact_list(n, cells), buffer)
+
+
+def doubled_plan(n, cells, buffer):
+    refused = refused_demand(n, cells)
+    return (refused, buffer) if refused else planned(n, cells, doubled_list(n, cells), buffer)
+
+
+def quick_plan(n, cells, buffer):
+    refused = refused_demand(n, cells)
+    if refused:
+        return refused, buffer
+    if longest_line(n, cells) > QUICK:
+        return Answer(4), buffer
+    return planned(n, cells, quick_list(n, cells), buffer)
+
+
+# ---- The checker and the length
+
+
+def check_plan(n, cells, plan):
+    refused = refused_demand(n, cells) or refused_plan(n, plan)
+    if refused:
+        return refused
+    refused, records = read_plan(n, plan)
+    if refused:
+        return refused
+    for k, (granted, asked) in enumerate(zip(grants(n, records), cells)):
+        if granted < asked:
+            return Answer(13, k)
+    return Answer(records=len(records), longest=longest_line(n, cells), total=total_hold(records))
+
+
+def plan_length(n, plan, d):
+    refused = refused_plan(n, plan)
+    if refused:
+        return refused
+    refused, records = read_plan(n, plan)
+    if refused:
+        return refused
+    total = total_hold(records)
+    return Answer(records=len(records), total=total, length=total + d * len(records))
+
+
+# ---- The lister
+
+
+def lister(stdin):
+    """What the lister prints for the bytes at its standard input."""
+    wishes = stdin[:LISTED]
+    ports = [port for k in range(len(wishes) // WISH) for port in wishes[k * WISH : k * WISH + 2]]
+    n = max(ports) + 1 if ports else 0
+    if n == 0 or n > LISTED_PORTS:
+        return refusal_line(Answer(1))
+    answer, cells = read_wishes(n, wishes, [0] * (n * n))
+    if answer.code:
+        return refusal_line(answer)
+    refused = refused_demand(n, cells)
+    if refused:
+        return refusal_line(refused)
+    plan = exact_list(n, cells)
+    lines = [f"ports {n} longest {longest_line(n, cells)} records {len(plan)} total {total_hold(plan)}"]
+    lines += [record_line(hold, outputs) for hold, outputs in plan]
+    return "".join(line + "\n" for line in lines)
+
+
+def record_line(hold, outputs):
+    """Hold, then the outputs by input, 255 printed as a dash."""
+    return " ".join([str(hold)] + ["-" if j == IDLE else str(j) for j in outputs])
+
+
+def refusal_line(answer):
+    side = [answer.side] if answer.side else []
+    return " ".join(["refused", str(answer.code), *side, str(answer.place)]) + "\n"
+
+
+# ---- The document's examples, its edges, and its laws tried on random demands
+
+
+def wish_record(i, j, value_bits, spare=0):
+    return bytes([i, j]) + spare.to_bytes(2, "little") + value_bits.to_bytes(4, "little")
+
+
+def plan_text(plan):
+    return "; ".join(f"{hold}:" + record_line(hold, outputs).split(" ", 1)[1] for hold, outputs in plan)
+
+
+SMALL = [  # no., N, demand, method, plan
+    ("P1", 2, [2, 1, 1, 2], exact_list, "2:0 1; 1:1 0"),
+    ("P2", 2, [2, 1, 1, 2], doubled_list, "2:0 1; 1:0 1; 1:1 0"),
+    ("P3", 2, [2, 1, 1, 2], quick_list, "1:0 1; 1:1 0; 1:0 1"),
+    ("P4", 2, [3, 0, 1, 0], exact_list, "3:0 1; 1:1 0"),
+    ("P5", 2, [3, 0, 1, 0], quick_list, "1:0 -; 1:- 0; 1:0 -; 1:0 -"),
+    ("P6", 3, [1, 0, 1, 0, 1, 1, 1, 1, 0], exact_list, "1:0 2 1; 1:2 1 0"),
+    ("P7", 3, [1, 0, 1, 0, 1, 1, 1, 1, 0], quick_list, "1:0 1 -; 1:- 2 0; 1:2 - 1"),
+    ("P8", 1, [5], doubled_list, "5:0; 4:0"),
+    ("P9", 4, [5, 0, 0, 0, 0, 5, 0, 0, 0, 0, 5, 0, 0, 0, 0, 5], doubled_list, "4:0 1 2 3; 1:0 1 2 3; 1:1 2 3 0; 1:2 3 0 1; 1:3 0 1 2"),
+    ("P10", 1, [0], exact_list, ""),
+]
+
+BITS = [  # bits, (code, slots)
+    (0x00000000, (0, 0)),
+    (0x80000000, (0, 0)),
+    (0x00000001, (0, 1)),
+    (0x3F800000, (0, 1)),
+    (0x3FC00000, (0, 2)),
+    (0x477FFF00, (0, 65_535)),
+    (0x477FFF01, (8, 0)),
+    (0x80000001, (7, 0)),
+    (0x7FC00000, (6, 0)),
+    (0x7F800000, (6, 0)),
+    (0xFF800000, (6, 0)),
+]
+
+
+def same(what, got, wanted):
+    if got != wanted:
+        raise SystemExit(f"{what}: {got!r} where {wanted!r} is due")
+
+
+def examples():
+    for name, n, cells, method, text in SMALL:
+        same(name, plan_text(method(n, cells)), text)
+    for bits, due in BITS:
+        same(f"wish {bits:08X}", wish_slots(bits), due)
+    two = [wish_record(0, 0, 0x40000000), wish_record(0, 1, 0x3F800000), wish_record(1, 0, 0x3F000000), wish_record(1, 1, 0x3FC00000)]
+    same("the lister's example", lister(b"".join(two)), "ports 2 longest 3 records 2 total 3\n2 0 1\n1 1 0\n")
+
+
+def edges():
+    room = bytes([170] * 680)
+    same("T = 4, N = 4", doubled_list(4, [4, *[0] * 15]), [(4, [0, 1, 2, 3])])
+    same("T = 5, N = 4", [hold for hold, _ in doubled_list(4, [5, *[0] * 15])], [4, 1, 1, 1, 1])
+    same("65,535 passes", exact_plan(1, [65_535], room)[0], Answer(records=1, longest=65_535, total=65_535))
+    same("65,536 is code 3", exact_plan(1, [65_536], room), (Answer(3, 0, "input"), room))
+    same("a column over", exact_plan(2, [0, 65_535, 0, 1], room)[0], Answer(3, 1, "output"))
+    idle = record_bytes(1, 1, [IDLE])
+    same("8,192 records", check_plan(1, [0], idle * 8_192).records, 8_192)
+    same("8,193 records", check_plan(1, [0], idle * 8_193), Answer(10, 8_192))
+    same("8,193 and a tail", open_plan(1, idle * 8_193 + b"\0")[0], Answer(9, 8_193))
+    same("P1's first record", exact_plan(2, [2, 1, 1, 2], room)[1][:RECORD], bytes([2, 0, 2, 0, 0, 1]) + bytes([255] * 62))
+    same("bytes after the plan", exact_plan(2, [2, 1, 1, 2], room)[1][2 * RECORD :], room[2 * RECORD :])
+    same("no room", exact_plan(2, [2, 1, 1, 2], room[: 2 * RECORD - 1]), (Answer(5, 2), room[: 2 * RECORD - 1]))
+    same("1,024 by quick", quick_plan(1, [1_024], room)[0], Answer(5, 1_024))
+    same("1,025 by quick", quick_plan(1, [1_025], room)[0], Answer(4))
+
+
+def brute_first(n, cells):
+    """The first full setting by trying every permutation in dictionary order."""
+    return next(list(p) for p in itertools.permutations(range(n)) if all(cells[i * n + p[i]] for i in range(n)))
+
+
+def laws(n, cells):
+    """Document 01's promises for one demand."""
+    asked, longest = sum(cells), longest_line(n, cells)
+    filled = fill(n, cells, longest)
+    same("filled lines", set(inputs_lines(n, filled) + outputs_lines(n, filled)), {longest})
+    if n <= 5 and longest:
+        same("first setting", first_setting(n, filled), brute_first(n, filled))
+    exact, doubled, quick = exact_list(n, cells), doubled_list(n, cells), quick_list(n, cells)
+    same("exact grants the filled demand", grants(n, exact), filled)
+    same("exact total", total_hold(exact), longest)
+    same("exact records", len(exact) <= min(longest, n * n - 2 * n + 2), True)
+    same("doubled records", len(doubled) <= 2 * n, True)
+    same("doubled total", total_hold(doubled) <= max(0, 2 * longest - 1), True)
+    same("quick records", longest <= len(quick) <= max(0, 2 * longest - 1), True)
+    same("quick grants", grants(n, quick), cells)
+    same("quick slots", sum(1 for _, outputs in quick for j in outputs if j != IDLE), asked)
+    for method, plan in ((exact_plan, exact), (doubled_plan, doubled), (quick_plan, quick)):
+        if method is quick_plan and longest > QUICK:
+            continue
+        room = bytes([170] * (RECORD * len(plan) + 5))
+        answer, written = method(n, cells, room)
+        same("the checker", check_plan(n, cells, written[:-5]), answer)
+        same("the tail", written[-5:], room[-5:])
+        same("too little room", method(n, cells, room[: len(plan) * RECORD - 1]), (Answer(5, len(plan)), room[: len(plan) * RECORD - 1])) if plan else None
+        same("read back", read_plan(n, written[:-5])[1], [(hold, outputs + [IDLE] * (PORTS - n)) for hold, outputs in plan])
+        same("length", plan_length(n, written[:-5], 7).length, total_hold(plan) + 7 * len(plan))
+
+
+def random_demand(rng, n, most, share):
+    return [rng.randint(0, most) if rng.random() < share else 0 for _ in range(n * n)]
+
+
+def selftest():
+    examples()
+    edges()
+    rng = random.Random(68)
+    for _ in range(400):
+        n = rng.choice([1, 2, 2, 3, 3, 4, 4, 5, 6, 7])
+        laws(n, random_demand(rng, n, rng.choice([1, 2, 5, 40]), rng.choice([0.2, 0.5, 1.0])))
+    for n in (12, 16):
+        laws(n, random_demand(rng, n, 9, 0.6))
+    print("the examples, the edges and the laws on 402 demands hold")
+
+
+if __name__ == "__main__":
+    selftest()

@@ -1,0 +1,90 @@
+"""The tapes that crates/vectors reads, and the lines that it prints: how a case is written down.
+
+A tape is a row of steps. A step is eight bytes: a letter, a small number of one byte, two numbers of two bytes and the number
+of bytes that follow, low byte first. `+` lays the bytes that follow it, as often as its first number says, after those laid
+already. Any other letter is a call on all that is laid, and the bytes that follow it are the case's name; afterwards nothing is
+laid. Tapes may be put one after the other, and so may the lines that they give.
+
+| letter | call | first | second | small | laid |
+|---|---|---|---|---|---|
+| x, d, q | exact, doubled, quick | N | whole records of room | bytes of room more | cells |
+| k | check | N | cells, of those laid the first | 0 | cells, then the plan |
+| l | length | N | d | 0 | the plan |
+| r | open, and every step | N | 0 | 0 | the plan |
+| w | write one record | N | hold | bytes of room | 64 outputs |
+| t | the lister's text | 0 | 0 | 0 | standard input |
+
+A case's line is its name and what the call answered; planners and the writer add a checksum of the lent buffer, which is filled
+with the byte 170 before the call.
+"""
+import sys
+
+import reference as ref
+
+BLANK = 170
+
+
+def step(letter, small=0, first=0, second=0, follow=b""):
+    numbers = b"".join(number.to_bytes(2, "little") for number in (first, second, len(follow)))
+    return letter.encode() + bytes([small]) + numbers + follow
+
+
+def lay(*parts):
+    """Steps that lay each part, a pair of bytes and how often."""
+    return b"".join(step("+", first=times, follow=data) for data, times in parts if data and times)
+
+
+def lay_cells(cells):
+    """Steps that lay cells, runs of a repeated row of cells written once."""
+    return lay(*[(b"".join(cell.to_bytes(4, "little") for cell in run), times) for run, times in runs(cells)])
+
+
+def runs(items):
+    """Cuts a list into (part, times) pieces: greedily the repetition of up to 65 items that saves most, else single items."""
+    pieces, single, at = [], [], 0
+    while at < len(items):
+        period, times = longest_repeat(items, at)
+        if times * period - period >= 8:
+            pieces += [(single, 1)] if single else []
+            pieces.append((items[at : at + period], times))
+            single, at = [], at + period * times
+        else:
+            single.append(items[at])
+            at += 1
+    return pieces + ([(single, 1)] if single else [])
+
+
+def longest_repeat(items, at):
+    best = (1, 1)
+    for period in (1, 2, 3, 4, 5, 8, 9, 16, 17, 33, 34, 64, 65):
+        times = 1
+        while items[at + times * period : at + (times + 1) * period] == items[at : at + period] and at + (times + 1) * period <= len(items):
+            times += 1
+        if (times - 1) * period > (best[1] - 1) * best[0]:
+            best = (period, times)
+    return best
+
+
+def checksum(data):
+    total = 1
+    for byte in data:
+        total = (total * 257 + byte + 1) % 4_294_967_291
+    return total
+
+
+def answer_text(answer):
+    side = answer.side or "-"
+    return (
+        f" code {answer.code} place {answer.place} side {side} records {answer.records}"
+        f" longest {answer.longest} total {answer.total} length {answer.length}"
+    )
+
+
+def main(cases):
+    """`stdin` writes the tape and `stdout` the lines of cases, a list of (tape, text), to standard output."""
+    part = {"stdin": 0, "stdout": 1}.get(sys.argv[-1])
+    if part is None:
+        raise SystemExit(f"usage: {sys.argv[0]} stdin|stdout")
+    for case in cases:
+        data = case[part]
+        sys.stdout.buffer.write(data.encode() if part else data)

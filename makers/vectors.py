@@ -1,0 +1,13 @@
+#!/usr/bin/env python3
+"""All stored cases of crates/vectors, one tape and its lines.
+
+python3 makers/vectors.py stdin > crates/vectors/stdin
+python3 makers/vectors.py stdout > crates/vectors/stdout
+"""
+import check_vectors
+import plan_vectors
+import record_vectors
+import tape
+
+if __name__ == "__main__":
+    tape.main([*record_vectors.cases(), *check_vectors.cases(), *plan_vectors.cases()])

@@ -1,0 +1,160 @@
+#!/usr/bin/env python3
+"""Makes the vectors of wishes: what the programs wish_vectors and wishes_vectors read, and what they must print.
+
+Written from document 01 alone, with exact fractions; it shares nothing with the proved code. Run it from the repository's root:
+    python3 makers/wish_vectors.py            writes stdin and stdout of both programs
+    python3 makers/wish_vectors.py --check    says whether they are as they would be written
+"""
+import math
+import pathlib
+import random
+import struct
+import sys
+from fractions import Fraction
+
+MOST_SLOTS = 65535
+MOST_PORTS = 64
+RECORD = 8
+
+
+# ---- one wish
+
+def value(bits):
+    """The exact value of a binary32 pattern, or None for a NaN or an infinity (IEEE 754, 3.4)."""
+    sign, exponent, fraction = bits >> 31, bits >> 23 & 0xFF, bits & 0x7FFFFF
+    if exponent == 0xFF:
+        return None
+    if exponent == 0:
+        size = Fraction(fraction, 2 ** 149)
+    else:
+        size = Fraction(2 ** 23 + fraction) * Fraction(2) ** (exponent - 150)
+    return -size if sign else size
+
+
+def wish(bits):
+    """Code and slots of one wish."""
+    asked = value(bits)
+    if asked is None:
+        return 6, 0
+    assert asked == Fraction(struct.unpack("<f", struct.pack("<I", bits))[0])
+    if asked < 0:
+        return 7, 0
+    if asked > MOST_SLOTS:
+        return 8, 0
+    return 0, math.ceil(asked)
+
+
+def bits_of(number):
+    """The pattern of a number that a binary32 holds exactly."""
+    bits = struct.unpack("<I", struct.pack("<f", number))[0]
+    assert value(bits) == Fraction(number)
+    return bits
+
+
+def patterns():
+    """Both zeros, subnormals, each side of whole numbers, NaNs of all kinds, infinities, powers of two, and random patterns."""
+    sign, quiet = 0x80000000, 0x00400000
+    infinity, smallest_normal = 0x7F800000, 0x00800000
+    table = [0x00000000, 0x80000000, 0x00000001, 0x3F800000, 0x3FC00000, 0x477FFF00, 0x477FFF01, 0x80000001, 0x7FC00000, 0x7F800000, 0xFF800000]
+    subnormal = [0, 1, 2, 3, 0x3FFFFF, 0x400000, 0x7FFFFE, 0x7FFFFF, smallest_normal, smallest_normal + 1]
+    whole = [0.5, 1, 1.5, 2, 3, 4, 127, 128, 255, 256, 257, 511, 512, 1023, 1024, 4095, 4096, 32767, 32768, 65533, 65534, 65534.5, 65535, 65536, 2 ** 24, 2 ** 31, 2 ** 32, 2 ** 64]
+    sides = [bits_of(w) + d for w in whole for d in (-1, 0, 1)]
+    payloads = [1, 2, 0x155555, 0x2AAAAA, 0x3FFFFF]
+    nans = [infinity | q | p for q in (0, quiet) for p in payloads] + [infinity | quiet]
+    powers = [e << 23 for e in range(1, 255, 11)]
+    some = random.Random(754)
+    anything = [some.getrandbits(32) for _ in range(60)]
+    in_range = [bits_of(some.randrange(0, 65536)) + some.randrange(-2, 3) for _ in range(30)]
+    small = [some.randrange(0x3C000000, 0x44000000) for _ in range(30)]
+    plus = subnormal + sides + nans + [infinity, infinity - 1] + powers
+    minus = subnormal + sides[:12] + sides[-6:] + nans + [infinity, infinity - 1]
+    return table + plus + [sign | b for b in minus] + anything + in_range + small
+
+
+# ---- a list of wishes
+
+def wishes(n, data, cells):
+    """The answer (code, place, records) and the cells afterwards."""
+    whole = len(data) // RECORD
+    if not 1 <= n <= MOST_PORTS:
+        return (1, 0, 0), cells
+    if len(cells) != n * n:
+        return (2, n * n, 0), cells
+    if len(data) % RECORD != 0:
+        return (9, whole, 0), cells
+    asked = {}
+    for k in range(whole):
+        i, j, spare, spare_too, bits = struct.unpack_from("<BBBBI", data, RECORD * k)
+        if i >= n or j >= n or spare != 0 or spare_too != 0:
+            return (11, k, 0), cells
+        if (i, j) in asked:
+            return (12, k, 0), cells
+        code, asked[i, j] = wish(bits)
+        if code != 0:
+            return (code, k, 0), cells
+    return (0, 0, whole), [asked.get((p // n, p % n), 0) for p in range(n * n)]
+
+
+def record(i, j, number=None, bits=None, spare=0, spare_too=0):
+    return struct.pack("<BBBBI", i, j, spare, spare_too, bits_of(number) if bits is None else bits)
+
+
+def lists():
+    """Cases (n, how many cells are lent, the list's bytes)."""
+    nan, plus_infinity, minus_infinity, least_below, too_much = 0x7FC00000, 0x7F800000, 0xFF800000, 0x80000001, 0x477FFF01
+    good = record(0, 0, 2.0) + record(0, 1, 1.0) + record(1, 0, 0.5) + record(1, 1, 1.5)
+    one = record(1, 0, 3.25)
+    cases = [
+        # valid: document 01's list, none named, one named, zero and minus zero named, the largest, the smallest
+        (2, 4, good), (2, 4, b""), (1, 1, b""), (3, 9, record(1, 2, 7.0)), (2, 4, record(0, 0, 0.0) + record(1, 1, bits=0x80000000)),
+        (1, 1, record(0, 0, 65535.0)), (1, 1, record(0, 0, bits=1)), (3, 9, record(2, 1, 255.5) + record(1, 2, 256.25) + record(2, 2, 65534.5)),
+        # code 1 and code 2, with and without what comes later
+        (0, 0, b""), (0, 4, good), (65, 4, b""), (300, 16, good), (256, 1, one[:3]), (2, 3, good), (2, 5, good), (2, 0, b""), (3, 4, good[:7]), (64, 64, b""),
+        # code 9: the whole records are its place, whatever is in them
+        (2, 4, good[:-1]), (2, 4, good + b"\0"), (2, 4, good[:7]), (2, 4, good[:1]), (2, 4, record(9, 9, bits=nan) + b"\1"),
+        # code 11: a port not below n, a spare byte
+        (2, 4, one + record(2, 0, 1.0)), (2, 4, one + record(0, 2, 1.0)), (2, 4, record(0, 0, 1.0, spare=1)), (2, 4, record(0, 0, 1.0, spare_too=128)),
+        (8, 64, record(7, 7, 1.0) + record(8, 0, 1.0)), (2, 4, record(255, 255, 1.0)),
+        # code 12: at once, later, for a pair with no slots, not for the pair turned round
+        (2, 4, one + one), (2, 4, good + record(0, 1, 9.0)), (2, 4, record(1, 1, 0.0) + record(1, 1, 0.0)), (2, 4, record(0, 1, 1.0) + record(1, 0, 2.0)),
+        (8, 64, record(7, 7, 1.0) + record(7, 6, 1.0) + record(6, 7, 1.0) + record(7, 7, 1.0)),
+        # codes 6, 7 and 8
+        (2, 4, one + record(0, 0, bits=nan)), (2, 4, one + record(0, 0, bits=plus_infinity)), (2, 4, one + record(0, 0, bits=minus_infinity)), (2, 4, record(0, 0, bits=0xFFFFFFFF)),
+        (2, 4, one + record(0, 0, bits=least_below)), (2, 4, one + record(0, 0, -1.0)), (2, 4, one + record(0, 0, bits=too_much)), (2, 4, record(0, 0, 2.0 ** 40)),
+        # several at once: the first faulty record, and there the first of 11, 12, 6, 7, 8
+        (2, 4, one + record(1, 0, bits=nan)), (2, 4, one + record(1, 0, bits=nan, spare=1)), (2, 4, one + record(1, 0, bits=least_below)), (2, 4, one + record(1, 0, bits=too_much)),
+        (2, 4, record(0, 0, bits=too_much) + record(5, 0, 1.0)), (2, 4, record(0, 0, 1.0) + record(0, 1, bits=least_below) + record(0, 0, 1.0)), (2, 4, record(2, 0, bits=nan) + one + one),
+    ]
+    some = random.Random(12)
+    for n in (3, 5, 64):
+        pairs = [(i, j) for i in range(n) for j in range(n)]
+        some.shuffle(pairs)
+        cases.append((n, n * n, b"".join(record(i, j, some.randrange(0, 4 * MOST_SLOTS) / 4) for i, j in pairs[:n * n])))
+    return cases
+
+
+# ---- what is stored
+
+def files():
+    marks = patterns()
+    assert len(marks) >= 200
+    word_in = b"".join(struct.pack("<I", b) for b in marks)
+    word_out = "".join("%08x %d %d\n" % (b, *wish(b)) for b in marks)
+    list_in, list_out = b"", ""
+    for n, lent, data in lists():
+        list_in += struct.pack("<HHH", n, lent, len(data)) + data
+        answer, cells = wishes(n, data, [7] * lent)
+        list_out += " code %d place %d side - records %d longest 0 total 0 length 0\n" % answer + "".join(" %d" % c for c in cells) + "\n"
+    return {
+        "crates/wish_vectors/stdin": word_in, "crates/wish_vectors/stdout": word_out.encode(),
+        "crates/wishes_vectors/stdin": list_in, "crates/wishes_vectors/stdout": list_out.encode(),
+    }
+
+
+if sys.argv[1:] == ["--check"]:
+    wrong = [name for name, data in files().items() if pathlib.Path(name).read_bytes() != data]
+    print("differ: " + " ".join(wrong) if wrong else "as made")
+    sys.exit(1 if wrong else 0)
+for name, data in files().items():
+    pathlib.Path(name).write_bytes(data)
+    print(name, len(data), "bytes")
