@@ -22,9 +22,9 @@ use Rattle.rules.specs.Quick.{may}
 use Rattle.rules.proofs.Ports.{put-same, put-other}
 use Rattle.rules.proofs.Peel.{peel-at, peel-off}
 use Rattle.rules.proofs.Slot.{lowest-at, lowest-none, may-yes, may-is}
-use Rattle.quick.specs.declared.Turn.{Turn}
+use Rattle.slot.specs.declared.Turn.{Turn}
 use Rattle.work.specs.Labelled.{RowOf, TakePost}
-use Rattle.quick.specs.Slots.{leftIn, Copy, turnOf, Turned}
+use Rattle.slot.specs.Filled.{leftIn, Copy, turnOf, Turned}
 
 -- ---- sets and tests
 

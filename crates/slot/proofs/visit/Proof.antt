@@ -7,10 +7,10 @@ use Rattle.labels.specs.declared.Found.{Found}
 use Rattle.labels.specs.Label.{Lowest, LowestAt}
 use Rattle.labels.specs.Wide.{outputsOf}
 use Rattle.work.specs.Labelled.{labelOf}
-use Rattle.quick.proofs.Turns.{turn-none, turn-at, some-left, turned-none, turned-at}
+use Rattle.slot.proofs.Turns.{turn-none, turn-at, some-left, turned-none, turned-at}
 use borrow.Author.Needs.{needs}
-use Rattle.quick.proofs.visit.Statement.{statement}
-use Rattle.quick.proofs.visit.Tie as tie
+use Rattle.slot.proofs.visit.Statement.{statement}
+use Rattle.slot.proofs.visit.Tie as tie
 
 mul-low : tie.Need-mul-low
 mul-low c = search needs

@@ -1,19 +1,19 @@
--- The quick cover from slot to slot, on a working copy with a label for each input: what each step may assume and what it promises. Definitions only.
+-- One slot on a working copy with a label for each input: what each turn may assume and what it promises. Definitions only.
 use mathlib.Core.Path.{_≡_}
 use mathlib.Core.Bool.{true}
 use mathlib.Core.List.{List, _∷_}
-use Prim.Native.Nat.{ℕ, _+_, _*_, _≤_, _<_}
+use Prim.Native.Nat.{ℕ, _+_, _≤_, _<_}
 use lib.ListN.{length, getD, set}
 use Rattle.counting.specs.Sum.{sum}
 use Rattle.counting.specs.Matrix.{row}
-use Rattle.switch.specs.Demand.{cell, longest}
+use Rattle.switch.specs.Demand.{cell}
 use Rattle.switch.specs.Plan.{Record}
 use Rattle.labels.specs.Label.{hasOutput}
 use Rattle.labels.specs.Wide.{outputsOf}
 use Rattle.rules.specs.Search.{put}
 use Rattle.rules.specs.Peel.{peel}
 use Rattle.rules.specs.Quick.{lowest, may, quickFrom}
-use Rattle.quick.specs.declared.Turn.{Turn}
+use Rattle.slot.specs.declared.Turn.{Turn}
 use Rattle.work.specs.Level.{Sized}
 use Rattle.work.specs.Labelled.{Labelled}
 
@@ -36,22 +36,6 @@ pub record Seats (N : ℕ) (out : List ℕ) : Type 0 where
   pub wide : N ≤ length out
   pub idle : (i : ℕ) → N ≤ i → getD out i 255 ≡ 255
 
--- room for the working copy of a demand of N ports, for its labels and for the outputs of a slot
-pub record Space (N : ℕ) (w lows highs out : List ℕ) : Type 0 where
-  pub sized : Sized N w
-  pub low : length lows ≡ N
-  pub high : length highs ≡ N
-  pub wide : length out ≤ 128
-  pub seats : Seats N out
-
--- the same for as many ports as a record has outputs, and for fewer
-pub record Lent (w lows highs out : List ℕ) : Type 0 where
-  pub few : length out ≤ 128
-  pub cells : length out * length out ≤ length w
-  pub low : length out ≤ length lows
-  pub high : length out ≤ length highs
-  pub idle : (i : ℕ) → getD out i 255 ≡ 255
-
 -- what input i takes on its turn, where some outputs are taken: the lowest free one with slots left for that pair, 255 where there is none
 unfoldable pub turnOf : ℕ → List ℕ → ℕ → ℕ → ℕ
 turnOf N w taken i = lowest N 0 (may (cell N w) (hasOutput taken) i)
@@ -68,19 +52,3 @@ pub record Filled (N s : ℕ) (w w' lows' highs' out' : List ℕ) (left' : ℕ) 
   pub copy : Copy N left' w' lows' highs'
   pub seats : Seats N out'
   pub more : leftover (length out') N s w ≡ record { hold = 1; outputs = out' } ∷ leftover (length out') N (s + 1) w'
-
--- a demand of N ports whose lines are no longer than a hold can be
-pub record Small (N : ℕ) (d : List ℕ) : Type 0 where
-  pub few : N ≤ 128
-  pub size : length d ≡ N * N
-  pub lines : longest N (cell N d) ≤ 65535
-
--- the working copy has the demand's cells
-pub record Loaded (N : ℕ) (d w' lows' highs' : List ℕ) (left' : ℕ) : Type 0 where
-  pub copy : Copy N left' w' lows' highs'
-  pub same : (i j : ℕ) → i < N → j < N → cell N w' i j ≡ cell N d i j
-
--- whether a plan of so many records fits the room: 0 where it does, and else how many it has
-pub record Shortage (room need r : ℕ) : Type 0 where
-  pub fits : r ≡ 0 → need ≤ room
-  pub short : (r ≡ 0 → ⊥) → (room < need) × (r ≡ need)

@@ -25,9 +25,9 @@ use Rattle.rules.proofs.Peels.{length-tab, getD-tab}
 use Rattle.rules.proofs.Rotate.{around-full, around-reach}
 use Rattle.rules.proofs.Slot.{lowest-cong, may-cong, visits-idle, slot-idle}
 use Rattle.rules.proofs.QuickFrom.{visits-next, quick-step, quick-cong}
-use Rattle.quick.specs.declared.Turn.{Turn}
-use Rattle.quick.specs.Slots.{leftIn, leftover, Copy, Seats, turnOf, Turned, Filled}
-use Rattle.quick.proofs.Turns.{none-has}
+use Rattle.slot.specs.declared.Turn.{Turn}
+use Rattle.slot.specs.Filled.{leftIn, leftover, Copy, Seats, turnOf, Turned, Filled}
+use Rattle.slot.proofs.Turns.{none-has}
 
 -- the first v visits of slot s, begun with the working copy w₀
 pub record Visiting (N s v : ℕ) (w₀ w lows highs out : List ℕ) (turn : Turn) : Type 0 where

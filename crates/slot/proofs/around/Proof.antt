@@ -4,8 +4,8 @@ use Prim.Native.Nat.{ℕ, _%_}
 use native.Mathlib.Nat.{mod-self, mod-eq-of-lt}
 use native.Mathlib.Omega.{arith}
 use borrow.Author.Needs.{needs}
-use Rattle.quick.proofs.around.Statement.{statement}
-use Rattle.quick.proofs.around.Tie as tie
+use Rattle.slot.proofs.around.Statement.{statement}
+use Rattle.slot.proofs.around.Tie as tie
 
 add-if1 : tie.Need-add-if1
 add-if1 c = search needs

@@ -4,11 +4,11 @@ use Prim.Native.Nat.{ℕ, _+_, _-_, _%_, _≤_, _<_}
 use native.Mathlib.Nat.{zero-add, mod-lt}
 use native.Mathlib.Omega.{arith}
 use lib.ListN.{length}
-use Rattle.quick.specs.Slots.{Turned}
-use Rattle.quick.proofs.Visits.{Visiting, visiting-none, next-port, visiting-next, visited-all}
+use Rattle.slot.specs.Filled.{Turned}
+use Rattle.slot.proofs.Visits.{Visiting, visiting-none, next-port, visiting-next, visited-all}
 use borrow.Author.Needs.{needs}
-use Rattle.quick.proofs.fill_slot.Statement.{statement}
-use Rattle.quick.proofs.fill_slot.Tie as tie
+use Rattle.slot.proofs.fill_slot.Statement.{statement}
+use Rattle.slot.proofs.fill_slot.Tie as tie
 
 abbrev Inv-loop : tie.InvT-loop
 Inv-loop n work₀ lows₀ highs₀ left s out₀ turn₀ i₀ counter₀ work lows highs out turn i counter =
