@@ -31,7 +31,7 @@ module _ (E : Edition) (N : ℕ) (plan buf : List ℕ) where
 
 -- a list laid at the start
 module _ (d s : List ℕ) where
-  laid-at : (k : ℕ) → k < length s → getD (laid d 0 s) k 0 ≡ getD s k 0
+  pub laid-at : (k : ℕ) → k < length s → getD (laid d 0 s) k 0 ≡ getD s k 0
   unfolding laid
   laid-at k l = List·getD-append s (drop (0 + length s) d) 0 k l
 

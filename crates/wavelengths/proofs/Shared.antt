@@ -40,11 +40,11 @@ module _ (N i j : ℕ) (li : i < N) (lj : j < N) where
 -- ---- which inputs share one
 
 module _ (N : ℕ) (r : Record) where
-  idle-uses : (w i : ℕ) → N ≤ output r i → ind (uses N r w i) ≡ 0
+  pub idle-uses : (w i : ℕ) → N ≤ output r i → ind (uses N r w i) ≡ 0
   unfolding uses ind
   idle-uses w i l = rw (le-ltb (output r i) N l)
 
-  joined-uses : (w i : ℕ) → output r i < N → ind (uses N r w i) ≡ δ (wavelength N i (output r i)) w
+  pub joined-uses : (w i : ℕ) → output r i < N → ind (uses N r w i) ≡ δ (wavelength N i (output r i)) w
   unfolding uses δ
   joined-uses w i l = rw (lt-ltb (output r i) N l)
 
