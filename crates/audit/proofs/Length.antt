@@ -16,7 +16,7 @@ use Rattle.records.specs.Bytes.{whole, planFrom, planOf}
 use Rattle.audit.specs.Reading.{Passed}
 use Rattle.audit.specs.Length.{charge, lengthOf, lengthCounts, planLength, Charged}
 use Rattle.audit.proofs.Reading.{reading-whole}
-use Rattle.audit.proofs.Pass.{length-plan}
+use Rattle.plans.proofs.Plans.{length-plan}
 
 -- "the length is total hold + d × number of records"
 pub length-is : (d : ℕ) (p : List Record) → lengthOf d p ≡ total p + d * length p
