@@ -7,7 +7,7 @@ use libc::STDOUT_FILENO;
 fn main() {
     let mut input = io::buffer();
     let size = io::read_full(STDIN_FILENO, &mut input);
-    let mut text = [0u8; 16384];
+    let mut text = [0u8; listing::TEXT];
     let end = listing::listing(&input[..size], &mut text);
     io::write_all(STDOUT_FILENO, &text[..end]);
 }

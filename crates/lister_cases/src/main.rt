@@ -41,7 +41,7 @@ fn run_next(tape: &[u8], at: usize) -> usize
 
 // What the lister prints for an input.
 fn list(input: &[u8]) {
-    let mut text = [0u8; 16384];
+    let mut text = [0u8; listing::TEXT];
     let end = listing::listing(input, &mut text);
     show::text(&text[..end]);
 }

@@ -15,6 +15,9 @@ ghost use Rattle.listing.specs.Listing.{portsIn, portsOf, demandText, wi
 // Only the first 4,096 bytes are read and count.
 pub const LISTED: usize = 4096;
 
+// The bytes of a text that every listing fits: a first line and 226 lines of records take fewer.
+pub const TEXT: usize = 16384;
+
 // The most ports that are listed, and the cells of their demand.
 const PORTS: usize = 16;
 
@@ -27,7 +30,7 @@ const PLAN: usize = 15368;
 const RECORD: usize = 8;
 
 // Puts at the text's start what the lister prints for the bytes of its input, and answers how long that is. It always fits.
-pub fn listing(input: &[u8], text: &mut [u8; 16384]) -> usize
+pub fn listing(input: &[u8], text: &mut [u8; TEXT]) -> usize
     ensures { λ r. ⌜ (r ≡ length (listingOf (now (input .entry)))) × (now (text .exit) ≡ laid (now (text .entry)) 0 (listingOf (now (input .entry)))) × (take r (now (text .exit)) ≡ listingOf (now (input .entry))) ⌝ }
 {
     if input.len() < LISTED {
