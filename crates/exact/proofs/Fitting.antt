@@ -1,13 +1,11 @@
--- The demand at the start of the working copy has the demand's exact plan; and a shortage is 0 just where the plan fits.
+-- The demand at the start of the working copy has the demand's exact plan.
 use mathlib.Core.Path.{_≡_, refl, sym, ap, ap₂, _∙_}
 use mathlib.Core.List.{List, [], _∷_, _++_, map}
 use Prim.Native.Nat.{ℕ, zero, suc, _+_, _*_, _/_, _≤_, _<_}
 use native.Mathlib.Omega.{arith}
 use native.Mathlib.Nat.{mul-le-mul, mul-le-mul-right, le-of-eq, div-mul-le-self, mul-one}
-use native.Mathlib.Decide.{decLt}
 use lib.ListN.{length, getD, length-append, List·getD-append}
 use lib.Arith.{digits-lt}
-use borrow.Author.Tests.{lt-ltb, le-ltb}
 use Rattle.switch.specs.Demand.{cell}
 use Rattle.switch.specs.Plan.{Record}
 use Rattle.demand.specs.Check.{Asked}
@@ -15,7 +13,7 @@ use Rattle.rules.specs.Exact.{exactPlan}
 use Rattle.rules.specs.Doubled.{stretch}
 use Rattle.rules.proofs.Exact.{longest-cong, exact-cong}
 use Rattle.peel.specs.Standing.{Cells}
-use Rattle.exact.specs.Laying.{Place, shortage}
+use Rattle.exact.specs.Laying.{Place}
 
 -- ---- room
 
@@ -26,28 +24,6 @@ twice-small (suc (suc m)) =
     let a : 2 ≤ suc (suc m) = omega arith in
     let b : suc (suc m) ≤ suc (suc m) = omega arith in
     omega (arith, mul-le-mul a b)
-
-pub fits-room : (room need : ℕ) → need ≤ room → 0 ≡ shortage room need
-unfolding shortage
-fits-room room need l = rw (le-ltb _ _ l)
-
-pub lacks-room : (room need : ℕ) → room < need → need ≡ shortage room need
-unfolding shortage
-lacks-room room need l = rw (lt-ltb _ _ l)
-
-pub shortage-none : (room need : ℕ) → shortage room need ≡ 0 → need ≤ room
-shortage-none room need e = go (decLt room need)
-  where
-    go : Dec (room < need) → need ≤ room
-    go (yes l) = omega (arith, lacks-room room need l)
-    go (no l) = omega arith
-
-pub shortage-some : (room need : ℕ) → (shortage room need ≡ 0 → ⊥) → (room < need) × (shortage room need ≡ need)
-shortage-some room need h = go (decLt room need)
-  where
-    go : Dec (room < need) → (room < need) × (shortage room need ≡ need)
-    go (yes l) = (l, sym (lacks-room room need l))
-    go (no l) = absurd (h (sym (fits-room room need (omega arith))))
 
 -- ---- a demand copied to the start of a longer list
 

@@ -16,10 +16,9 @@ use Rattle.rules.specs.Exact.{exactPlan}
 use Rattle.rules.specs.Doubled.{stretch}
 use Rattle.rules.proofs.Exact.{exact-total}
 use Rattle.records.specs.Bytes.{bytes, laid}
-use Rattle.planner.specs.Planned.{Planned, planned}
-use Rattle.planner.proofs.Planned.{planned-short, planned-done, written-outcome, written-bytes}
-use Rattle.exact.specs.Laying.{shortage}
-use Rattle.exact.proofs.Fitting.{shortage-none, shortage-some, copied-plan, stretch-once}
+use Rattle.planner.specs.Planned.{Planned, planned, shortage}
+use Rattle.planner.proofs.Planned.{planned-short, planned-done, written-outcome, written-bytes, shortage-none, shortage-some}
+use Rattle.exact.proofs.Fitting.{copied-plan, stretch-once}
 
 -- what the call answers and leaves in the buffer
 pub record Answers (W e N : ℕ) (d buf : List ℕ) (r : Outcome) (after : List ℕ) : Type 0 where

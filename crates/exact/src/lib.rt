@@ -25,9 +25,9 @@ ghost use Rattle.demand.specs.Check.{checkDemand};
 ghost use Rattle.rules.specs.Exact.{exactPlan};
 ghost use Rattle.rules.specs.Doubled.{stretch};
 ghost use Rattle.records.specs.Bytes.{bytes, laid};
-ghost use Rattle.planner.specs.Planned.{planned};
+ghost use Rattle.planner.specs.Planned.{planned, shortage};
 ghost use Rattle.peel.specs.Standing.{Cells, Tables};
-ghost use Rattle.exact.specs.Laying.{Place, shortage};
+ghost use Rattle.exact.specs.Laying.{Place};
 
 // The cells of a switch of 64 ports.
 const CELLS: usize = 4096;

@@ -1,18 +1,22 @@
 -- A planner's answer case by case: each refusal is given exactly where its test is the first that fails, and else the plan is written.
-use mathlib.Core.Path.{_≡_, refl}
+use mathlib.Core.Path.{_≡_, refl, sym, ap, _∙_}
 use mathlib.Core.List.{List}
 use Prim.Native.Nat.{ℕ, _<_, _≤_}
+use native.Mathlib.Decide.{decLt}
+use native.Mathlib.Omega.{arith}
 use lib.ListN.{length}
 use borrow.Author.Tests.{lt-ltb, le-ltb}
 use Rattle.switch.specs.declared.Refusal.{Refusal}
 use Rattle.switch.specs.declared.Refusal.the-variants.{Longest, Room}
+use Rattle.switch.specs.declared.Outcome.{Outcome}
 use Rattle.switch.specs.declared.Outcome.the-variants.{Done}
 use Rattle.switch.specs.Answer.{planCounts}
 use Rattle.switch.specs.Plan.{Record, total}
+use Rattle.switch.proofs.Answer.{determined}
 use Rattle.demand.specs.declared.Checked.the-variants.{Fine, Faulty}
 use Rattle.demand.specs.Check.{checkDemand}
 use Rattle.records.specs.Bytes.{whole, bytes, laid}
-use Rattle.planner.specs.Planned.{refuses, writes, roomFor, planned, plannedUpTo}
+use Rattle.planner.specs.Planned.{Planned, refuses, writes, roomFor, planned, plannedUpTo, Gives, shortage}
 
 module _ (W e N T : ℕ) (p : List Record) (buf : List ℕ) where
   pub no-room : whole W buf < length p → roomFor W e N T p buf ≡ refuses (Room (length p)) buf
@@ -66,3 +70,37 @@ written-outcome e N T r t p buf a b = λ i. Done (planCounts (a i) T (b i))
 pub written-bytes : (e N T : ℕ) (p : List Record) (buf : List ℕ) → laid buf 0 (bytes e N p) ≡ writes e N T p buf .bytes
 unfolding writes
 written-bytes e N T p buf = refl
+
+-- ---- a call's result
+
+-- it is given by the case that holds
+pub gives : (given x : Planned) → given ≡ x → (r : Outcome) (after : List ℕ) → r ≡ x .outcome → after ≡ x .bytes → Gives given r after
+gives given x q r after o b = record { outcome = o ∙ ap (λ (y : Planned). y .outcome) (sym q); bytes = b ∙ ap (λ (y : Planned). y .bytes) (sym q) }
+
+-- and there is one
+pub gives-one : (given : Planned) (r s : Outcome) (after later : List ℕ) → Gives given r after → Gives given s later → (r ≡ s) × (after ≡ later)
+gives-one given r s after later p q = (determined r s (given .outcome) (p .outcome) (q .outcome), determined after later (given .bytes) (p .bytes) (q .bytes))
+
+-- ---- whether a plan fits
+
+pub fits-room : (room need : ℕ) → need ≤ room → 0 ≡ shortage room need
+unfolding shortage
+fits-room room need l = rw (le-ltb _ _ l)
+
+pub lacks-room : (room need : ℕ) → room < need → need ≡ shortage room need
+unfolding shortage
+lacks-room room need l = rw (lt-ltb _ _ l)
+
+pub shortage-none : (room need : ℕ) → shortage room need ≡ 0 → need ≤ room
+shortage-none room need e = go (decLt room need)
+  where
+    go : Dec (room < need) → need ≤ room
+    go (yes l) = omega (arith, lacks-room room need l)
+    go (no l) = omega arith
+
+pub shortage-some : (room need : ℕ) → (shortage room need ≡ 0 → ⊥) → (room < need) × (shortage room need ≡ need)
+shortage-some room need h = go (decLt room need)
+  where
+    go : Dec (room < need) → (room < need) × (shortage room need ≡ need)
+    go (yes l) = (l, sym (lacks-room room need l))
+    go (no l) = absurd (h (sym (fits-room room need (omega arith))))

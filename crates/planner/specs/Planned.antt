@@ -1,4 +1,5 @@
 -- What a planner's call answers, and the plan buffer's bytes afterwards, for records of W outputs with the edition byte e. Definitions only.
+use mathlib.Core.Path.{_≡_}
 use mathlib.Core.Bool.{cond}
 use mathlib.Core.List.{List}
 use Prim.Native.Nat.{ℕ}
@@ -45,3 +46,12 @@ planned W e N d p buf = afterCheck (checkDemand W N d) (λ T. roomFor W e N T p 
 unfoldable pub plannedUpTo : ℕ → ℕ → ℕ → ℕ → List ℕ → List Record → List ℕ → Planned
 plannedUpTo limit W e N d p buf =
     afterCheck (checkDemand W N d) (λ T. cond (ltb limit T) (refuses Longest buf) (roomFor W e N T p buf)) buf
+
+-- what a call answers and leaves in the lent buffer is what is planned
+pub record Gives (given : Planned) (r : Outcome) (after : List ℕ) : Type 0 where
+  pub outcome : r ≡ given .outcome
+  pub bytes : after ≡ given .bytes
+
+-- by how many records a plan does not fit the room: all that it has; and 0 where it fits
+unfoldable pub shortage : ℕ → ℕ → ℕ
+shortage room need = cond (ltb room need) need 0

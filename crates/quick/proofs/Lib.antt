@@ -1,6 +1,3 @@
-pub mod Turns
-pub mod Visits
-pub mod Counting
-pub mod Writing
+pub mod Standing
 pub mod Loading
 pub mod Planning

@@ -1,30 +1,26 @@
 -- The working copy of a demand has the demand's cells, so what is still to come of it from slot 0 on is the demand's quick cover.
 use mathlib.Core.Path.{_≡_, sym, _∙_, subst}
 use mathlib.Core.List.{List, _++_}
-use Prim.Native.Nat.{ℕ, _+_, _*_, _<_}
+use Prim.Native.Nat.{ℕ, _<_}
 use native.Mathlib.Omega.{arith}
-use lib.ListN.{List·getD-append}
-use lib.Arith.{digits-lt}
 use Rattle.counting.specs.Matrix.{row}
 use Rattle.counting.proofs.Sum.{sum-cong}
 use Rattle.counting.proofs.Matrix.{row-cong}
 use Rattle.switch.specs.Demand.{cell}
+use Rattle.switch.proofs.Demand.{cell-append}
 use Rattle.rules.specs.Quick.{quickPlan}
 use Rattle.rules.proofs.QuickFrom.{quick-cong}
 use Rattle.work.specs.Level.{Sized}
 use Rattle.work.specs.Labelled.{Labelled}
-use Rattle.quick.specs.Slots.{leftIn, leftover, Small, Loaded}
+use Rattle.slot.specs.Filled.{leftIn, leftover}
+use Rattle.quick.specs.Lent.{Small, Loaded}
 
 module _ (N : ℕ) (d w : List ℕ) (m : Small N d) where
-  copied : (i j : ℕ) → i < N → j < N → cell N (d ++ w) i j ≡ cell N d i j
-  unfolding cell
-  copied i j li lj = List·getD-append d w 0 (i * N + j) (omega (arith, m .size, digits-lt {q = i} {m = N} {r = j} {c = N} li lj))
-
   pub loaded : (w' lows' highs' : List ℕ) (left : ℕ) → w' ≡ d ++ w → Sized N w' → Labelled N w' lows' highs' → left ≡ leftIn N d → Loaded N d w' lows' highs' left
   loaded w' lows' highs' left e s l a = record { copy = record { sized = s; labels = l; all = a ∙ all }; same = same }
     where
       same : (i j : ℕ) → i < N → j < N → cell N w' i j ≡ cell N d i j
-      same = subst (λ (x : List ℕ). (i j : ℕ) → i < N → j < N → cell N x i j ≡ cell N d i j) (sym e) copied
+      same = subst (λ (x : List ℕ). (i j : ℕ) → i < N → j < N → cell N x i j ≡ cell N d i j) (sym e) (cell-append N d w (m .size))
 
       all : leftIn N d ≡ leftIn N w'
       all = unfold leftIn in sum-cong N (row N (cell N d)) (row N (cell N w')) (row-cong N (cell N d) (cell N w') (λ i j li lj. sym (same i j li lj)))

@@ -27,17 +27,9 @@ use Rattle.rules.specs.Exact.{tab}
 use Rattle.rules.specs.Quick.{slot, slots, quickFrom, quickPlan}
 use Rattle.rules.proofs.Peels.{length-tab}
 use Rattle.rules.proofs.Quick.{quick-total, quick-at-most}
-use Rattle.planner.specs.Planned.{Planned, plannedUpTo}
-use Rattle.planner.proofs.Planned.{limited-faulty, limited-long, limited-short, limited-done, written-outcome, written-bytes}
-use Rattle.quick.specs.Slots.{Shortage, Lent, Space}
-
--- ---- whether it fits
-
-pub fits-room : (room need : ℕ) → need ≤ room → Shortage room need 0
-fits-room room need l = record { fits = λ _. l; short = λ h. absurd (h refl) }
-
-pub lacks-room : (room need r : ℕ) → room < need → r ≡ need → Shortage room need r
-lacks-room room need r l e = record { fits = λ z. omega arith; short = λ _. (l, e) }
+use Rattle.planner.specs.Planned.{Planned, plannedUpTo, Gives, shortage}
+use Rattle.planner.proofs.Planned.{limited-faulty, limited-long, limited-short, limited-done, written-outcome, written-bytes, gives, gives-one, shortage-none, shortage-some}
+use Rattle.quick.specs.Lent.{Lent, Space}
 
 -- room for 2T - 1 records is always enough
 pub enough : (W N T room : ℕ) (d : List ℕ) → W ≤ 128 → Asked W N T d → 2 * T - 1 ≤ room → length (quickPlan W N d) ≤ room
@@ -64,37 +56,41 @@ plan-fits W e N d buf l = omega (arith, plan-size W e N d, le-div-iff-mul-le {k 
 
 -- ---- the answer
 
-module _ (W e N T : ℕ) (d buf : List ℕ) (fine : checkDemand W N d ≡ Fine T) (small : T ≤ 1024) where
+module _ (W e N : ℕ) (d buf : List ℕ) where
   abbrev answer : Planned
   answer = plannedUpTo 1024 W e N d (quickPlan W N d) buf
 
-  -- code 5, and the buffer as it was
-  pub answers-room : (r : ℕ) → whole W buf < length (quickPlan W N d) → r ≡ length (quickPlan W N d) → (Refused (Room r) ≡ answer .outcome) × (buf ≡ answer .bytes)
-  answers-room r l q =
-      let a = limited-short 1024 W e N d (quickPlan W N d) buf T fine small l in
-      (ap {B = Outcome} (λ (k : ℕ). Refused (Room k)) q ∙ sym (ap (λ (x : Planned). x .outcome) a), sym (ap (λ (x : Planned). x .bytes) a))
+  -- codes 1, 2 and 3
+  pub gives-fault : (r : Refusal) → checkDemand W N d ≡ Faulty r → Gives answer (Refused r) buf
+  gives-fault r c = gives answer _ (limited-faulty 1024 W e N d (quickPlan W N d) buf r c) _ _ refl refl
 
-  -- written: as many records as the plan has, each held for one slot
-  pub answers-done : W ≤ 128 → (r : ℕ) (buf' : List ℕ) → length (quickPlan W N d) ≤ whole W buf → r ≡ length (quickPlan W N d) → buf' ≡ laid buf 0 (bytes e N (quickPlan W N d))
-      → (Done (planCounts r T r) ≡ answer .outcome) × (buf' ≡ answer .bytes)
-  answers-done w r buf' l q b =
-      let a = limited-done 1024 W e N d (quickPlan W N d) buf T fine small l in
-      let k = fine-asked W N T d fine in (
-        written-outcome e N T r r (quickPlan W N d) buf q (q ∙ sym (quick-total W N (k .some) (k .few) (omega (arith, k .few)) d)) ∙ sym (ap (λ (x : Planned). x .outcome) a),
-        b ∙ written-bytes e N T (quickPlan W N d) buf ∙ sym (ap (λ (x : Planned). x .bytes) a),
-      )
+  module _ (T : ℕ) (fine : checkDemand W N d ≡ Fine T) where
+    -- code 4
+    pub gives-longest : 1024 < T → Gives answer (Refused Longest) buf
+    gives-longest l = gives answer _ (limited-long 1024 W e N d (quickPlan W N d) buf T fine l) _ _ refl refl
 
--- codes 1 to 4
-module _ (W e N : ℕ) (d buf : List ℕ) where
-  pub answers-faulty : (r : Refusal) → checkDemand W N d ≡ Faulty r → (Refused r ≡ plannedUpTo 1024 W e N d (quickPlan W N d) buf .outcome) × (buf ≡ plannedUpTo 1024 W e N d (quickPlan W N d) buf .bytes)
-  answers-faulty r c =
-      let a = limited-faulty 1024 W e N d (quickPlan W N d) buf r c in
-      (sym (ap (λ (x : Planned). x .outcome) a), sym (ap (λ (x : Planned). x .bytes) a))
+    module _ (small : T ≤ 1024) (need : ℕ) (short : need ≡ shortage (whole W buf) (length (quickPlan W N d))) where
+      -- code 5
+      pub gives-room : (need ≡ 0 → ⊥) → Gives answer (Refused (Room need)) buf
+      gives-room h =
+          let m = shortage-some _ _ (λ z. h (short ∙ z)) in
+          gives answer _ (limited-short 1024 W e N d (quickPlan W N d) buf T fine small (m .0)) _ _ (ap {B = Outcome} (λ (k : ℕ). Refused (Room k)) (short ∙ m .1)) refl
 
-  pub answers-longest : (T : ℕ) → checkDemand W N d ≡ Fine T → 1024 < T → (Refused Longest ≡ plannedUpTo 1024 W e N d (quickPlan W N d) buf .outcome) × (buf ≡ plannedUpTo 1024 W e N d (quickPlan W N d) buf .bytes)
-  answers-longest T c l =
-      let a = limited-long 1024 W e N d (quickPlan W N d) buf T c l in
-      (sym (ap (λ (x : Planned). x .outcome) a), sym (ap (λ (x : Planned). x .bytes) a))
+      pub enough-room : need ≡ 0 → length (quickPlan W N d) ≤ whole W buf
+      enough-room z = shortage-none _ _ (sym short ∙ z)
+
+      -- as many records as the plan has, each held for one slot
+      pub gives-plan : W ≤ 128 → need ≡ 0 → (r : ℕ) (after : List ℕ) → r ≡ length (quickPlan W N d) → after ≡ laid buf 0 (bytes e N (quickPlan W N d))
+          → Gives answer (Done (planCounts r T r)) after
+      gives-plan w z r after q b =
+          let k = fine-asked W N T d fine in
+          gives answer _ (limited-done 1024 W e N d (quickPlan W N d) buf T fine small (enough-room z)) _ _
+          (written-outcome e N T r r (quickPlan W N d) buf q (q ∙ sym (quick-total W N (k .some) (k .few) (omega (arith, k .few)) d)))
+          (b ∙ written-bytes e N T (quickPlan W N d) buf)
+
+-- any two results of the call are one
+pub one-result : (N : ℕ) (d buf : List ℕ) (r s : Outcome) (after later : List ℕ) → Gives (answer 64 0 N d buf) r after → Gives (answer 64 0 N d buf) s later → (r ≡ s) × (after ≡ later)
+one-result N d buf = gives-one (answer 64 0 N d buf)
 
 -- ---- what is lent
 

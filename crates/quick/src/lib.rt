@@ -1,22 +1,21 @@
-// The quick cover: one record of hold 1 per slot, in which each input in turn takes the lowest free output with slots left for that pair.
+// The quick cover: one record of hold 1 per slot, until nothing is left of the demand.
 // It promises the whole answer and every byte of the lent plan, for any N and any cells: the refusals in document 01's order, all known
-// before the first byte is written, and else the plan. The lent demand is only read: a working copy is counted down, whose labels make an
-// input's turn one look at two words. What a demand is refused for, the working copy and the layout of a record are the crates' below.
+// before the first byte is written, and else the plan. The lent demand is only read: what is counted down is a working copy.
+// What a demand is refused for, how one slot is filled and the layout of a record are left to the crates below.
 use demand::Checked;
 use demand::check_demand;
 use demand::line_sum;
-use labels::Found;
-use labels::Label;
-use labels::Wide;
+use records::EDITION;
 use records::HEAD;
+use records::IDLE;
 use records::put_record;
+use slot::fill_slot;
 use switch::Counts;
-use switch::InputPort;
 use switch::Outcome;
+use switch::PORTS;
 use switch::Refusal;
 use work::copy;
 use work::label_rows;
-use work::take;
 ghost use mathlib.Core.Path.{_≡_};
 ghost use Prim.Native.Nat.{ℕ, _+_, _*_, _-_, _%_, _<_, _≤_};
 ghost use lib.ListN.{length};
@@ -24,37 +23,29 @@ ghost use Rattle.demand.specs.Check.{checkDemand, Asked};
 ghost use Rattle.demand.specs.declared.Checked.the-variants.{Fine};
 ghost use Rattle.records.specs.Bytes.{bytes, laid};
 ghost use Rattle.rules.specs.Quick.{quickPlan};
-ghost use Rattle.planner.specs.Planned.{plannedUpTo};
+ghost use Rattle.planner.specs.Planned.{plannedUpTo, Gives, shortage};
 ghost use Rattle.work.specs.Level.{Sized};
-ghost use Rattle.quick.specs.Slots.{leftIn, leftover, Copy, Seats, Space, Lent, Turned, Filled, Small, Loaded, Shortage};
+ghost use Rattle.slot.specs.Filled.{leftIn, leftover, Copy, Seats};
+ghost use Rattle.quick.specs.Lent.{Space, Lent, Small, Loaded};
 
 // T is at most 1,024 here.
 pub const MOST_SLOTS: u64 = 1024;
 
-// Byte 3 of a record of the first edition.
-const FIRST_EDITION: u8 = 0;
-
-// An idle input's output.
-const IDLE: u8 = 255;
-
-// What a turn leaves: which outputs are taken in this slot, and how many slots are left in all.
-pub struct Turn {
-    pub taken: Wide,
-    pub left: u64,
-}
+// The cells of a switch of 64 ports.
+const CELLS: usize = 4096;
 
 // The quick cover of a demand, written at the start of a lent plan.
 pub fn quick_plan(n: usize, cells: &[u32], plan: &mut [u8]) -> Outcome
     ensures { λ r. ⌜ (r ≡ plannedUpTo 1024 64 0 n (now (cells .entry)) (quickPlan 64 n (now (cells .entry))) (now (plan .entry)) .outcome) × (now (plan .exit) ≡ plannedUpTo 1024 64 0 n (now (cells .entry)) (quickPlan 64 n (now (cells .entry))) (now (plan .entry)) .bytes) ⌝ }
 {
-    let mut work = [0u32; 4096];
-    let mut lows = [0u64; 64];
-    let mut highs = [0u64; 64];
-    let mut out = [255u8; 64];
+    let mut work = [0u32; CELLS];
+    let mut lows = [0u64; PORTS];
+    let mut highs = [0u64; PORTS];
+    let mut out = [IDLE; PORTS];
     plan_with(
         n,
         cells,
-        FIRST_EDITION,
+        EDITION,
         plan,
         &mut work,
         &mut lows,
@@ -63,7 +54,7 @@ pub fn quick_plan(n: usize, cells: &[u32], plan: &mut [u8]) -> Outcome
     )
 }
 
-// The same for the edition whose records have as many outputs as `out`: the working copy, its labels and the outputs of a slot are lent.
+// The same for the edition whose records have as many outputs as `out`. The working copy, its labels and the outputs of a slot are lent.
 fn plan_with(
     n: usize,
     cells: &[u32],
@@ -75,7 +66,7 @@ fn plan_with(
     out: &mut [u8],
 ) -> Outcome
     requires { ⌜ Lent (now work) (now lows) (now highs) (now out) ⌝ }
-    ensures { λ r. ⌜ (r ≡ plannedUpTo 1024 (length (now (out .entry))) edition n (now (cells .entry)) (quickPlan (length (now (out .entry))) n (now (cells .entry))) (now (plan .entry)) .outcome) × (now (plan .exit) ≡ plannedUpTo 1024 (length (now (out .entry))) edition n (now (cells .entry)) (quickPlan (length (now (out .entry))) n (now (cells .entry))) (now (plan .entry)) .bytes) ⌝ }
+    ensures { λ r. ⌜ Gives (plannedUpTo 1024 (length (now (out .entry))) edition n (now (cells .entry)) (quickPlan (length (now (out .entry))) n (now (cells .entry))) (now (plan .entry))) r (now (plan .exit)) ⌝ }
 {
     let checked = check_demand(n, out.len(), cells);
     match checked {
@@ -84,7 +75,7 @@ fn plan_with(
             if MOST_SLOTS < longest {
                 return Outcome::Refused(Refusal::Longest);
             }
-            plan_fine(
+            plan_checked(
                 n,
                 cells,
                 longest,
@@ -100,7 +91,7 @@ fn plan_with(
 }
 
 // The same for a demand that nothing but the room can refuse.
-fn plan_fine(
+fn plan_checked(
     n: usize,
     cells: &[u32],
     longest: u64,
@@ -112,7 +103,7 @@ fn plan_fine(
     out: &mut [u8],
 ) -> Outcome
     requires { ⌜ (checkDemand (length (now out)) n (now cells) ≡ Fine longest) × (longest ≤ 1024) × Space n (now work) (now lows) (now highs) (now out) ⌝ }
-    ensures { λ r. ⌜ (r ≡ plannedUpTo 1024 (length (now (out .entry))) edition n (now (cells .entry)) (quickPlan (length (now (out .entry))) n (now (cells .entry))) (now (plan .entry)) .outcome) × (now (plan .exit) ≡ plannedUpTo 1024 (length (now (out .entry))) edition n (now (cells .entry)) (quickPlan (length (now (out .entry))) n (now (cells .entry))) (now (plan .entry)) .bytes) ⌝ }
+    ensures { λ r. ⌜ Gives (plannedUpTo 1024 (length (now (out .entry))) edition n (now (cells .entry)) (quickPlan (length (now (out .entry))) n (now (cells .entry))) (now (plan .entry))) r (now (plan .exit)) ⌝ }
 {
     let room = plan.len() / (out.len() + HEAD);
     let needed = short_of(n, cells, longest, room, work, lows, highs, out);
@@ -141,7 +132,7 @@ fn short_of(
     out: &mut [u8],
 ) -> usize
     requires { ⌜ Asked (length (now out)) n longest (now cells) × (longest ≤ 1024) × Space n (now work) (now lows) (now highs) (now out) ⌝ }
-    ensures { λ r. ⌜ Shortage room (length (quickPlan (length (now (out .entry))) n (now (cells .entry)))) r × Seats n (now (out .exit)) ⌝ }
+    ensures { λ r. ⌜ (r ≡ shortage room (length (quickPlan (length (now (out .entry))) n (now (cells .entry))))) × Seats n (now (out .exit)) ⌝ }
 {
     if most_records(longest) <= room {
         return 0;
@@ -211,76 +202,6 @@ fn write(
         s += 1;
     }
     s
-}
-
-// Slot s: all inputs are visited, from input s mod N around. It answers how many slots are left.
-fn fill_slot(
-    n: usize,
-    work: &mut [u32],
-    lows: &mut [u64],
-    highs: &mut [u64],
-    left: u64,
-    s: usize,
-    out: &mut [u8],
-) -> u64
-    requires { ⌜ Copy n left (now work) (now lows) (now highs) × Seats n (now out) × (0 < left) ⌝ }
-    ensures { λ r. ⌜ Filled n s (now (work .entry)) (now (work .exit)) (now (lows .exit)) (now (highs .exit)) (now (out .exit)) r ⌝ }
-{
-    let mut turn = Turn {
-        taken: Wide::none(),
-        left: left,
-    };
-    let mut i = s % n;
-    for _ in 0..n {
-        turn = visit(n, work, lows, highs, InputPort(i), turn, out);
-        i = around(i, n);
-    }
-    turn.left
-}
-
-// The port after i, around n of them.
-fn around(i: usize, n: usize) -> usize
-    requires { ⌜ i < n ⌝ }
-    ensures { λ r. ⌜ r ≡ (i + 1) % n ⌝ }
-{
-    if i + 1 == n {
-        return 0;
-    }
-    i + 1
-}
-
-// One input's turn: it takes the lowest free output with slots left for that pair, and one slot is subtracted; else it is idle.
-fn visit(
-    n: usize,
-    work: &mut [u32],
-    lows: &mut [u64],
-    highs: &mut [u64],
-    i: InputPort,
-    turn: Turn,
-    out: &mut [u8],
-) -> Turn
-    requires { ⌜ Copy n (turn .left) (now work) (now lows) (now highs) × (i .0 < n) × (n ≤ length (now out)) ⌝ }
-    ensures { λ r. ⌜ Turned n (i .0) (now (work .entry)) (now (out .entry)) turn (now (work .exit)) (now (lows .exit)) (now (highs .exit)) (now (out .exit)) r ⌝ }
-{
-    let port = i.0;
-    let taken = turn.taken;
-    let low = lows[port];
-    let high = highs[port];
-    let row = Wide {
-        low: Label(low),
-        high: Label(high),
-    };
-    let Found::At(j) = row.lowest_untried(taken) else {
-        out[port] = IDLE;
-        return turn;
-    };
-    out[port] = j.0 as u8;
-    take(work, n, lows, highs, i, j, 1);
-    let left = turn.left - 1;
-    Turn {
-        taken: taken.mark(j),
-        left: left,
-    }
 }
 
 // The demand copied in, with its labels. It answers how many slots are asked for in all.

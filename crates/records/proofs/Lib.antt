@@ -7,3 +7,4 @@ pub mod Fine
 pub mod Write
 pub mod Meaning
 pub mod Sound
+pub mod Written

@@ -88,7 +88,7 @@ unit-below N T = div-mul-le-self (T + (N - 1)) N
 -- ---- the second part
 
 module _ (W : ℕ) (τ : ℕ → ℕ → ℕ) (H : ℕ → ℕ) where
-  length-held : (h : ℕ) (o : ℕ → ℕ) → length (held W h o) ≤ 1
+  pub length-held : (h : ℕ) (o : ℕ → ℕ) → length (held W h o) ≤ 1
   unfolding held
   length-held zero o = omega arith
   length-held (suc h) o = omega arith
@@ -98,7 +98,7 @@ module _ (W : ℕ) (τ : ℕ → ℕ → ℕ) (H : ℕ → ℕ) where
   length-turns zero k = omega arith
   length-turns (suc n) k = omega (arith, length-append (held W (H k) (τ k)) (turns W τ H n (suc k)), length-held (H k) (τ k), length-turns n (suc k))
 
-  total-held : (h : ℕ) (o : ℕ → ℕ) → total (held W h o) ≡ h
+  pub total-held : (h : ℕ) (o : ℕ → ℕ) → total (held W h o) ≡ h
   unfolding held total
   total-held zero o = refl
   total-held (suc h) o = omega arith

@@ -12,6 +12,7 @@ pub mod ExactFrom
 pub mod Exact
 pub mod Doubled
 pub mod Rotate
+pub mod Tight
 pub mod Slot
 pub mod Quick
 pub mod QuickFrom

@@ -5,6 +5,7 @@ use mathlib.Core.List.{List, [], _∷_, _++_, map}
 use Prim.Native.Nat.{ℕ, zero, suc, _+_, _*_, _-_, _/_, _%_, _≤_, _<_}
 use lib.ListN.{length}
 use lib.Dec.{ltb, eqb}
+use Rattle.counting.specs.Sum.{most}
 use Rattle.switch.specs.Demand.{cell, longest}
 use Rattle.switch.specs.Plan.{Full, Record, Plan, total, Covers}
 use Rattle.rules.specs.Exact.{tab, exactPlan}
@@ -48,6 +49,14 @@ flat u k = u - 1
 -- the doubled plan: then, if u is at least 2, N rotations, hold u - 1
 unfoldable pub doubledPlan : ℕ → ℕ → List ℕ → List Record
 doubledPlan W N d = doubledBy W N (rotate N) flat d
+
+-- the tight rule: setting τ k is held for the largest remainder (cell modulo u) among its pairs, and left out where that is 0
+unfoldable pub tight : ℕ → (ℕ → ℕ → ℕ) → List ℕ → ℕ → ℕ → ℕ
+tight N τ d u k = most N (λ i. cell N d i (τ k i) % u)
+
+-- the doubled plan by the tight rule
+unfoldable pub tightPlan : ℕ → ℕ → List ℕ → List Record
+tightPlan W N d = doubledBy W N (rotate N) (tight N (rotate N) d) d
 
 -- τ 0 .. τ (N - 1) are full settings, and τ (which i j) joins i to j: between them they join every pair
 pub record Joins (N : ℕ) (τ : ℕ → ℕ → ℕ) : Type 0 where

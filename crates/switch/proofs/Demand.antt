@@ -1,10 +1,10 @@
 -- The laws of cells and lines: a cell's index tells its pair, and the 2N lines are the rows and then the columns.
 use mathlib.Core.Path.{_≡_, sym, ap, ap₂, _∙_}
-use mathlib.Core.List.{List}
+use mathlib.Core.List.{List, _++_}
 use Prim.Native.Nat.{ℕ, _+_, _*_, _-_, _/_, _%_, _≤_, _<_, max}
 use native.Mathlib.Omega.{arith}
 use native.Mathlib.Nat.{mul-le-mul}
-use lib.ListN.{getD, length, set}
+use lib.ListN.{getD, length, set, List·getD-append}
 use lib.Seq.{getD-set-same, getD-set-other}
 use lib.Arith.{digits-div, digits-mod, digits-lt}
 use borrow.Author.Tests.{lt-ltb, le-ltb}
@@ -26,6 +26,11 @@ index-inj N a b i j l k e = (
   sym (digits-div a {m = N} l) ∙ ap (λ x. x / N) e ∙ digits-div i {m = N} k,
   sym (digits-mod a {m = N} l) ∙ ap (λ x. x % N) e ∙ digits-mod i {m = N} k,
 )
+
+-- cells behind the N × N are none of the demand's
+pub cell-append : (N : ℕ) (d z : List ℕ) → length d ≡ N * N → (i j : ℕ) → i < N → j < N → cell N (d ++ z) i j ≡ cell N d i j
+unfolding cell
+cell-append N d z s i j li lj = List·getD-append d z 0 (i * N + j) (omega (arith, s, digits-lt {q = i} {m = N} {r = j} {c = N} li lj))
 
 -- a store at a pair's index raises that cell and no other
 pub set-raised : (N : ℕ) (d : List ℕ) → N * N ≤ length d → (i j v : ℕ) → i < N → j < N

@@ -3,7 +3,8 @@ use mathlib.Core.Path.{_∙_}
 use native.Mathlib.Omega.{arith}
 use native.Mathlib.Nat.{mul-le-mul}
 use Rattle.rules.proofs.Exact.{exact-records}
-use Rattle.exact.proofs.Fitting.{twice-small, fits-room, lacks-room}
+use Rattle.planner.proofs.Planned.{fits-room, lacks-room}
+use Rattle.exact.proofs.Fitting.{twice-small}
 use borrow.Author.Needs.{needs}
 use Rattle.exact.proofs.short_of.Statement.{statement}
 use Rattle.exact.proofs.short_of.Tie as tie

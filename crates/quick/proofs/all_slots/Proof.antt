@@ -7,7 +7,7 @@ use Rattle.counting.specs.Matrix.{row}
 use Rattle.counting.proofs.Sum.{sum-zero, sum-next}
 use Rattle.switch.specs.Demand.{cell}
 use Rattle.switch.proofs.Demand.{line-row, row-le-longest}
-use Rattle.quick.specs.Slots.{leftIn}
+use Rattle.slot.specs.Filled.{leftIn}
 use borrow.Author.Needs.{needs}
 use Rattle.quick.proofs.all_slots.Statement.{statement}
 use Rattle.quick.proofs.all_slots.Tie as tie

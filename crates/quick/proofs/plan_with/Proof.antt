@@ -4,8 +4,8 @@ use Prim.Native.Nat.{_≤_}
 use lib.ListN.{length, take}
 use Rattle.demand.specs.declared.Checked.the-variants.{Fine}
 use Rattle.demand.specs.Check.{checkDemand}
-use Rattle.quick.specs.Slots.{Space}
-use Rattle.quick.proofs.Planning.{answers-faulty, answers-longest, lends}
+use Rattle.quick.specs.Lent.{Space}
+use Rattle.quick.proofs.Planning.{gives-fault, gives-longest, lends}
 use borrow.Author.Needs.{needs}
 use Rattle.quick.proofs.plan_with.Statement.{statement}
 use Rattle.quick.proofs.plan_with.Tie as tie
@@ -30,7 +30,7 @@ returns : tie.Need-returns
 returns c =
     let f = c .before .before in
     let a = start f .args in
-    answers-longest (length (a .out .now)) (a .edition) (a .n) (a .cells .now) (a .plan .now) (f .checked2 .given .0 .0) (fine f) (c .if1 .taken)
+    gives-longest (length (a .out .now)) (a .edition) (a .n) (a .cells .now) (a .plan .now) (f .checked2 .given .0 .0) (fine f) (c .if1 .taken)
 
 -- what it lends
 lent : (c : tie.After-checked2) → (start c .args .n ≤ length (start c .args .lows .now)) × (start c .args .n ≤ length (start c .args .highs .now))
@@ -39,26 +39,26 @@ lent c =
     let a = start c .args in
     lends (a .n) (c .checked2 .given .0 .0) (a .cells .now) (a .work .now) (a .lows .now) (a .highs .now) (a .out .now) (start c .pre) (fine c)
 
-slice-relend-prefix-plan-fine : tie.Need-slice-relend-prefix-plan-fine
-slice-relend-prefix-plan-fine c = lent (c .before .before .before .before) .0
+slice-relend-prefix-plan-checked : tie.Need-slice-relend-prefix-plan-checked
+slice-relend-prefix-plan-checked c = lent (c .before .before .before .before) .0
 
-slice-aggregate-plan-fine : tie.Need-slice-aggregate-plan-fine
-slice-aggregate-plan-fine c = sym (lent (c .before .before .before .before .before) .2 .low)
+slice-aggregate-plan-checked : tie.Need-slice-aggregate-plan-checked
+slice-aggregate-plan-checked c = sym (lent (c .before .before .before .before .before) .2 .low)
 
-slice-relend-prefix-plan-fine-2 : tie.Need-slice-relend-prefix-plan-fine-2
-slice-relend-prefix-plan-fine-2 c = lent (c .before .before .before .before .before) .1
+slice-relend-prefix-plan-checked-2 : tie.Need-slice-relend-prefix-plan-checked-2
+slice-relend-prefix-plan-checked-2 c = lent (c .before .before .before .before .before) .1
 
-slice-aggregate-plan-fine-2 : tie.Need-slice-aggregate-plan-fine-2
-slice-aggregate-plan-fine-2 c = sym (lent (c .before .before .before .before .before .before) .2 .high)
+slice-aggregate-plan-checked-2 : tie.Need-slice-aggregate-plan-checked-2
+slice-aggregate-plan-checked-2 c = sym (lent (c .before .before .before .before .before .before) .2 .high)
 
-plan-fine-requires : tie.Need-plan-fine-requires
-plan-fine-requires c κs = (fine (c .before .before .before .before .before .before .before), c .before .before .before .before .before .if1 .left, lent (c .before .before .before .before .before .before .before) .2)
+plan-checked-requires : tie.Need-plan-checked-requires
+plan-checked-requires c κs = (fine (c .before .before .before .before .before .before .before), c .before .before .before .before .before .if1 .left, lent (c .before .before .before .before .before .before .before) .2)
 
 returns-2 : tie.Need-returns-2
 returns-2 c =
     let k = c .before in
     let a = c .before .before .before .before .before .before .before .before .before .before .args in
-    answers-faulty (length (a .out .now)) (a .edition) (a .n) (a .cells .now) (a .plan .now) (k .checked .given .0 .0) (sym (k .before .before .check-demand .ensures) ∙ k .checked .given .1)
+    gives-fault (length (a .out .now)) (a .edition) (a .n) (a .cells .now) (a .plan .now) (k .checked .given .0 .0) (sym (k .before .before .check-demand .ensures) ∙ k .checked .given .1)
 
 same-length : tie.Need-same-length
 same-length c = search needs
@@ -76,7 +76,7 @@ same-length-5 : tie.Need-same-length-5
 same-length-5 c = search needs
 
 returns-3 : tie.Need-returns-3
-returns-3 c = c .before .before .before .before .before .before .before .before .before .before .plan-fine .ensures
+returns-3 c = c .before .before .before .before .before .before .before .before .before .before .plan-checked .ensures
 
 pub plan-with-spec : {M : Type 1} → statement M
 plan-with-spec =
@@ -86,11 +86,11 @@ plan-with-spec =
     enum-known-checked
     enum-known-checked-2
     returns
-    slice-relend-prefix-plan-fine
-    slice-aggregate-plan-fine
-    slice-relend-prefix-plan-fine-2
-    slice-aggregate-plan-fine-2
-    plan-fine-requires
+    slice-relend-prefix-plan-checked
+    slice-aggregate-plan-checked
+    slice-relend-prefix-plan-checked-2
+    slice-aggregate-plan-checked-2
+    plan-checked-requires
     returns-2
     same-length
     same-length-2

@@ -4,7 +4,8 @@ use native.Mathlib.Omega.{arith}
 use lib.ListN.{length}
 use Rattle.rules.specs.Quick.{quickPlan}
 use Rattle.quick.proofs.Loading.{loaded-plan}
-use Rattle.quick.proofs.Planning.{fits-room, lacks-room, enough}
+use Rattle.planner.proofs.Planned.{fits-room, lacks-room}
+use Rattle.quick.proofs.Planning.{enough}
 use borrow.Author.Needs.{needs}
 use Rattle.quick.proofs.short_of.Statement.{statement}
 use Rattle.quick.proofs.short_of.Tie as tie
@@ -40,18 +41,18 @@ same-length-3 c = search needs
 same-length-4 : tie.Need-same-length-4
 same-length-4 c = search needs
 
+-- where the call starts
+abbrev start : tie.After-count → tie.Start
+start c = c .before .before .before .before .before .before .before .before .before .before .before .before .before .before .before .before .before .before .before .before .before .before
+
 -- the records counted are the plan's
-counted : (c : tie.After-count) → c .count .result ≡ length (quickPlan (length (c .before .before .before .before .before .before .before .before .before .before .before .before .before .before .before .before .before .before .before .before .before .before .args .out .now)) (c .before .before .before .before .before .before .before .before .before .before .before .before .before .before .before .before .before .before .before .before .before .before .args .n) (c .before .before .before .before .before .before .before .before .before .before .before .before .before .before .before .before .before .before .before .before .before .before .args .cells .now))
-counted c =
-    let a = c .before .before .before .before .before .before .before .before .before .before .before .before .before .before .before .before .before .before .before .before .before .before .args in
-    let l = c .before .before .before .before .before .before .before .before .before .before .before .load in
-    c .count .ensures .0 ∙ ap length (loaded-plan (length (a .out .now)) (a .n) (a .cells .now) (l .last .1 .1 .0) (l .last .1 .1 .1 .0) (l .last .1 .1 .1 .1 .0) (l .result) (l .ensures))
+counted : (c : tie.After-count) → c .count .result ≡ length (quickPlan (length (start c .args .out .now)) (start c .args .n) (start c .args .cells .now))
+counted c = c .count .ensures .0 ∙ ap length (loaded-plan (length (start c .args .out .now)) (start c .args .n) (start c .args .cells .now) _ _ _ _ (c .before .before .before .before .before .before .before .before .before .before .before .load .ensures))
 
 returns-2 : tie.Need-returns-2
 returns-2 c =
     let k = c .before .before .before .before .before .before .before .before .before in
-    let a = c .before .before .before .before .before .before .before .before .before .before .before .before .before .before .before .before .before .before .before .before .before .before .before .before .before .before .before .before .before .before .before .args in
-    (lacks-room (a .room) (length (quickPlan (length (a .out .now)) (a .n) (a .cells .now))) (k .count .result) (omega (arith, counted k, c .if2 .taken)) (counted k), k .count .ensures .1)
+    (counted k ∙ lacks-room _ _ (omega (arith, counted k, c .if2 .taken)), k .count .ensures .1)
 
 same-length-5 : tie.Need-same-length-5
 same-length-5 c = search needs
@@ -68,8 +69,7 @@ same-length-8 c = search needs
 returns-3 : tie.Need-returns-3
 returns-3 c =
     let k = c .before .before .before .before .before .before .before .before .before in
-    let a = c .before .before .before .before .before .before .before .before .before .before .before .before .before .before .before .before .before .before .before .before .before .before .before .before .before .before .before .before .before .before .before .args in
-    (fits-room (a .room) (length (quickPlan (length (a .out .now)) (a .n) (a .cells .now))) (omega (arith, counted k, c .if2 .left)), k .count .ensures .1)
+    (fits-room _ _ (omega (arith, counted k, c .if2 .left)), k .count .ensures .1)
 
 pub short-of-spec : {M : Type 1} → statement M
 short-of-spec =

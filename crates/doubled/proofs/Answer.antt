@@ -1,0 +1,83 @@
+-- Each return of the planner is a case of what a planner answers: nothing asked for, no room for both parts, or both parts laid.
+use mathlib.Core.Path.{_≡_, sym, ap, _∙_}
+use mathlib.Core.List.{List, []}
+use Prim.Native.Nat.{ℕ, _+_, _*_, _≤_, _<_}
+use native.Mathlib.Omega.{arith}
+use native.Mathlib.Nat.{div-mul-le-self, mul-le-mul-right}
+use lib.ListN.{length}
+use Rattle.switch.specs.declared.Refusal.the-variants.{Room}
+use Rattle.switch.specs.declared.Outcome.the-variants.{Done, Refused}
+use Rattle.switch.specs.Answer.{planCounts}
+use Rattle.switch.specs.Demand.{cell, longest}
+use Rattle.switch.specs.Plan.{Record, total}
+use Rattle.demand.specs.Check.{checkDemand}
+use Rattle.demand.specs.declared.Checked.the-variants.{Fine}
+use Rattle.demand.proofs.Check.{fine-asked}
+use Rattle.rules.specs.Exact.{exactPlan}
+use Rattle.rules.specs.Doubled.{doubledPlan}
+use Rattle.rules.proofs.Rotate.{doubled-empty}
+use Rattle.records.specs.Bytes.{whole, bytes, laid}
+use Rattle.records.proofs.Laid.{laid-none}
+use Rattle.records.proofs.Bytes.{bytes-none}
+use Rattle.planner.specs.Planned.{Planned, planned}
+use Rattle.planner.proofs.Planned.{planned-short, planned-done, written-outcome, written-bytes}
+use Rattle.rotations.specs.Second.{Turning, Measures}
+use Rattle.peel.specs.Standing.{Cells}
+use Rattle.exact.specs.Laying.{Place}
+use Rattle.doubled.specs.Parts.{parts, Divided, Needs}
+use Rattle.doubled.proofs.Both.{parts-records, parts-total}
+use Rattle.doubled.proofs.Divided.{asked, turning, doubled-parts, within, quotient-cells}
+
+-- a plan of r records and total t that is laid is the answer
+laid-answer : (W e N T r t : ℕ) (d : List ℕ) (p : List Record) (plan plan' : List ℕ) → checkDemand W N d ≡ Fine T → length p ≤ whole W plan
+    → r ≡ length p → t ≡ total p → plan' ≡ laid plan 0 (bytes e N p)
+    → (Done (planCounts r T t) ≡ planned W e N d p plan .outcome) × (plan' ≡ planned W e N d p plan .bytes)
+laid-answer W e N T r t d p plan plan' fine fits a b c =
+    let s = sym (planned-done W e N d p plan T fine fits) in
+    (written-outcome e N T r t p plan a b ∙ ap (λ (x : Planned). x .outcome) s, c ∙ written-bytes e N T p plan ∙ ap (λ (x : Planned). x .bytes) s)
+
+-- T is 0
+pub empty-answer : (W e N : ℕ) (d plan : List ℕ) → checkDemand W N d ≡ Fine 0
+    → (Done (planCounts 0 0 0) ≡ planned W e N d (doubledPlan W N d) plan .outcome) × (plan ≡ planned W e N d (doubledPlan W N d) plan .bytes)
+empty-answer W e N d plan fine = laid-answer W e N 0 0 0 d (doubledPlan W N d) plan plan fine (omega (arith, ap length none)) (sym (ap length none)) (unfold total in sym (ap total none))
+    (sym (laid-none plan 0) ∙ ap (laid plan 0) (sym (ap (bytes e N) none ∙ bytes-none e N)))
+  where
+    none : doubledPlan W N d ≡ []
+    none = doubled-empty W N d (sym (fine-asked W N 0 d fine .longest-is))
+
+module _ (W N T u : ℕ) (d q : List ℕ) (v : Divided W N T u d q) (e : ℕ) (plan : List ℕ) (turns sum : ℕ) (m : Measures N u turns sum) where
+  records : length (doubledPlan W N d) ≡ length (exactPlan W N q) + turns
+  records = omega (arith, ap length (doubled-parts W N T u d q v), parts-records W N u q, m .count W)
+
+  module _ (need : ℕ) (s : Needs (whole W plan) need (length (exactPlan W N q) + turns)) where
+    -- code 5, with the records needed
+    pub short-answer : whole W plan < need
+        → (Refused (Room need) ≡ planned W e N d (doubledPlan W N d) plan .outcome) × (plan ≡ planned W e N d (doubledPlan W N d) plan .bytes)
+    short-answer l =
+        let n : need ≡ length (doubledPlan W N d) = omega (arith, s .short l, records) in
+        let r = sym (planned-short W e N d (doubledPlan W N d) plan T (v .fine) (omega (arith, n))) in
+        (ap (λ (k : ℕ). Refused (Room k)) n ∙ ap (λ (x : Planned). x .outcome) r, ap (λ (x : Planned). x .bytes) r)
+
+    -- there is room, and the quotients are as they were
+    module _ (l : need ≤ whole W plan) (S : ℕ) (longest-is : S ≡ longest N (cell N q)) (q' : List ℕ) (same : q' ≡ q) where
+      fits : length (doubledPlan W N d) ≤ whole W plan
+      fits = omega (arith, s .fits l, records)
+
+      pub ready : Cells N S q' × Turning N u × Place N S u W 0 (parts W N u q') plan
+      ready = rw same (quotient-cells W N T u d q v S longest-is, turning W N T u d q v, place)
+        where
+          place : Place N S u W 0 (parts W N u q) plan
+          place = record {
+            wide = asked W N T u d q v .few;
+            narrow = v .narrow;
+            fits = omega (arith, within W N T u d q v S longest-is, asked W N T u d q v .small);
+            room = omega (arith, div-mul-le-self (length plan) (W + 4), mul-le-mul-right (W + 4) fits, ap (λ (p : List Record). length p * (W + 4)) (doubled-parts W N T u d q v));
+          }
+
+      -- both parts are laid
+      pub both-answer : (r : ℕ) (plan' : List ℕ) → r ≡ length (exactPlan W N q') → plan' ≡ laid plan 0 (bytes e N (parts W N u q'))
+          → (Done (planCounts (r + turns) T (S * u + sum)) ≡ planned W e N d (doubledPlan W N d) plan .outcome) × (plan' ≡ planned W e N d (doubledPlan W N d) plan .bytes)
+      both-answer r plan' count put = laid-answer W e N T (r + turns) (S * u + sum) d (doubledPlan W N d) plan plan' (v .fine) fits
+          (omega (arith, count ∙ ap (λ (x : List ℕ). length (exactPlan W N x)) same, records))
+          (omega (arith, ap total (doubled-parts W N T u d q v), parts-total W N S u q (quotient-cells W N T u d q v S longest-is) (asked W N T u d q v .few), m .held W))
+          (put ∙ ap (λ (x : List ℕ). laid plan 0 (bytes e N (parts W N u x))) same ∙ ap (λ (p : List Record). laid plan 0 (bytes e N p)) (sym (doubled-parts W N T u d q v)))

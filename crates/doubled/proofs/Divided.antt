@@ -1,0 +1,60 @@
+-- The quotients' lines times u are at most T, so they are cells that the exact planner takes; and its plan of them is the doubled plan's first part.
+use mathlib.Core.Path.{_≡_, sym, ap, _∙_}
+use mathlib.Core.List.{List, _++_, map}
+use Prim.Native.Nat.{ℕ, _*_, _≤_}
+use native.Mathlib.Omega.{arith}
+use native.Mathlib.Nat.{div-mul-le-self, mul-le-mul-right, le-mul-of-pos-right}
+use lib.ListN.{length}
+use borrow.Author.Tests.{ne-eqb}
+use Rattle.switch.specs.Demand.{cell, longest}
+use Rattle.demand.specs.Check.{Asked}
+use Rattle.demand.specs.Lines.{Sized}
+use Rattle.demand.proofs.Check.{fine-asked}
+use Rattle.rules.specs.Exact.{exactPlan}
+use Rattle.rules.specs.Doubled.{unit, divide, stretch, doubledBy, doubledPlan}
+use Rattle.rules.proofs.Doubled.{length-divide, longest-divide}
+use Rattle.peel.specs.Standing.{Cells}
+use Rattle.rotations.specs.Second.{rotations, Turning}
+use Rattle.doubled.specs.Parts.{parts, Divided}
+use Rattle.doubled.proofs.Dividing.{unit-some, unit-small}
+
+module _ (W N T u : ℕ) (d q : List ℕ) (v : Divided W N T u d q) where
+  pub asked : Asked W N T d
+  asked = fine-asked W N T d (v .fine)
+
+  pub turning : Turning N u
+  turning = record {
+    some = asked .some;
+    few = omega (arith, asked .few, v .narrow);
+    least = omega (arith, v .unit-is, unit-some N T (asked .some) (v .some));
+    most = omega (arith, v .unit-is, asked .small, unit-small N T (asked .some) (v .some));
+  }
+
+  pub sized : Sized N q
+  sized = record { few = turning .few; room = omega (arith, asked .size, ap length (v .quotients-are), length-divide u d) }
+
+  pub doubled-parts : doubledPlan W N d ≡ parts W N u q
+  doubled-parts = unfold doubledPlan doubledBy in
+      rw (ne-eqb (longest N (cell N d)) 0 (omega (arith, asked .longest-is, v .some)))
+      (ap (λ (x : ℕ). map (stretch x) (exactPlan W N (divide x d)) ++ rotations W N x) (ap (unit N) (sym (asked .longest-is)) ∙ sym (v .unit-is))
+      ∙ ap (parts W N u) (sym (v .quotients-are)))
+
+  module _ (S : ℕ) (longest-is : S ≡ longest N (cell N q)) where
+    -- the quotients' T, times u, is at most T
+    pub within : S * u ≤ T
+    within = omega (
+      arith,
+      ap (λ (k : ℕ). k * u) (longest-is ∙ ap (λ (l : List ℕ). longest N (cell N l)) (v .quotients-are)),
+      mul-le-mul-right u (longest-divide N u d (turning .least)),
+      div-mul-le-self (longest N (cell N d)) u,
+      asked .longest-is,
+    )
+
+    pub quotient-cells : Cells N S q
+    quotient-cells = record {
+      some = asked .some;
+      few = turning .few;
+      room = sized .room;
+      longest-is = longest-is;
+      small = omega (arith, within, asked .small, le-mul-of-pos-right S (turning .least));
+    }

@@ -1,0 +1,169 @@
+// The doubled planner: the exact plan of the cells divided by u, each hold then multiplied by u, and the rotations for what is left over.
+// It promises the whole answer and every byte of the lent plan, for any N and any cells: the refusals in document 01's order, all known
+// before the first byte is written, and else the plan. The lent demand is only read. The settings of the first part are `exact`'s, the
+// rotations are `rotations`', and what a demand is refused for is `demand`'s: this crate divides, counts what both parts need, and adds up.
+use demand::Checked;
+use demand::check_demand;
+use demand::longest_line;
+use records::EDITION;
+use records::HEAD;
+use records::OUTPUTS;
+use switch::Counts;
+use switch::Outcome;
+use switch::PORTS;
+use switch::Refusal;
+ghost use mathlib.Core.Path.{_≡_};
+ghost use Prim.Native.Nat.{ℕ, _+_, _/_, _<_, _≤_};
+ghost use lib.ListN.{length};
+ghost use Rattle.demand.specs.Check.{checkDemand};
+ghost use Rattle.demand.specs.declared.Checked.the-variants.{Fine};
+ghost use Rattle.rules.specs.Exact.{exactPlan};
+ghost use Rattle.rules.specs.Doubled.{unit, divide, doubledPlan};
+ghost use Rattle.planner.specs.Planned.{planned};
+ghost use Rattle.records.specs.Bytes.{bytes, laid};
+ghost use Rattle.peel.specs.Standing.{Cells};
+ghost use Rattle.exact.specs.Laying.{Place};
+ghost use Rattle.rotations.specs.Second.{Turning};
+ghost use Rattle.doubled.specs.Parts.{parts, Divided, Needs};
+
+// The cells of the largest switch of this edition.
+const CELLS: usize = 4096;
+
+// The doubled plan of a demand, written at the start of a lent plan.
+pub fn doubled_plan(n: usize, cells: &[u32], plan: &mut [u8]) -> Outcome
+    ensures { λ r. ⌜ (r ≡ planned 64 0 n (now (cells .entry)) (doubledPlan 64 n (now (cells .entry))) (now (plan .entry)) .outcome) × (now (plan .exit) ≡ planned 64 0 n (now (cells .entry)) (doubledPlan 64 n (now (cells .entry))) (now (plan .entry)) .bytes) ⌝ }
+{
+    match check_demand(n, PORTS, cells) {
+        Checked::Faulty(r) => Outcome::Refused(r),
+        Checked::Fine(longest) => {
+            let mut work = [0u32; CELLS];
+            let size = cells.len();
+            plan_fine(n, longest, cells, &mut work[..size], OUTPUTS, EDITION, plan)
+        }
+    }
+}
+
+// The same for a demand that nothing but the room can refuse. If T is 0, the plan is empty, and there is no u to divide by.
+fn plan_fine(
+    n: usize,
+    longest: u64,
+    cells: &[u32],
+    work: &mut [u32],
+    width: usize,
+    edition: u8,
+    plan: &mut [u8],
+) -> Outcome
+    requires { ⌜ (checkDemand width n (now cells) ≡ Fine longest) × (width ≤ 128) × (length (now work) ≡ length (now cells)) ⌝ }
+    ensures { λ r. ⌜ (r ≡ planned width edition n (now (cells .entry)) (doubledPlan width n (now (cells .entry))) (now (plan .entry)) .outcome) × (now (plan .exit) ≡ planned width edition n (now (cells .entry)) (doubledPlan width n (now (cells .entry))) (now (plan .entry)) .bytes) ⌝ }
+{
+    if longest == 0 {
+        return Outcome::Done(Counts {
+            records: 0,
+            longest: 0,
+            total: 0,
+            length: 0,
+        });
+    }
+    let unit = unit_of(n, longest);
+    quotients(cells, work, unit);
+    plan_parts(n, longest, unit, cells, work, width, edition, plan)
+}
+
+// u is T / N rounded up.
+fn unit_of(n: usize, longest: u64) -> u32
+    requires { ⌜ (0 < n) × (n ≤ 128) × (longest ≤ 65535) ⌝ }
+    ensures { λ r. ⌜ r ≡ unit n longest ⌝ }
+{
+    let ports = n as u64;
+    ((longest + (ports - 1)) / ports) as u32
+}
+
+// The cells divided by u, rounded down.
+fn quotients(cells: &[u32], work: &mut [u32], unit: u32)
+    requires { ⌜ (length (now work) ≡ length (now cells)) × (0 < unit) ⌝ }
+    ensures { λ _. ⌜ now (work .exit) ≡ divide unit (now (cells .entry)) ⌝ }
+{
+    for k in 0..cells.len() {
+        work[k] = quotient(cells[k], unit);
+    }
+}
+
+// A cell divided by u, rounded down.
+fn quotient(cell: u32, unit: u32) -> u32
+    requires { ⌜ 0 < unit ⌝ }
+    ensures { λ r. ⌜ r ≡ cell / unit ⌝ }
+{
+    cell / unit
+}
+
+// The same for quotients that are made: both parts, once it is known that there is room for both.
+fn plan_parts(
+    n: usize,
+    longest: u64,
+    unit: u32,
+    cells: &[u32],
+    work: &mut [u32],
+    width: usize,
+    edition: u8,
+    plan: &mut [u8],
+) -> Outcome
+    requires { ⌜ Divided width n longest unit (now cells) (now work) ⌝ }
+    ensures { λ r. ⌜ (r ≡ planned width edition n (now (cells .entry)) (doubledPlan width n (now (cells .entry))) (now (plan .entry)) .outcome) × (now (plan .exit) ≡ planned width edition n (now (cells .entry)) (doubledPlan width n (now (cells .entry))) (now (plan .entry)) .bytes) ⌝ }
+{
+    let first = longest_line(work, n);
+    let second = rotations::measure(n, unit);
+    let turns = second.records;
+    let room = plan.len() / (width + HEAD);
+    let need = needed(cells, work, n, unit, first, turns, room);
+    if room < need {
+        return Outcome::Refused(Refusal::Room(need));
+    }
+    let records = lay_parts(work, n, first, unit, width, edition, plan);
+    Outcome::Done(Counts {
+        records: records + turns,
+        longest: longest,
+        total: first * unit as u64 + second.total,
+        length: 0,
+    })
+}
+
+// How many records both parts have, where that could be over the room. A part has no more records than its total, so where the first's
+// total fits beside the rotations nothing is counted.
+fn needed(
+    cells: &[u32],
+    work: &mut [u32],
+    n: usize,
+    unit: u32,
+    first: u64,
+    turns: usize,
+    room: usize,
+) -> usize
+    requires { ⌜ Cells n first (now work) × (now work ≡ divide unit (now cells)) × (0 < unit) × (turns ≤ n) ⌝ }
+    ensures { λ r. ⌜ (now (work .exit) ≡ now (work .entry)) × ((W : ℕ) → n ≤ W → W ≤ 128 → Needs room r (length (exactPlan W n (now (work .entry))) + turns)) ⌝ }
+{
+    let most = first as usize + turns;
+    if most <= room {
+        return most;
+    }
+    let need = exact::count(work, n, first) + turns;
+    quotients(cells, work, unit);
+    need
+}
+
+// The first part at the plan's start and the second behind it; and how many records the first has. The quotients are spent.
+fn lay_parts(
+    work: &mut [u32],
+    n: usize,
+    first: u64,
+    unit: u32,
+    width: usize,
+    edition: u8,
+    plan: &mut [u8],
+) -> usize
+    requires { ⌜ Cells n first (now work) × Turning n unit × Place n first unit width 0 (parts width n unit (now work)) (now plan) ⌝ }
+    ensures { λ r. ⌜ (r ≡ length (exactPlan width n (now (work .entry)))) × (now (plan .exit) ≡ laid (now (plan .entry)) 0 (bytes edition n (parts width n unit (now (work .entry))))) ⌝ }
+{
+    let records = exact::lay(work, n, first, unit, width, edition, plan, 0);
+    rotations::lay(n, unit, width, edition, plan, records * (width + HEAD));
+    records
+}

@@ -1,0 +1,68 @@
+-- Each turn counts one setting's records and adds its hold.
+use Prim.Native.Nat.{_-_, _≤_}
+use native.Mathlib.Omega.{arith}
+use Rattle.rules.specs.Doubled.{rotate, flat}
+use Rattle.rotations.proofs.Turns.{Counted, counted-none, counted-next, counted-all, one-at-most, flat-small}
+use borrow.Author.Needs.{needs}
+use Rattle.rotations.proofs.measure.Statement.{statement}
+use Rattle.rotations.proofs.measure.Tie as tie
+
+abbrev Inv-loop : tie.InvT-loop
+Inv-loop n unit records₀ total₀ k₀ records total k = (k ≤ n) × Counted (rotate n) (flat unit) n k records total
+
+abbrev μ-loop : tie.MeasureT-loop
+μ-loop n unit records₀ total₀ k₀ records total k = n - k
+
+loop-holds : tie.Need-loop-holds Inv-loop μ-loop
+loop-holds c = (omega arith, counted-none _ _ _)
+
+hold-of-requires : tie.Need-hold-of-requires Inv-loop μ-loop
+hold-of-requires c κs = let p = c .before .before .pre in (p .least, p .most)
+
+records-of-requires : tie.Need-records-of-requires Inv-loop μ-loop
+records-of-requires c κs = search needs
+
+add-records : tie.Need-add-records Inv-loop μ-loop
+add-records c = let p = c .before .before .before .before .pre in let q = c .before .before .before .loop .inv .1 in omega (arith, p .few, q .few, one-at-most _ _ (c .records-of .ensures))
+
+cast-total : tie.Need-cast-total Inv-loop μ-loop
+cast-total c = search needs
+
+add-total : tie.Need-add-total Inv-loop μ-loop
+add-total c = let p = c .before .before .before .before .pre in let l = c .before .before .before .loop in omega (arith, p .few, l .inv .1 .small, c .before .hold-of .ensures, flat-small _ (l .k) (p .most))
+
+add-k : tie.Need-add-k Inv-loop μ-loop
+add-k c = search needs
+
+loop-less : tie.Need-loop-less Inv-loop μ-loop
+loop-less c = search needs
+
+loop-again : tie.Need-loop-again Inv-loop μ-loop
+loop-again c =
+    let l = c .before .before .before .loop in
+    let h = c .before .hold-of .ensures in
+    (omega arith, counted-next _ _ _ _ _ _ (l .inv .1) _ _ (omega arith) h (omega (arith, h, flat-small _ (l .k) (c .before .before .before .before .pre .most))) (c .records-of .ensures))
+
+returns : tie.Need-returns Inv-loop μ-loop
+returns c =
+    let l = c .before .loop in
+    let q = l .inv .1 in
+    let e = counted-all _ _ _ _ _ _ q (omega arith) in
+    record { few = omega (arith, q .few); small = omega (arith, q .small); count = λ W. e W .0; held = λ W. e W .1 }
+
+pub measure-spec : {M : Type 1} → statement M
+measure-spec =
+    tie.close
+    (tie.spec
+    Inv-loop
+    μ-loop
+    loop-holds
+    hold-of-requires
+    records-of-requires
+    add-records
+    cast-total
+    add-total
+    add-k
+    loop-less
+    loop-again
+    returns)

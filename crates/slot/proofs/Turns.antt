@@ -1,0 +1,137 @@
+-- An input's label has the outputs with slots left for it, so its lowest that is not taken is what the rule gives the input.
+use mathlib.Core.Path.{_≡_, sym, ap, _∙_, subst}
+use mathlib.Core.Logic.{_≢_, inl, inr}
+use mathlib.Core.Bool.{true, false}
+use mathlib.Core.List.{List}
+use Prim.Native.Nat.{ℕ, _+_, _*_, _-_, _<_}
+use native.Mathlib.Decide.{ℕ-discrete}
+use native.Mathlib.Omega.{arith}
+use lib.ListN.{length, set, length-set}
+use lib.Dec.{T}
+use borrow.Author.Tests.{eq-eqb, ne-eqb}
+use Rattle.counting.specs.Matrix.{row}
+use Rattle.counting.proofs.Sum.{sum-at}
+use Rattle.counting.proofs.Matrix.{Raised, raised-all}
+use Rattle.switch.specs.Demand.{cell}
+use Rattle.switch.proofs.Demand.{set-lowered}
+use Rattle.labels.specs.Label.{digit, In, Sub, hasOutput, Marked, LowestAt}
+use Rattle.labels.specs.Wide.{outputsOf}
+use Rattle.rules.specs.Search.{put}
+use Rattle.rules.specs.Peel.{peel}
+use Rattle.rules.specs.Quick.{may}
+use Rattle.rules.proofs.Ports.{put-same, put-other}
+use Rattle.rules.proofs.Peel.{peel-at, peel-off}
+use Rattle.rules.proofs.Slot.{lowest-at, lowest-none, may-yes, may-is}
+use Rattle.slot.specs.declared.Turn.{Turn}
+use Rattle.work.specs.Labelled.{RowOf, TakePost}
+use Rattle.slot.specs.Filled.{leftIn, Copy, turnOf, Turned}
+
+-- ---- sets and tests
+
+has-in : (l j : ℕ) → T (hasOutput l j) → In l j
+has-in l j t = go (ℕ-discrete (digit l j) 1)
+  where
+    go : Dec (digit l j ≡ 1) → digit l j ≡ 1
+    go (yes e) = e
+    go (no e) = absurd (rw (ne-eqb (digit l j) 1 e) at t)
+
+in-has : (l j : ℕ) → In l j → T (hasOutput l j)
+in-has l j e = rw (eq-eqb (digit l j) 1 e) tt
+
+pub none-has : (l : ℕ) → ((k : ℕ) → In l k → ⊥) → (j : ℕ) → hasOutput l j ≡ false
+none-has l h j = ne-eqb (digit l j) 1 (h j)
+
+-- a set marked at j has j besides
+pub marked-has : (l j r : ℕ) → Marked l j r → (b : ℕ) → hasOutput r b ≡ put (hasOutput l) j true b
+marked-has l j r m b = go (ℕ-discrete b j) (ℕ-discrete (digit l b) 1)
+  where
+    go : Dec (b ≡ j) → Dec (digit l b ≡ 1) → hasOutput r b ≡ put (hasOutput l) j true b
+    go (yes e) d = rw (e, put-same (hasOutput l) j true) (eq-eqb (digit r j) 1 (m .put))
+    go (no e) (yes d) = rw (put-other (hasOutput l) j true b e) (eq-eqb (digit r b) 1 (m .more b d) ∙ sym (eq-eqb (digit l b) 1 d))
+    go (no e) (no d) = rw (put-other (hasOutput l) j true b e) (ne-eqb (digit r b) 1 only ∙ sym (ne-eqb (digit l b) 1 d))
+      where
+        only : In r b → ⊥
+        only h = elim (m .only b h) [ inl x ↦ d x | inr x ↦ e x ]
+
+-- ---- what the rule gives
+
+module _ (N : ℕ) (w : List ℕ) (i label taken : ℕ) (r : RowOf N w i label) where
+  pub turn-none : Sub label taken → turnOf N w taken i ≡ 255
+  unfolding turnOf
+  turn-none h = lowest-none N 0 (may (cell N w) (hasOutput taken) i)
+      (λ y _ l t. let p = may-is (cell N w) (hasOutput taken) i y t in p .1 (in-has taken y (h y (r .all y (omega arith) (p .0)))))
+
+  pub turn-at : (j : ℕ) → LowestAt 128 label taken j → turnOf N w taken i ≡ j
+  unfolding turnOf
+  turn-at j m =
+      let o = r .only j (m .here) in
+      lowest-at N 0 (may (cell N w) (hasOutput taken) i) j (omega arith) (omega (arith, o .0))
+      (may-yes (cell N w) (hasOutput taken) i j (o .1) (λ t. m .new (has-in taken j t)))
+      (λ y _ l t. let p = may-is (cell N w) (hasOutput taken) i y t in p .1 (in-has taken y (m .past y l (r .all y (below y l (o .0)) (p .0)))))
+    where
+      below : (y : ℕ) → y < j → j < N → y < N
+      below y l k = omega arith
+
+-- ---- one slot of a pair less
+
+-- a pair with slots left has some of all that are left
+pub some-left : (N : ℕ) (w : List ℕ) (i j : ℕ) → i < N → j < N → 0 < cell N w i j → 0 < leftIn N w
+unfolding leftIn row
+some-left N w i j li lj p = omega (arith, sum-at N (row N (cell N w)) i li, sum-at N (cell N w i) j lj)
+
+pub lowered-peel : (N i j : ℕ) (M M' : ℕ → ℕ → ℕ) → Raised N M M' i j 1 → (a b : ℕ) → a < N → b < N → b ≢ 255 → M a b ≡ peel 1 (put (λ _. 255) i j) M' a b
+lowered-peel N i j M M' r a b la lb idle = go (ℕ-discrete a i) (ℕ-discrete b j)
+  where
+    o : ℕ → ℕ
+    o = put (λ _. 255) i j
+
+    joined : o i ≡ j
+    joined = put-same (λ _. 255) i j
+
+    go : Dec (a ≡ i) → Dec (b ≡ j) → M a b ≡ peel 1 o M' a b
+    go (yes x) (yes y) = rw (x, y) (sym (subst (λ (z : ℕ). peel 1 o M' i z ≡ M i j) joined (peel-at 1 o M' i ∙ (subst (λ (z : ℕ). M' i z - 1 ≡ M i j) (sym joined) (omega (arith, r .at))))))
+    go (yes x) (no y) = sym (peel-off 1 o M' a b (λ e. y (sym e ∙ ap o x ∙ joined)) ∙ r .off-col a b la lb y)
+    go (no x) y = sym (peel-off 1 o M' a b (λ e. idle (sym e ∙ put-other (λ _. 255) i j a x)) ∙ r .off-row a b la lb x)
+
+pub nothing-peel : (i : ℕ) (M : ℕ → ℕ → ℕ) (a b : ℕ) → b ≢ 255 → M a b ≡ peel 1 (put (λ _. 255) i 255) M a b
+nothing-peel i M a b idle = sym (peel-off 1 (put (λ _. 255) i 255) M a b (λ e. idle (sym e ∙ all)))
+  where
+    all : put {A = ℕ} (λ _. 255) i 255 a ≡ 255
+    all = go (ℕ-discrete a i)
+      where
+        go : Dec (a ≡ i) → put {A = ℕ} (λ _. 255) i 255 a ≡ 255
+        go (yes x) = ap (put {A = ℕ} (λ _. 255) i 255) x ∙ put-same {A = ℕ} (λ _. 255) i 255
+        go (no x) = put-other {A = ℕ} (λ _. 255) i 255 a x
+
+-- ---- the turn
+
+module _ (N i : ℕ) (w lows highs out : List ℕ) (turn : Turn) (c : Copy N (turn .left) w lows highs) where
+  taken : ℕ
+  taken = outputsOf (turn .taken)
+
+  -- nothing is free: the input is idle
+  pub turned-none : turnOf N w (outputsOf (turn .taken)) i ≡ 255 → Turned N i w out turn w lows highs (set out i 255) turn
+  turned-none e = record {
+    copy = c;
+    seated = ap (set out i) (sym e);
+    cells = λ a b la lb. rw e (nothing-peel i (cell N w) a b (omega (arith, c .sized .few)));
+    taken = λ b lb. rw e (sym (put-other (hasOutput (outputsOf (turn .taken))) 255 true b (omega (arith, c .sized .few))));
+  }
+
+  -- output j: one slot of the pair less, and one in all
+  pub turned-at : (j : ℕ) → i < N → j < N → 0 < cell N w i j → turnOf N w (outputsOf (turn .taken)) i ≡ j → (w' lows' highs' : List ℕ) (turn' : Turn)
+      → TakePost N w i j 1 w' lows' highs' → Marked (outputsOf (turn .taken)) j (outputsOf (turn' .taken)) → turn' .left ≡ turn .left - 1
+      → Turned N i w out turn w' lows' highs' (set out i j) turn'
+  turned-at j li lj p e w' lows' highs' turn' s m f = record {
+    copy = record {
+      sized = record { some = c .sized .some; few = c .sized .few; room = omega (arith, c .sized .room, ap length (s .taken), length-set w (i * N + j) (cell N w i j - 1)) };
+      labels = s .labels;
+      all = unfold leftIn in omega (arith, f, c .all, raised-all N (cell N w') (cell N w) i j 1 li lj low);
+    };
+    seated = ap (set out i) (sym e);
+    cells = λ a b la lb. rw e (lowered-peel N i j (cell N w') (cell N w) low a b la lb (omega (arith, c .sized .few)));
+    taken = λ b lb. rw e (marked-has (outputsOf (turn .taken)) j (outputsOf (turn' .taken)) m b);
+  }
+    where
+      low : Raised N (cell N w') (cell N w) i j 1
+      low = subst (λ (x : List ℕ). Raised N (cell N x) (cell N w) i j 1) (sym (s .taken)) (set-lowered N w (c .sized .room) i j 1 li lj p)

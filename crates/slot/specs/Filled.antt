@@ -1,0 +1,54 @@
+-- One slot on a working copy with a label for each input: what each turn may assume and what it promises. Definitions only.
+use mathlib.Core.Path.{_≡_}
+use mathlib.Core.Bool.{true}
+use mathlib.Core.List.{List, _∷_}
+use Prim.Native.Nat.{ℕ, _+_, _≤_, _<_}
+use lib.ListN.{length, getD, set}
+use Rattle.counting.specs.Sum.{sum}
+use Rattle.counting.specs.Matrix.{row}
+use Rattle.switch.specs.Demand.{cell}
+use Rattle.switch.specs.Plan.{Record}
+use Rattle.labels.specs.Label.{hasOutput}
+use Rattle.labels.specs.Wide.{outputsOf}
+use Rattle.rules.specs.Search.{put}
+use Rattle.rules.specs.Peel.{peel}
+use Rattle.rules.specs.Quick.{lowest, may, quickFrom}
+use Rattle.slot.specs.declared.Turn.{Turn}
+use Rattle.work.specs.Level.{Sized}
+use Rattle.work.specs.Labelled.{Labelled}
+
+-- how many slots are left in all
+unfoldable pub leftIn : ℕ → List ℕ → ℕ
+leftIn N w = sum N (row N (cell N w))
+
+-- the records still to come, from slot s on, of what is left in the working copy
+unfoldable pub leftover : ℕ → ℕ → ℕ → List ℕ → List Record
+leftover W N s w = quickFrom W N s (cell N w)
+
+-- a working copy with its labels, and so many slots left in all
+pub record Copy (N left : ℕ) (w lows highs : List ℕ) : Type 0 where
+  pub sized : Sized N w
+  pub labels : Labelled N w lows highs
+  pub all : left ≡ leftIn N w
+
+-- the outputs of a slot have room for N inputs, and are idle past them
+pub record Seats (N : ℕ) (out : List ℕ) : Type 0 where
+  pub wide : N ≤ length out
+  pub idle : (i : ℕ) → N ≤ i → getD out i 255 ≡ 255
+
+-- what input i takes on its turn, where some outputs are taken: the lowest free one with slots left for that pair, 255 where there is none
+unfoldable pub turnOf : ℕ → List ℕ → ℕ → ℕ → ℕ
+turnOf N w taken i = lowest N 0 (may (cell N w) (hasOutput taken) i)
+
+-- input i has had its turn: what it takes stands among the outputs, one slot of that pair is subtracted, and the output is taken
+pub record Turned (N i : ℕ) (w out : List ℕ) (turn : Turn) (w' lows' highs' out' : List ℕ) (turn' : Turn) : Type 0 where
+  pub copy : Copy N (turn' .left) w' lows' highs'
+  pub seated : out' ≡ set out i (turnOf N w (outputsOf (turn .taken)) i)
+  pub cells : (a b : ℕ) → a < N → b < N → cell N w' a b ≡ peel 1 (put (λ _. 255) i (turnOf N w (outputsOf (turn .taken)) i)) (cell N w) a b
+  pub taken : (b : ℕ) → b < N → hasOutput (outputsOf (turn' .taken)) b ≡ put (hasOutput (outputsOf (turn .taken))) (turnOf N w (outputsOf (turn .taken)) i) true b
+
+-- slot s is filled: what was still to come is its record and what is still to come
+pub record Filled (N s : ℕ) (w w' lows' highs' out' : List ℕ) (left' : ℕ) : Type 0 where
+  pub copy : Copy N left' w' lows' highs'
+  pub seats : Seats N out'
+  pub more : leftover (length out') N s w ≡ record { hold = 1; outputs = out' } ∷ leftover (length out') N (s + 1) w'
