@@ -1,13 +1,18 @@
 #!/usr/bin/env python3
-"""The stored cases of the lister: wish lists as they come at its standard input, and the text that it prints.
+"""The stored runs of the lister: the example batch of crates/lister, and the many cases of crates/lister_cases.
 
-python3 makers/lister_cases.py stdin|stdout
+What must be printed comes from the reference alone: neither program is run here. Run it from the repository's root:
+    python3 makers/lister_cases.py            writes stdin and stdout of both programs
+    python3 makers/lister_cases.py --check    says whether they are as they would be written
 """
+import pathlib
 import random
 import struct
+import sys
 
 import reference as ref
 import tape
+import wish_list
 
 
 def case(name, stdin):
@@ -45,6 +50,7 @@ def plans():
     yield case("N = 16, one wish", wish(15, 15, 4))
     yield case("N = 16, all pairs", wishes(16, [rng.randint(0, 3) for _ in range(256)]))
     yield case("N = 16, all pairs zero", wishes(16, [0] * 256))
+    yield case("N = 16, a long plan", wishes(16, [rng.randint(0, 4_000) for _ in range(256)]))
     yield case("N = 6", wishes(6, [rng.randint(0, 900) / 4 for _ in range(36)]))
     yield case("a line of 65,535", wish(0, 0, 65_534) + wish(1, 0, 1))
 
@@ -95,5 +101,30 @@ def cases():
     return [*plans(), *refusals(), *long_lists()]
 
 
+# ---- what is stored
+
+
+def files():
+    batch = wish_list.records(pathlib.Path("examples/batch.txt").read_text())
+    made = cases()
+    return {
+        "crates/lister/stdin": batch,
+        "crates/lister/stdout": ref.lister(batch).encode(),
+        "crates/lister_cases/stdin": b"".join(steps for steps, _ in made),
+        "crates/lister_cases/stdout": "".join(text for _, text in made).encode(),
+    }
+
+
+def main():
+    ref.examples()  # the reference gives document 01's own example before it is asked for others
+    if sys.argv[1:] == ["--check"]:
+        wrong = [name for name, data in files().items() if pathlib.Path(name).read_bytes() != data]
+        print("differ: " + " ".join(wrong) if wrong else "as made")
+        sys.exit(1 if wrong else 0)
+    for name, data in files().items():
+        pathlib.Path(name).write_bytes(data)
+        print(name, len(data), "bytes")
+
+
 if __name__ == "__main__":
-    tape.main(cases())
+    main()

@@ -138,6 +138,17 @@ def demands():
     yield "N = 64 dense of 0 to 15", 64, dense(rng, 64, 15)
 
 
+def exact_demands():
+    yield from demands()
+    yield from scarce()
+
+
+def doubled_demands():
+    """The exact plan's demands, and one whose exact plan the plain reference does not make soon."""
+    yield from exact_demands()
+    yield "N = 64 dense", 64, dense(random.Random(3), 64, 1_180)
+
+
 def scarce():
     """(name, N, cells) of demands that never leave a setting to choose by the lowest output alone."""
     yield "stranded input", 3, [1, 1, 0, 1, 0, 1, 1, 0, 0]
@@ -180,6 +191,12 @@ def refusals(letter):
     yield make("no room is needed", 4, [0] * 16, 0)
     yield make("no room is needed, some is lent", 4, [0] * 16, 1, 9)
     yield make("the largest line and too little room", 2, [limit, 0, 0, limit], 0, 67)
+    if letter == "d":
+        yield make("room for the first part alone", 4, diagonal(4, 5), 1, 67)
+        yield make("a rotation too few", 4, diagonal(4, 5), 4, 67)
+        yield make("room for all rotations", 4, diagonal(4, 5), 5)
+        yield make("2N records, one too few", 4, [3] * 16, 7)
+        yield make("2N records, room for all", 4, [3] * 16, 8)
     if letter == "q":
         yield make("T of 1,025", 1, [1_025], 4)
         yield make("T of 1,025 in one output and no room", 2, [1_000, 0, 25, 0], 0)
@@ -227,11 +244,13 @@ def wasteful():
     return best
 
 
+DEMANDS = {"x": exact_demands, "d": doubled_demands, "q": quick_demands}
+
+
 def cases():
     made = []
-    for letter in "xq":
-        chosen = list(quick_demands()) if letter == "q" else [*demands(), *scarce()]
-        for k, (name, n, cells) in enumerate(chosen):
+    for letter in "xdq":
+        for k, (name, n, cells) in enumerate(DEMANDS[letter]()):
             made.append(fitting(letter, name, n, cells, spare=k % 2, more=k % 3 * 34))
         made += refusals(letter)
     return made

@@ -36,7 +36,7 @@ def main():
     n = 64
     demands = {
         "dense, cells 0 to 26": [rng.randint(0, 26) for _ in range(n * n)],
-        "sparse, four outputs an input": [rng.randint(1, 180) if j in row else 0 for row in [set(rng.sample(range(n), 4)) for _ in range(n)] for j in range(n)],
+        "sparse, four outputs an input": [rng.randint(1, 140) if j in row else 0 for row in [set(rng.sample(range(n), 4)) for _ in range(n)] for j in range(n)],
         "small, cells 0 to 3": [rng.randint(0, 3) for _ in range(n * n)],
     }
     print("| demand, N = 64 | T | slots | reads a slot, scanning | reads a slot, labels | times fewer |")

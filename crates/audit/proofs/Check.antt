@@ -23,7 +23,7 @@ use Rattle.records.specs.Bytes.{whole, planFrom, planOf}
 use Rattle.audit.specs.Reading.{reading, Passed}
 use Rattle.audit.specs.Check.{uncovered, covering, afterDemand, checkPlan, Blank, Grants}
 use Rattle.audit.proofs.Reading.{reading-whole}
-use Rattle.audit.proofs.Pass.{length-plan}
+use Rattle.plans.proofs.Plans.{length-plan}
 use Rattle.audit.proofs.Cover.{uncovered-cong, covering-short, covering-done}
 
 -- codes 1, 2 and 3, and a demand that is fine

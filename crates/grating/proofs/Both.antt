@@ -10,7 +10,7 @@ use Rattle.rules.specs.Doubled.{stretch}
 use Rattle.rules.proofs.Doubled.{total-append, total-stretch}
 use Rattle.records.specs.Bytes.{planFrom, whole, bytes, laid}
 use Rattle.records.proofs.Bytes.{bytes-append, bytes-size}
-use Rattle.audit.proofs.Pass.{length-plan}
+use Rattle.plans.proofs.Plans.{length-plan}
 use Rattle.rotations.proofs.Parts.{part-length, part-laid}
 use Rattle.rotations.proofs.Turns.{turns-width}
 use Rattle.antirotations.specs.Opposite.{opposite, antiRotations}
@@ -30,7 +30,7 @@ module _ (W N u : ℕ) (first : List ℕ) (m : ℕ) (holds : List ℕ) where
   pub enough-room : (plan : List ℕ) → length both ≤ whole W plan → length both * (W + 4) ≤ length plan
   enough-room plan l = omega (arith, div-mul-le-self (length plan) (W + 4), mul-le-mul-right (W + 4) l)
 
-  module _ (e : ℕ) (room : m * (W + 4) ≤ length first) (plan : List ℕ) (enough : length both * (W + 4) ≤ length plan) where
+  module _ (e : ℕ) (room : m ≤ whole W first) (plan : List ℕ) (enough : length both * (W + 4) ≤ length plan) where
     sizes : (m + length (antiRotations W N holds)) * (W + 4) ≤ length plan
     sizes = omega (arith, enough, ap (λ (k : ℕ). k * (W + 4)) both-records)
 

@@ -105,7 +105,7 @@ module _ (W N T u : ℕ) (d q : List ℕ) (asks : checkDemand W N d ≡ Fine T) 
           part : First W u after (c .records) (c .total)
           part = record {
             few = omega (arith, records-are, few);
-            room = omega (arith, mul-le-mul-right (W + 4) (let l : c .records ≤ whole W after = omega (arith, records-are, few, room, ap (λ (n : ℕ). n / (W + 4)) same) in l), whole-fits W after);
+            room = omega (arith, records-are, few, room, ap (λ (n : ℕ). n / (W + 4)) same);
             sum-is = total-is ∙ ap total (sym reads);
             small = omega (arith, ap (λ (x : ℕ). x * u) (total-is ∙ sum-is), within, asked .small);
           }

@@ -11,12 +11,12 @@ use lib.Seq.{take-all}
 use Rattle.switch.specs.Plan.{Record, total}
 use Rattle.rules.specs.Doubled.{stretch}
 use Rattle.records.specs.Record.{hold, outputs, decoded}
-use Rattle.records.specs.Bytes.{encode, recordAt, planFrom, bytes, laid, Each, none, more, OfWidth}
+use Rattle.records.specs.Bytes.{encode, recordAt, whole, planFrom, bytes, laid, Each, none, more, OfWidth}
 use Rattle.records.proofs.Bytes.{encode-size, bytes-size}
-use Rattle.records.proofs.Part.{part, part-record, record-fits, record-size}
+use Rattle.records.proofs.Part.{whole-fits, record-fits, record-size}
 use Rattle.records.proofs.Round.{decoded-encode, first-record, next-plan}
 use Rattle.records.proofs.Written.{Written, written-none, written-all, written-room, written-next}
-use Rattle.audit.proofs.Pass.{length-plan}
+use Rattle.plans.proofs.Plans.{length-plan}
 use Rattle.grating.specs.Parts.{stretched}
 
 -- ---- a plan at the start of a buffer
@@ -37,6 +37,10 @@ laid-reads e N W {p} s d = before-rest e N W s (drop (0 + length (bytes e N p)) 
 
 -- ---- its records one after the other
 
+-- a record's outputs, as the code takes them
+pub part-outputs : (b : List ℕ) → take (length b - 4) (drop 4 b) ≡ outputs b
+part-outputs b = take-all (length b - 4) (drop 4 b) (omega (arith, length-drop 4 b))
+
 module _ (W : ℕ) (first : List ℕ) where
   -- no record is held longer than all of them together
   pub hold-small : (m j k : ℕ) → j ≤ k → k < j + m → hold (recordAt W first k) ≤ total (planFrom W first j m)
@@ -47,10 +51,6 @@ module _ (W : ℕ) (first : List ℕ) where
       go : Dec (j ≡ k) → (suc j ≤ k → hold (recordAt W first k) ≤ total (planFrom W first (suc j) m)) → hold (recordAt W first k) ≤ hold (recordAt W first j) + total (planFrom W first (suc j) m)
       go (yes e) r = rw (← e) (omega arith)
       go (no e) r = omega (arith, r (omega (arith, e)))
-
-  -- a record's outputs, as the code takes them
-  pub part-outputs : (k : ℕ) → take (length (part W first k) - 4) (drop 4 (part W first k)) ≡ outputs (recordAt W first k)
-  part-outputs k = take-all (length (part W first k) - 4) (drop 4 (part W first k)) (omega (arith, length-drop 4 (part W first k))) ∙ ap outputs (part-record W first k)
 
   module _ (u m : ℕ) where
     -- what is left from record k on
@@ -80,10 +80,10 @@ module _ (W : ℕ) (first : List ℕ) where
     abbrev pub Laying : ℕ → ℕ → List ℕ → List ℕ → ℕ → Type 0
     Laying e N plan₀ plan k = Written e N (stretched W u first m) plan₀ 0 (rest k) plan k (k * (W + 4))
 
-    module _ (room : m * (W + 4) ≤ length first) where
+    module _ (room : m ≤ whole W first) where
       -- a record has W outputs
       pub longer-size : (k : ℕ) → k < m → length (longer k .outputs) ≡ W
-      longer-size k l = length-drop 4 (recordAt W first k) ∙ omega (arith, record-size W first k (record-fits W first k m l room))
+      longer-size k l = length-drop 4 (recordAt W first k) ∙ omega (arith, record-size W first k (record-fits W first k (whole W first) (omega arith) (whole-fits W first)))
 
       widths : (n k : ℕ) → k + n ≤ m → Each (OfWidth W) (map (stretch u) (planFrom W first k n))
       unfolding planFrom stretch

@@ -5,7 +5,7 @@ use Prim.Native.Nat.{ℕ, _+_, _*_, _≤_, _<_}
 use lib.ListN.{length}
 use Rattle.switch.specs.Plan.{Record, total}
 use Rattle.rules.specs.Doubled.{stretch, turns, tight}
-use Rattle.records.specs.Bytes.{planFrom}
+use Rattle.records.specs.Bytes.{whole, planFrom}
 use Rattle.antirotations.specs.Opposite.{opposite}
 use Rattle.grating.specs.Grating.{gratingPlan}
 
@@ -16,7 +16,7 @@ stretched W u first records = map (stretch u) (planFrom W first 0 records)
 -- at most W records in a buffer that has room for them, with the sum of their holds; u times as long in all they still fit a hold
 pub record First (W u : ℕ) (first : List ℕ) (records sum : ℕ) : Type 0 where
   pub few : records ≤ W
-  pub room : records * (W + 4) ≤ length first
+  pub room : records ≤ whole W first
   pub sum-is : sum ≡ total (planFrom W first 0 records)
   pub small : sum * u ≤ 65535
 

@@ -8,8 +8,10 @@ use antirotations::measure;
 use demand::Checked;
 use demand::check_demand;
 use exact::exact_plan;
+use plans::record_at;
 use records::EDITION;
 use records::HEAD;
+use records::OUTPUTS;
 use records::RECORD;
 use records::hold_of;
 use records::put_record;
@@ -134,11 +136,9 @@ fn lay_first(n: usize, unit: u32, first: &[u8], records: usize, plan: &mut [u8])
     ensures { λ _. ⌜ now (plan .exit) ≡ laid (now (plan .entry)) 0 (bytes 0 n (stretched 64 unit (now (first .entry)) records)) ⌝ }
 {
     for k in 0..records {
-        let from = k * RECORD;
-        let to = from + RECORD;
-        let rec = &first[from..to];
+        let rec = record_at(first, OUTPUTS, k);
         let hold = wide(hold_of(rec)) * unit;
-        put_record(plan, from, EDITION, hold as u16, n, &rec[HEAD..]);
+        put_record(plan, k * RECORD, EDITION, hold as u16, n, &rec[HEAD..]);
     }
 }
 

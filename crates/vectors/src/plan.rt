@@ -41,5 +41,8 @@ fn planned(letter: u8, n: usize, cells: &[u32], lent: &mut [u8]) -> Outcome {
     if letter == b'x' {
         return exact::exact_plan(n, cells, lent);
     }
+    if letter == b'd' {
+        return doubled::doubled_plan(n, cells, lent);
+    }
     quick::quick_plan(n, cells, lent)
 }

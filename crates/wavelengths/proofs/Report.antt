@@ -11,14 +11,14 @@ use Rattle.switch.specs.declared.Outcome.the-variants.{Done, Refused}
 use Rattle.switch.specs.declared.Refusal.{Refusal}
 use Rattle.switch.specs.declared.Refusal.the-variants.{Room}
 use Rattle.records.specs.Record.{decoded}
-use Rattle.records.specs.Bytes.{recordAt, planFrom, laid}
+use Rattle.records.specs.Bytes.{recordAt, whole, planFrom, laid}
 use Rattle.records.specs.Write.{refuses}
+use Rattle.records.proofs.Part.{whole-fits, record-fits, record-size}
 use Rattle.records.proofs.Laid.{copy-start-more, copy-all}
 use Rattle.plans.specs.declared.Edition.{Edition}
 use Rattle.plans.specs.Read.{firstEdition, checking}
 use Rattle.plans.proofs.Read.{first-bounded}
-use Rattle.plans.proofs.Plans.{Checked, checked}
-use Rattle.audit.proofs.Pass.{length-plan}
+use Rattle.plans.proofs.Plans.{Checked, checked, length-plan}
 use Rattle.wavelengths.specs.Shared.{mostShared, gratingReport}
 use Rattle.wavelengths.specs.Report.{reports, reportIn, reportOf, reported}
 
@@ -49,6 +49,10 @@ pub fine-plan : (N : ℕ) (plan : List ℕ) {c : Counts} → Done c ≡ checking
 fine-plan N plan {c} e = checked firstEdition N plan first-bounded c e
 
 -- ---- the bytes
+
+-- a record has its width and its head
+pub read-size : (W : ℕ) (plan : List ℕ) (k : ℕ) → k < whole W plan → length (recordAt W plan k) ≡ W + 4
+read-size W plan k l = record-size W plan k (record-fits W plan k (whole W plan) l (whole-fits W plan))
 
 module _ (W N : ℕ) (plan : List ℕ) where
   pub length-report : (k m : ℕ) → length (gratingReport N (planFrom W plan k m)) ≡ m

@@ -3,6 +3,7 @@
 // report for any N and any bytes; everything is decided before the first byte is written. Who made the plan makes no difference.
 use plans::check_plan;
 use plans::first_edition;
+use plans::record_at;
 use records::HEAD;
 use records::OUTPUTS;
 use switch::InputPort;
@@ -10,11 +11,11 @@ use switch::Outcome;
 use switch::OutputPort;
 use switch::Refusal;
 ghost use mathlib.Core.Path.{_≡_};
-ghost use Prim.Native.Nat.{_+_, _*_, _≤_, _<_};
+ghost use Prim.Native.Nat.{_+_, _≤_, _<_};
 ghost use lib.ListN.{length, getD};
 ghost use Rattle.counting.specs.Sum.{most};
 ghost use Rattle.records.specs.Record.{decoded};
-ghost use Rattle.records.specs.Bytes.{planFrom, laid};
+ghost use Rattle.records.specs.Bytes.{whole, planFrom, laid};
 ghost use Rattle.plans.specs.Read.{firstEdition};
 ghost use Rattle.audit.specs.Check.{Blank};
 ghost use Rattle.wavelengths.specs.Shared.{wavelength, mostShared, gratingReport, Shares};
@@ -41,14 +42,11 @@ pub fn grating_report(n: usize, plan: &[u8], report: &mut [u8]) -> Outcome
 
 // One byte for each record, in order, from the report's start on.
 fn report_records(n: usize, plan: &[u8], width: usize, records: usize, report: &mut [u8])
-    requires { ⌜ (0 < n) × (n ≤ width) × (width ≤ 128) × (records * (width + 4) ≤ length (now plan)) × (records ≤ length (now report)) ⌝ }
+    requires { ⌜ (0 < n) × (n ≤ width) × (width ≤ 128) × (records ≤ whole width (now plan)) × (records ≤ length (now report)) ⌝ }
     ensures { λ _. ⌜ now (report .exit) ≡ laid (now (report .entry)) 0 (gratingReport n (planFrom width (now (plan .entry)) 0 records)) ⌝ }
 {
-    let size = width + HEAD;
     for k in 0..records {
-        let from = k * size;
-        let to = from + size;
-        report[k] = most_shared(n, &plan[from..to]);
+        report[k] = most_shared(n, record_at(plan, width, k));
     }
 }
 

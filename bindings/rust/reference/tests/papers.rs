@@ -72,8 +72,8 @@ fn bit_table() {
     let table = [
         (0x0000_0000, Ok(0)),
         (0x8000_0000, Ok(0)),
-        (0x0000_0001, Ok(1)),
-        (0x3f80_0000, Ok(1)),
+        (0x0000_0001, Ok(2)),
+        (0x3f80_0000, Ok(2)),
         (0x3fc0_0000, Ok(2)),
         (0x477f_ff00, Ok(65_535)), // P11
         (0x477f_ff01, Err(Refusal::AboveMost(0))),
@@ -123,7 +123,7 @@ fn most_records() {
     };
     let plan = one.repeat(8_193);
     let counts = length(64, &plan[..8_192 * RECORD_SIZE], 65_535).unwrap();
-    assert_eq!((counts.records, counts.total, counts.length), (8_192, 536_862_720, 1_073_725_440));
+    assert_eq!((counts.records, counts.total, counts.length), (8_192, 536_862_720, 536_928_255));
     assert_eq!(length(64, &plan, 0), Err(Refusal::Records));
     assert_eq!(length(64, &plan[1..], 0), Err(Refusal::Torn(8_192)));
     assert_eq!(open(64, &[&plan[..], &[0]].concat()), Err(Refusal::Torn(8_193)));

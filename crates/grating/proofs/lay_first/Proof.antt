@@ -5,10 +5,10 @@ use Prim.Native.Nat.{ℕ, _*_, _-_, _≤_}
 use native.Mathlib.Omega.{arith}
 use native.Mathlib.Nat.{mul-le-mul-right}
 use lib.ListN.{length}
-use Rattle.records.specs.Record.{hold}
+use Rattle.records.specs.Record.{hold, outputs}
 use Rattle.records.specs.Bytes.{laid, encode}
-use Rattle.records.proofs.Part.{record-fits, part-record, record-size}
-use Rattle.grating.proofs.First.{hold-small, part-outputs, longer, Laying, laying-none, laying-room, laying-next, laying-all}
+use Rattle.wavelengths.proofs.Report.{read-size}
+use Rattle.grating.proofs.First.{hold-small, part-outputs, longer, longer-size, Laying, laying-none, laying-room, laying-next, laying-all}
 use borrow.Author.Needs.{needs}
 use Rattle.grating.proofs.lay_first.Statement.{statement}
 use Rattle.grating.proofs.lay_first.Tie as tie
@@ -24,43 +24,33 @@ abbrev μ-loop : tie.MeasureT-loop
 μ-loop n unit first records plan₀ k₀ plan k = records - k
 
 loop-holds : tie.Need-loop-holds Inv-loop μ-loop
-loop-holds c = let a = c .before .before .args in (omega arith, laying-none 64 (a .first .now) (a .unit) (a .records) (c .before .before .pre .1 .room) 0 (a .n) (a .plan .now) (c .before .before .pre .2))
+loop-holds c =
+    let a = c .before .before .args in
+    (omega arith, laying-none 64 (a .first .now) (a .unit) (a .records) (c .before .before .pre .1 .room) 0 (a .n) (a .plan .now) (c .before .before .pre .2))
 
-mul-from : tie.Need-mul-from Inv-loop μ-loop
-mul-from c = omega (arith, record-fits 64 (c .before .before .before .before .args .first .now) (c .before .loop .k) _ (omega arith) (c .before .before .before .before .pre .1 .room))
-
-add-to : tie.Need-add-to Inv-loop μ-loop
-add-to c = omega (arith, record-fits 64 (c .before .before .before .before .args .first .now) (c .before .loop .k) _ (omega arith) (c .before .before .before .before .pre .1 .room))
-
-sub-rec : tie.Need-sub-rec Inv-loop μ-loop
-sub-rec c = search needs
-
-part-rec-start : tie.Need-part-rec-start Inv-loop μ-loop
-part-rec-start c = search needs
-
-part-rec-end : tie.Need-part-rec-end Inv-loop μ-loop
-part-rec-end c = omega (arith, record-fits 64 (c .before .before .before .before .args .first .now) (c .before .loop .k) _ (omega arith) (c .before .before .before .before .pre .1 .room))
+record-at-requires : tie.Need-record-at-requires Inv-loop μ-loop
+record-at-requires c κs = (omega arith, omega (arith, c .before .before .before .before .pre .1 .room))
 
 hold-of-requires : tie.Need-hold-of-requires Inv-loop μ-loop
-hold-of-requires c κs =
-    let a = c .before .before .before .before .before .args in
-    let l = c .before .before .loop in
-    omega (arith, ap length (part-record 64 (a .first .now) (l .k)), record-size 64 (a .first .now) (l .k) (record-fits 64 (c .before .before .before .before .before .args .first .now) (c .before .before .loop .k) _ (omega arith) (c .before .before .before .before .before .pre .1 .room)))
+hold-of-requires c κs = omega (arith, ap length (c .record-at .ensures), read-size 64 (c .before .before .before .before .before .args .first .now) (c .before .before .loop .k) (omega (arith, c .before .before .before .before .before .pre .1 .room)))
 
 wide-requires : tie.Need-wide-requires Inv-loop μ-loop
 wide-requires c κs = search needs
 
 mul-hold : tie.Need-mul-hold Inv-loop μ-loop
-mul-hold c = omega (arith, longer-small (c .before .before .before .before .before .before .before .args .unit) (c .wide .result) _ (omega (arith, c .wide .ensures, c .before .hold-of .ensures, ap hold (part-record 64 (c .before .before .before .before .before .before .before .args .first .now) (c .before .before .before .before .loop .k)), hold-small 64 (c .before .before .before .before .before .before .before .args .first .now) (c .before .before .before .before .before .before .before .args .records) 0 (c .before .before .before .before .loop .k) (omega arith) (omega arith))) (c .before .before .before .before .before .before .before .pre .1 .small))
+mul-hold c = omega (arith, longer-small (c .before .before .before .before .before .before .before .args .unit) (c .wide .result) _ (omega (arith, c .wide .ensures, c .before .hold-of .ensures, ap hold (c .before .before .record-at .ensures), hold-small 64 (c .before .before .before .before .before .before .before .args .first .now) (c .before .before .before .before .before .before .before .args .records) 0 (c .before .before .before .before .loop .k) (omega arith) (omega arith))) (c .before .before .before .before .before .before .before .pre .1 .small))
+
+mul-put-record : tie.Need-mul-put-record Inv-loop μ-loop
+mul-put-record c = omega (arith, c .before .before .before .before .before .before .before .before .pre .1 .few)
 
 cast-put-record : tie.Need-cast-put-record Inv-loop μ-loop
-cast-put-record c = omega (arith, longer-small (c .before .before .before .before .before .before .before .before .args .unit) (c .before .wide .result) _ (omega (arith, c .before .wide .ensures, c .before .before .hold-of .ensures, ap hold (part-record 64 (c .before .before .before .before .before .before .before .before .args .first .now) (c .before .before .before .before .before .loop .k)), hold-small 64 (c .before .before .before .before .before .before .before .before .args .first .now) (c .before .before .before .before .before .before .before .before .args .records) 0 (c .before .before .before .before .before .loop .k) (omega arith) (omega arith))) (c .before .before .before .before .before .before .before .before .pre .1 .small))
+cast-put-record c = omega (arith, longer-small (c .before .before .before .before .before .before .before .before .args .unit) (c .before .wide .result) _ (omega (arith, c .before .wide .ensures, c .before .before .hold-of .ensures, ap hold (c .before .before .before .record-at .ensures), hold-small 64 (c .before .before .before .before .before .before .before .before .args .first .now) (c .before .before .before .before .before .before .before .before .args .records) 0 (c .before .before .before .before .before .loop .k) (omega arith) (omega arith))) (c .before .before .before .before .before .before .before .before .pre .1 .small))
 
 sub-put-record : tie.Need-sub-put-record Inv-loop μ-loop
-sub-put-record c = omega (arith, ap length (part-record 64 (c .before .before .before .before .before .before .before .before .args .first .now) (c .before .before .before .before .before .loop .k)), record-size 64 (c .before .before .before .before .before .before .before .before .args .first .now) (c .before .before .before .before .before .loop .k) (record-fits 64 (c .before .before .before .before .before .before .before .before .args .first .now) (c .before .before .before .before .before .loop .k) _ (omega arith) (c .before .before .before .before .before .before .before .before .pre .1 .room)))
+sub-put-record c = omega (arith, ap length (c .before .before .before .record-at .ensures), read-size 64 (c .before .before .before .before .before .before .before .before .args .first .now) (c .before .before .before .before .before .loop .k) (omega (arith, c .before .before .before .before .before .before .before .before .pre .1 .room)))
 
 part-put-record-start : tie.Need-part-put-record-start Inv-loop μ-loop
-part-put-record-start c = omega (arith, ap length (part-record 64 (c .before .before .before .before .before .before .before .before .args .first .now) (c .before .before .before .before .before .loop .k)), record-size 64 (c .before .before .before .before .before .before .before .before .args .first .now) (c .before .before .before .before .before .loop .k) (record-fits 64 (c .before .before .before .before .before .before .before .before .args .first .now) (c .before .before .before .before .before .loop .k) _ (omega arith) (c .before .before .before .before .before .before .before .before .pre .1 .room)))
+part-put-record-start c = omega (arith, ap length (c .before .before .before .record-at .ensures), read-size 64 (c .before .before .before .before .before .before .before .before .args .first .now) (c .before .before .before .before .before .loop .k) (omega (arith, c .before .before .before .before .before .before .before .before .pre .1 .room)))
 
 part-put-record-end : tie.Need-part-put-record-end Inv-loop μ-loop
 part-put-record-end c = search needs
@@ -69,8 +59,8 @@ put-record-requires : tie.Need-put-record-requires Inv-loop μ-loop
 put-record-requires c κs =
     let a = c .before .before .before .before .before .before .before .before .before .args in
     let l = c .before .before .before .before .before .before .loop in
-    let room = c .before .before .before .before .before .before .before .before .before .pre .1 .room in
-    (omega (arith, c .before .before .before .before .before .before .before .before .before .pre .0), omega (arith, ap length (part-outputs 64 (a .first .now) (l .k)), laying-room 64 (a .first .now) (a .unit) (a .records) room 0 (a .n) _ (l .plan) (l .k) (l .inv .1) (omega arith)))
+    let o = part-outputs (c .before .before .before .before .record-at .result .now) ∙ ap outputs (c .before .before .before .before .record-at .ensures) in
+    (omega (arith, c .before .before .before .before .before .before .before .before .before .pre .0), omega (arith, ap length o, laying-room 64 (a .first .now) (a .unit) (a .records) (c .before .before .before .before .before .before .before .before .before .pre .1 .room) 0 (a .n) (a .plan .now) (l .plan) (l .k) (l .inv .1) (omega arith)))
 
 add-k : tie.Need-add-k Inv-loop μ-loop
 add-k c = search needs
@@ -82,10 +72,11 @@ loop-again : tie.Need-loop-again Inv-loop μ-loop
 loop-again c =
     let a = c .before .before .before .before .before .before .before .before .before .before .before .before .args in
     let l = c .before .before .before .before .before .before .before .before .before .loop in
+    let is = c .before .before .before .before .before .before .before .record-at .ensures in
     let h : c .before .before .before .before .before .wide .result * a .unit ≡ longer 64 (a .first .now) (a .unit) (a .records) (l .k) .hold =
-    ap (λ (x : ℕ). x * a .unit) (c .before .before .before .before .before .wide .ensures ∙ c .before .before .before .before .before .before .hold-of .ensures ∙ ap hold (part-record 64 (a .first .now) (l .k))) in
-    let put = c .before .before .put-record .ensures
-    ∙ ap₂ (λ (x : ℕ) (o : List ℕ). laid (l .plan) (l .k * 68) (encode 0 x (a .n) o)) h (part-outputs 64 (a .first .now) (l .k)) in
+        ap (λ (x : ℕ). x * a .unit) (c .before .before .before .before .before .wide .ensures ∙ c .before .before .before .before .before .before .hold-of .ensures ∙ ap hold is) in
+    let o = part-outputs (c .before .before .before .before .before .before .before .record-at .result .now) ∙ ap outputs is in
+    let put = c .before .before .put-record .ensures ∙ ap₂ (λ (x : ℕ) (s : List ℕ). laid (l .plan) (l .k * 68) (encode 0 x (a .n) s)) h o in
     (omega arith, laying-next 64 (a .first .now) (a .unit) (a .records) (c .before .before .before .before .before .before .before .before .before .before .before .before .pre .1 .room) 0 (a .n) (a .plan .now) (l .plan) (l .k) (l .inv .1) (omega arith) _ put)
 
 same-length : tie.Need-same-length Inv-loop μ-loop
@@ -104,14 +95,11 @@ lay-first-spec =
     Inv-loop
     μ-loop
     loop-holds
-    mul-from
-    add-to
-    sub-rec
-    part-rec-start
-    part-rec-end
+    record-at-requires
     hold-of-requires
     wide-requires
     mul-hold
+    mul-put-record
     cast-put-record
     sub-put-record
     part-put-record-start

@@ -5,7 +5,6 @@ use native.Mathlib.Omega.{arith}
 use Rattle.switch.specs.declared.Counts.{Counts}
 use Rattle.records.specs.Bytes.{planFrom, laid}
 use Rattle.records.specs.Write.{Written}
-use Rattle.records.proofs.Part.{whole-fits}
 use Rattle.plans.specs.declared.Edition.{Edition}
 use Rattle.plans.specs.Read.{firstEdition, checking}
 use Rattle.plans.proofs.Read.{first-bounded}
@@ -46,8 +45,8 @@ report-records-requires c κs =
     let a = c .before .before .before .before .before .before .before .before .before .args in
     let f = sym (c .before .before .before .checked .given .1) ∙ c .before .before .before .before .before .check-plan .ensures ∙ ap (λ (e : Edition). checking e (a .n) (a .plan .now)) (c .before .before .before .before .before .before .first-edition .ensures) in
     let k = fine-plan (a .n) (a .plan .now) f in
-    let e = ap (λ (x : Counts). x .records * 68) (k .counts) in
-    (k .some, k .few, omega arith, omega (arith, e, whole-fits 64 (a .plan .now)), omega (arith, c .before .if1 .left))
+    let e = ap (λ (x : Counts). x .records) (k .counts) in
+    (k .some, k .few, omega arith, omega (arith, e), omega (arith, c .before .if1 .left))
 
 same-length : tie.Need-same-length
 same-length c = search needs

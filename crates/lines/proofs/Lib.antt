@@ -1,0 +1,4 @@
+pub mod Decimal
+pub mod Put
+pub mod Text
+pub mod Size

@@ -1,0 +1,5 @@
+pub mod Ascii
+pub mod Decimal
+pub mod Line
+pub mod Text
+pub mod Put

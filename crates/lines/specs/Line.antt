@@ -1,0 +1,18 @@
+-- Fields are parted by one space and each line ends with a line feed. Definitions only.
+use mathlib.Core.List.{List, [], _∷_, _++_}
+use Prim.Native.Nat.{ℕ}
+
+abbrev pub space : ℕ
+space = 32
+
+abbrev pub feed : ℕ
+feed = 10
+
+-- fields, each after one space
+unfoldable pub spaced : List (List ℕ) → List ℕ
+spaced [] = []
+spaced (f ∷ fs) = space ∷ (f ++ spaced fs)
+
+-- a line of a first field and others
+unfoldable pub line : List ℕ → List (List ℕ) → List ℕ
+line f fs = f ++ spaced fs ++ (feed ∷ [])

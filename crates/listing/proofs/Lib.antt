@@ -1,0 +1,4 @@
+pub mod Ports
+pub mod Room
+pub mod Answers
+pub mod Examples
