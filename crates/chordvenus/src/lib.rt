@@ -15,6 +15,8 @@ ghost use Rattle.records.specs.Write.{written};
 ghost use Rattle.plans.specs.Read.{firstEdition, opening, stepAt};
 ghost use Rattle.audit.specs.Check.{checkPlan};
 ghost use Rattle.audit.specs.Length.{planLength};
+ghost use Rattle.wavelengths.specs.Report.{reported};
+ghost use Rattle.grating.specs.Grating.{gratingPlanned};
 ghost use Rattle.chordvenus.specs.Flat.{flat, flatStep, flatWish};
 
 // What every call answers; what does not apply is 0.
@@ -85,6 +87,22 @@ pub extern "C" fn cv_quick(n: usize, cells: &[u32], plan: &mut [u8]) -> CvAnswer
     ensures { λ r. ⌜ (r ≡ flat (plannedUpTo 1024 64 0 n (now (cells .entry)) (quickPlan 64 n (now (cells .entry))) (now (plan .entry)) .outcome)) × (now (plan .exit) ≡ plannedUpTo 1024 64 0 n (now (cells .entry)) (quickPlan 64 n (now (cells .entry))) (now (plan .entry)) .bytes) ⌝ }
 {
     flatten(quick::quick_plan(n, cells, plan))
+}
+
+// The doubled plan for the grating fabric.
+#[no_mangle]
+pub extern "C" fn cv_grating_doubled(n: usize, cells: &[u32], plan: &mut [u8]) -> CvAnswer
+    ensures { λ r. ⌜ (r ≡ flat (gratingPlanned 64 0 n (now (cells .entry)) (now (plan .entry)) .outcome)) × (now (plan .exit) ≡ gratingPlanned 64 0 n (now (cells .entry)) (now (plan .entry)) .bytes) ⌝ }
+{
+    flatten(grating::grating_doubled(n, cells, plan))
+}
+
+// What the records of a plan do on the grating fabric.
+#[no_mangle]
+pub extern "C" fn cv_grating_report(n: usize, plan: &[u8], report: &mut [u8]) -> CvAnswer
+    ensures { λ r. ⌜ (r ≡ flat (reported firstEdition n (now (plan .entry)) (now (report .entry)) .answer)) × (now (report .exit) ≡ reported firstEdition n (now (plan .entry)) (now (report .entry)) .bytes) ⌝ }
+{
+    flatten(wavelengths::grating_report(n, plan, report))
 }
 
 // A plan from anywhere against a demand.
