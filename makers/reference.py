@@ -402,6 +402,53 @@ def plan_length(n, plan, d):
     return Answer(records=len(records), total=total, length=total + d * moves)
 
 
+# ---- The grating fabric
+
+
+def most_shared(n, outputs):
+    """The most inputs that share one wavelength (j - i) mod N, idle inputs not counted, all idle being 0."""
+    used = [(j - i) % n for i, j in enumerate(outputs[:n]) if j != IDLE]
+    return max((used.count(w) for w in used), default=0)
+
+
+def grating_report(n, plan, report):
+    """One byte for each record of a plan, in order, at the start of the lent report."""
+    refused = refused_plan(n, plan)
+    if refused:
+        return refused, report
+    refused, records = read_plan(n, plan)
+    if refused:
+        return refused, report
+    if len(report) < len(records):
+        return Answer(5, len(records)), report
+    numbers = bytes(most_shared(n, outputs) for _, outputs in records)
+    return Answer(records=len(records), total=total_hold(records)), numbers + report[len(numbers) :]
+
+
+def grating_list(n, cells):
+    """The exact plan of the quotients, holds times u; then input i to output (k - i) mod N, k from 0 to N - 1, each held for
+    the largest remainder among its pairs and left out when that is 0."""
+    longest = longest_line(n, cells)
+    if longest == 0:
+        return []
+    u = -(-longest // n)
+    plan = [(hold * u, outputs) for hold, outputs in exact_list(n, [cell // u for cell in cells])]
+    for k in range(n):
+        outputs = [(k - i) % n for i in range(n)]
+        hold = max(cells[i * n + j] % u for i, j in enumerate(outputs))
+        plan += [(hold, outputs)] if hold else []
+    return plan
+
+
+def grating_doubled(n, cells, buffer):
+    """Refusals are the planner's; the answer has records and total of the plan it writes."""
+    refused = refused_demand(n, cells)
+    if refused:
+        return refused, buffer
+    answer, buffer = planned(n, cells, grating_list(n, cells), buffer)
+    return answer._replace(longest=0), buffer
+
+
 # ---- The lister
 
 
@@ -538,6 +585,24 @@ def laws(n, cells):
         same("length", plan_length(n, written[:-5], 7).length, total_hold(plan) + 7 * len(plan))
 
 
+def grating_laws(n, cells):
+    """What Ask 6 promises of one demand."""
+    longest, plan = longest_line(n, cells), grating_list(n, cells)
+    same("grating records", len(plan) <= 2 * n, True)
+    same("grating total", total_hold(plan) <= max(0, 2 * longest - 1), True)
+    same("grating covers", all(granted >= asked for granted, asked in zip(grants(n, plan), cells)), True)
+    answer, written = grating_doubled(n, cells, bytes([170] * (RECORD * 2 * n)))
+    written = written[: answer.records * RECORD]
+    same("the checker", check_plan(n, cells, written), answer._replace(longest=longest))
+    counts, report = grating_report(n, written, bytes([170] * (2 * n + 3)))
+    same("the report's counts", counts, answer)
+    same("the report's tail", report[len(plan) :], bytes([170] * (2 * n + 3 - len(plan))))
+    first = len(exact_list(n, [cell // -(-longest // n) for cell in cells])) if longest else 0
+    same("the second part", all(number <= 2 - n % 2 for number in report[first : len(plan)]), True)
+    same("a rotation", most_shared(n, [(i + 1) % n for i in range(n)]), n)
+    same("all idle", most_shared(n, [IDLE] * n), 0)
+
+
 def random_demand(rng, n, most, share):
     return [rng.randint(0, most) if rng.random() < share else 0 for _ in range(n * n)]
 
@@ -548,9 +613,13 @@ def selftest():
     rng = random.Random(68)
     for _ in range(400):
         n = rng.choice([1, 2, 2, 3, 3, 4, 4, 5, 6, 7])
-        laws(n, random_demand(rng, n, rng.choice([1, 2, 5, 40]), rng.choice([0.2, 0.5, 1.0])))
+        cells = random_demand(rng, n, rng.choice([1, 2, 5, 40]), rng.choice([0.2, 0.5, 1.0]))
+        laws(n, cells)
+        grating_laws(n, cells)
     for n in (12, 16):
-        laws(n, random_demand(rng, n, 9, 0.6))
+        cells = random_demand(rng, n, 9, 0.6)
+        laws(n, cells)
+        grating_laws(n, cells)
     print("the examples, the edges and the laws on 402 demands hold")
 
 
