@@ -22,7 +22,7 @@ div-room c = search needs
 needed-requires : tie.Need-needed-requires
 needed-requires c κs =
     let v = c .before .before .before .before .before .before .before .before .pre .0 in
-    (quotient-cells _ _ _ _ _ _ v _ (c .before .before .longest-line .ensures), v .quotients-are, holding _ _ _ _ _ _ v .least, c .before .measure .ensures .few)
+    (quotient-cells _ _ _ _ _ _ v _ (c .before .before .longest-line .ensures), v .quotients-are, holding _ _ _ _ _ _ v .least, omega (arith, c .before .measure .ensures .few))
 
 same-length : tie.Need-same-length
 same-length c = search needs
