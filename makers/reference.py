@@ -615,7 +615,8 @@ def laws(n, cells):
         same("the tail", written[-5:], room[-5:])
         same("too little room", method(n, cells, room[: len(plan) * RECORD - 1]), (Answer(5, len(plan)), room[: len(plan) * RECORD - 1])) if plan else None
         same("read back", read_plan(n, written[:-5])[1], [(hold, outputs + [IDLE] * (PORTS - n)) for hold, outputs in plan])
-        same("length", plan_length(n, written[:-5], 7).length, total_hold(plan) + 7 * len(plan))
+        moves = [outputs for k, (_, outputs) in enumerate(plan) if k == 0 or outputs != plan[k - 1][1]]
+        same("length", plan_length(n, written[:-5], 7).length, total_hold(plan) + 7 * len(moves))
 
 
 def grating_laws(n, cells):

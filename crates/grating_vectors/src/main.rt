@@ -13,8 +13,8 @@ ghost use lib.ListN.{length};
 // The most bytes of a tape.
 const TAPE: usize = 262144;
 
-// The most bytes laid for one call: 65 × 65 cells, or a plan of a record more than may be read.
-const LAID: usize = 557124;
+// The most bytes laid for one call: 65 × 65 cells, or a plan of more records than may be read.
+const LAID: usize = 573600;
 
 // The most cells that are lent.
 const CELLS: usize = 4225;
