@@ -47,8 +47,12 @@ def fitting(name, n, cells, spare, more):
     return plan_case(name, n, cells, ref.grating_doubled(n, cells, LARGEST)[0].records + spare, more)
 
 
+PAGE = [7, 2, 0, 0, 1, 0, 6, 1, 2, 0, 0, 0, 7, 1, 2, 0, 1, 2, 7, 0, 2, 1, 0, 0, 7]  # the example of docs/GRATING.md
+
+
 def demands():
     """(name, N, cells) of every demand that is planned: the doubled plan's own, and more of N odd and even."""
+    yield "docs/GRATING.md", 5, PAGE
     yield from plans.doubled_demands()
     rng = random.Random(6)
     for n in (1, 2, 7, 32, 63, 64):

@@ -194,7 +194,8 @@ fn grating_report() {
         let ports = cases::ports(&mut rng);
         let plan = if rng.one_in(3) {
             let cells = cases::demand(&mut rng, ports, 300);
-            let counts = reference::grating_doubled(ports as u64, &cells, &mut ample).expect("a sound demand");
+            let counts =
+                reference::grating_doubled(ports as u64, &cells, &mut ample).expect("a sound demand");
             ample[..counts.records as usize * RECORD_SIZE].to_vec()
         } else {
             plan(&mut rng, ports)

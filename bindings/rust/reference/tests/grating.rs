@@ -55,7 +55,10 @@ fn the_plan_covers_within_its_bounds_and_spreads_the_wavelengths() {
         let first = exact(n as u64, &quotients, &mut exact_part).expect("at most N records").records as usize;
         let records = read(n as u64, &plan);
         for (record, alone) in records[..first].iter().zip(read(n as u64, &exact_part)) {
-            assert_eq!((u32::from(record.hold), record.outputs), (u32::from(alone.hold) * unit, alone.outputs));
+            assert_eq!(
+                (u32::from(record.hold), record.outputs),
+                (u32::from(alone.hold) * unit, alone.outputs)
+            );
         }
         for record in &records[first..] {
             let k = usize::from(record.outputs[0]);
