@@ -165,11 +165,19 @@ fn charge_plan(n: usize, plan: &[u8], d: u16, e: Edition, count: usize) -> Count
     counted(count, total, length)
 }
 
-// What record k of a plan is charged: the switching time, whatever stands in the record and in the one before it.
+// What record k of a plan is charged: the switching time for the first, and where the mirrors differ from the record before.
 fn charge_of(plan: &[u8], width: usize, k: usize, d: u16) -> u64
     requires { ⌜ (width ≤ 128) × (k < whole width (now plan)) ⌝ }
     ensures { λ r. ⌜ (r ≡ charge d (planOf width (now (plan .entry))) k) × (r ≤ 65535) ⌝ }
 {
+    if k == 0 {
+        return d as u64;
+    }
+    let left = settings::setting_at(plan, width, k - 1);
+    let met = settings::setting_at(plan, width, k);
+    if settings::same_outputs(left, met) {
+        return 0;
+    }
     d as u64
 }
 

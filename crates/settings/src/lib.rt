@@ -118,7 +118,7 @@ fn bucket_of(setting: &[u8]) -> usize
 }
 
 // Are two settings the same?
-fn same_outputs(a: &[u8], b: &[u8]) -> bool
+pub fn same_outputs(a: &[u8], b: &[u8]) -> bool
     requires { ⌜ length (now a) ≡ length (now b) ⌝ }
     ensures { λ r. ⌜ r ≡ sameOutputs (now (a .entry)) (now (b .entry)) ⌝ }
 {
