@@ -6,6 +6,7 @@
 //! same plans once more in the plainest words, to test the fast ones.
 
 mod exact;
+mod join;
 mod more_plans;
 mod peel;
 mod plan;
@@ -13,6 +14,7 @@ pub mod slow;
 mod wishes;
 
 pub use exact::exact;
+pub use join::join;
 pub use more_plans::{doubled, doubled_every_rotation, quick};
 pub use plan::{check, length, open, step_at, write, Reader, Record, Step};
 pub use wishes::{wish, wishes};
