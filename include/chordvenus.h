@@ -188,6 +188,17 @@ cv_answer cv_check(uint64_t n, const uint32_t *cells, size_t cells_len, const ui
 cv_answer cv_length(uint64_t n, const uint8_t *plan, size_t plan_len, uint16_t d);
 
 /*
+ * Joins equal settings: the plan is written anew into a second buffer, settings in order of first
+ * appearance, each held for the sum of its holds; a sum above 65,535 is records of 65,535 followed
+ * by what is left, if any. Every pair is granted what it was granted, total hold is the same, and
+ * joining the joined plan gives it again. Never more records than were read.
+ * Codes:  1, 9, 10, 11, 5.
+ * Writes: the joined plan's records, at the start of joined; no later byte. The plan is only read.
+ * Done:   records and total of the joined plan.
+ */
+cv_answer cv_join(uint64_t n, const uint8_t *plan, size_t plan_len, uint8_t *joined, size_t joined_len);
+
+/*
  * Writes one record. All 64 outputs are given; those of inputs from N on are CV_IDLE.
  * Codes:  1, 5 (place 1), 11 (place 0).
  * Writes: the first CV_RECORD_SIZE bytes of plan.

@@ -429,6 +429,35 @@ def plan_length(n, plan, d):
     return Answer(records=len(records), total=total, length=total + d * moves)
 
 
+# ---- Joining
+
+
+def join_list(records):
+    """Settings in order of first appearance, holds summed, a sum above 65,535 as records of 65,535 followed by what is left."""
+    sums = {}
+    for hold, outputs in records:
+        sums[tuple(outputs)] = sums.get(tuple(outputs), 0) + hold
+    plan = []
+    for outputs, hold in sums.items():
+        while hold > 65_535:
+            plan.append((65_535, list(outputs)))
+            hold -= 65_535
+        plan.append((hold, list(outputs)))
+    return plan
+
+
+def join_plan(n, plan, buffer):
+    """Joins equal settings into the lent buffer: the answer, and the buffer afterwards."""
+    refused, records = read_plan(n, plan)
+    if refused:
+        return refused, buffer
+    joined = join_list(records)
+    if len(buffer) // RECORD < len(joined):
+        return Answer(5, len(joined)), buffer
+    written = b"".join(record_bytes(hold, n, outputs) for hold, outputs in joined)
+    return Answer(records=len(joined), total=total_hold(joined)), written + buffer[len(written) :]
+
+
 # ---- The grating fabric
 
 
@@ -615,8 +644,27 @@ def laws(n, cells):
         same("the tail", written[-5:], room[-5:])
         same("too little room", method(n, cells, room[: len(plan) * RECORD - 1]), (Answer(5, len(plan)), room[: len(plan) * RECORD - 1])) if plan else None
         same("read back", read_plan(n, written[:-5])[1], [(hold, outputs + [IDLE] * (PORTS - n)) for hold, outputs in plan])
-        moves = [outputs for k, (_, outputs) in enumerate(plan) if k == 0 or outputs != plan[k - 1][1]]
-        same("length", plan_length(n, written[:-5], 7).length, total_hold(plan) + 7 * len(moves))
+        moved = sum(1 for k, (_, outputs) in enumerate(plan) if k == 0 or outputs != plan[k - 1][1])
+        same("length", plan_length(n, written[:-5], 7).length, total_hold(plan) + 7 * moved)
+
+
+def join_laws(rng, n):
+    """Ask 1's promises for a random plan of few settings."""
+    settings = [rng.sample(range(n), n) + [IDLE] * (PORTS - n) for _ in range(3)] + [[IDLE] * PORTS]
+    records = [(rng.choice([1, 7, 32_768, 65_535]), rng.choice(settings)) for _ in range(rng.randint(0, 30))]
+    joined = join_list(records)
+    same("joined grants", grants(n, joined), grants(n, records))
+    same("joined total", total_hold(joined), total_hold(records))
+    same("joined twice", join_list(joined), joined)
+    same("no longer", len(joined) <= len(records), True)
+    same("each setting once but for records of 65,535", all(hold == 65_535 for (hold, a), (_, b) in zip(joined, joined[1:]) if a == b), True)
+    same("first appearances", [list(o) for o in dict.fromkeys(tuple(o) for _, o in joined)], [list(o) for o in dict.fromkeys(tuple(o) for _, o in records)])
+    plan = b"".join(record_bytes(hold, n, outputs) for hold, outputs in records)
+    room = bytes([170] * (RECORD * len(joined) + 5))
+    answer, written = join_plan(n, plan, room)
+    same("the joined plan reads back", read_plan(n, written[:-5]), (None, joined))
+    same("the tail", written[-5:], room[-5:])
+    same("joined again", join_plan(n, written[:-5], room), (answer, written))
 
 
 def grating_laws(n, cells):
@@ -654,7 +702,9 @@ def selftest():
         cells = random_demand(rng, n, 9, 0.6)
         laws(n, cells)
         grating_laws(n, cells)
-    print("the examples, the edges and the laws on 402 demands hold")
+    for _ in range(400):
+        join_laws(rng, rng.choice([1, 2, 3, 5, 8, 64]))
+    print("the examples, the edges and the laws on 402 demands and 400 plans hold")
 
 
 if __name__ == "__main__":

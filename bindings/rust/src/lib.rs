@@ -83,6 +83,11 @@ pub fn length(n: u64, plan: &[u8], d: u16) -> Answer {
     unsafe { sys::cv_length(n, plan.as_ptr(), plan.len(), d) }
 }
 
+/// Joins the equal settings of a plan, into a second buffer.
+pub fn join(n: u64, plan: &[u8], joined: &mut [u8]) -> Answer {
+    unsafe { sys::cv_join(n, plan.as_ptr(), plan.len(), joined.as_mut_ptr(), joined.len()) }
+}
+
 /// Writes one record at the start of a buffer.
 pub fn write(hold: u16, n: u64, outputs: &[u8; 64], plan: &mut [u8]) -> Answer {
     unsafe { sys::cv_write(hold, n, outputs.as_ptr(), plan.as_mut_ptr(), plan.len()) }

@@ -15,6 +15,7 @@ ghost use Rattle.records.specs.Write.{written};
 ghost use Rattle.plans.specs.Read.{firstEdition, opening, stepAt};
 ghost use Rattle.audit.specs.Check.{checkPlan};
 ghost use Rattle.audit.specs.Length.{planLength};
+ghost use Rattle.joining.specs.Join.{joining};
 ghost use Rattle.wavelengths.specs.Report.{reported};
 ghost use Rattle.grating.specs.Grating.{gratingPlanned};
 ghost use Rattle.chordvenus.specs.Flat.{flat, flatStep, flatWish};
@@ -127,6 +128,14 @@ pub extern "C" fn cv_length(n: usize, plan: &[u8], d: u16) -> CvAnswer
     ensures { λ r. ⌜ r ≡ flat (planLength firstEdition d n (now (plan .entry))) ⌝ }
 {
     flatten(audit::plan_length(n, plan, d))
+}
+
+// A plan with its equal settings joined, into a second buffer.
+#[no_mangle]
+pub extern "C" fn cv_join(n: usize, plan: &[u8], joined: &mut [u8]) -> CvAnswer
+    ensures { λ r. ⌜ (r ≡ flat (joining firstEdition n (now (plan .entry)) (now (joined .entry)) .outcome)) × (now (joined .exit) ≡ joining firstEdition n (now (plan .entry)) (now (joined .entry)) .bytes) ⌝ }
+{
+    flatten(joining::join_plan(n, plan, joined))
 }
 
 // One record written at the start of a lent buffer.

@@ -7,6 +7,7 @@
 
 mod exact;
 mod grating;
+mod join;
 mod more_plans;
 mod peel;
 mod plan;
@@ -15,6 +16,7 @@ mod wishes;
 
 pub use exact::exact;
 pub use grating::{grating_doubled, grating_report};
+pub use join::join;
 pub use more_plans::{doubled, doubled_every_rotation, quick};
 pub use plan::{check, length, open, step_at, write, Reader, Record, Step};
 pub use wishes::{wish, wishes};
