@@ -85,7 +85,7 @@ def total_hold(plan):
 
 
 def wish_slots(bits):
-    """One binary32 by its bits: (code, slots), the slots being the least whole number not below the wish."""
+    """One binary32 by its bits: (code, slots). Above zero the slots are the larger of 2 and the least whole number not below the wish."""
     sign, exponent, fraction = bits >> 31, bits >> 23 & 255, bits & 0x7F_FFFF
     if exponent == 255:
         return 6, 0
@@ -98,7 +98,7 @@ def wish_slots(bits):
         return 7, 0
     if wish > LINE:
         return 8, 0
-    return 0, math.ceil(wish)
+    return 0, max(2, math.ceil(wish)) if wish else 0
 
 
 def read_wishes(n, wishes, cells):
@@ -460,8 +460,8 @@ SMALL = [  # no., N, demand, method, plan
 BITS = [  # bits, (code, slots)
     (0x00000000, (0, 0)),
     (0x80000000, (0, 0)),
-    (0x00000001, (0, 1)),
-    (0x3F800000, (0, 1)),
+    (0x00000001, (0, 2)),
+    (0x3F800000, (0, 2)),
     (0x3FC00000, (0, 2)),
     (0x477FFF00, (0, 65_535)),
     (0x477FFF01, (8, 0)),
@@ -483,7 +483,7 @@ def examples():
     for bits, due in BITS:
         same(f"wish {bits:08X}", wish_slots(bits), due)
     two = [wish_record(0, 0, 0x40000000), wish_record(0, 1, 0x3F800000), wish_record(1, 0, 0x3F000000), wish_record(1, 1, 0x3FC00000)]
-    same("the lister's example", lister(b"".join(two)), "ports 2 longest 3 records 2 total 3\n2 0 1\n1 1 0\n")
+    same("the lister's example", lister(b"".join(two)), "ports 2 longest 4 records 2 total 4\n2 0 1\n2 1 0\n")
 
 
 def edges():

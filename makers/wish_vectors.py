@@ -41,7 +41,7 @@ def wish(bits):
         return 7, 0
     if asked > MOST_SLOTS:
         return 8, 0
-    return 0, math.ceil(asked)
+    return 0, max(2, math.ceil(asked)) if asked else 0
 
 
 def bits_of(number):

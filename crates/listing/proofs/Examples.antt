@@ -42,8 +42,8 @@ largest i j = wish i j 255 127 71
 -- a wish list, and what the lister prints for it
 abbrev examples : List (List ℕ × String)
 examples =
-    -- "Input: pairs (0,0) 2.0, (0,1) 1.0, (1,0) 0.5, (1,1) 1.5. Output, whole"
-    (wish 0 0 0 0 64 ++ one 0 1 ++ wish 1 0 0 0 63 ++ wish 1 1 0 192 63, "ports 2 longest 3 records 2 total 3\n2 0 1\n1 1 0\n")
+    -- document 01's case as Ask 7 has it: pairs (0,0) 2.0, (0,1) 1.0, (1,0) 0.5, (1,1) 1.5 are the demand 2 2 / 2 2
+    (wish 0 0 0 0 64 ++ one 0 1 ++ wish 1 0 0 0 63 ++ wish 1 1 0 192 63, "ports 2 longest 4 records 2 total 4\n2 0 1\n2 1 0\n")
     -- nothing, and ports that are too many
     ∷ ([], "refused 1 0\n")
     ∷ (one 0 0 ++ one 16 0, "refused 1 0\n")

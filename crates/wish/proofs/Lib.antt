@@ -3,3 +3,4 @@ pub mod Answer
 pub mod Floats
 pub mod Rounding
 pub mod Rows
+pub mod Worth

@@ -12,7 +12,7 @@ abbrev pub bits : List ℕ
 bits = 0x00000000 ∷ 0x80000000 ∷ 0x00000001 ∷ 0x3F800000 ∷ 0x3FC00000 ∷ 0x477FFF00 ∷ 0x477FFF01 ∷ 0x80000001 ∷ 0x7FC00000 ∷ 0x7F800000 ∷ 0xFF800000 ∷ []
 
 abbrev pub answers : List Wish
-answers = Slots 0 ∷ Slots 0 ∷ Slots 1 ∷ Slots 1 ∷ Slots 2 ∷ Slots 65535 ∷ AboveMost ∷ BelowZero ∷ NotFinite ∷ NotFinite ∷ NotFinite ∷ []
+answers = Slots 0 ∷ Slots 0 ∷ Slots 2 ∷ Slots 2 ∷ Slots 2 ∷ Slots 65535 ∷ AboveMost ∷ BelowZero ∷ NotFinite ∷ NotFinite ∷ NotFinite ∷ []
 
 pub table : map wishBits bits ≡ answers
 unfolding wishBits ofBits wishOf finite worth ceil

@@ -1,6 +1,6 @@
 -- What one wish comes to. A wish is a binary32, and a finite one a fraction of whole numbers: with lib.Ieee's up e / down e for 2 ^ e,
 -- one of the two being 1, it is m * up e / down e, negated where its sign is true. Definitions only.
-use Prim.Native.Nat.{ℕ, _+_, _-_, _*_, _/_, _≤_}
+use Prim.Native.Nat.{ℕ, zero, suc, _+_, _-_, _*_, _/_, _≤_, max}
 use mathlib.Core.Bool.{Bool, true, _&&_, cond}
 use mathlib.Core.Path.{_≡_}
 use lib.Dec.{ltb}
@@ -16,9 +16,10 @@ mostSlots = 65535
 unfoldable pub ceil : ℕ → ℕ → ℕ
 ceil num den = (num + (den - 1)) / den
 
--- the slots given for a wish whose least whole number not below it is k
+-- the slots given for a wish whose least whole number not below it is k: above zero the larger of 2 and that, and zero stays 0
 unfoldable pub worth : ℕ → ℕ
-worth k = k
+worth zero = 0
+worth (suc k) = max 2 (suc k)
 
 -- the finite wish num / den, negated where s is true; minus zero is not below zero
 unfoldable pub finite : Bool → ℕ → ℕ → Wish

@@ -93,9 +93,12 @@ fn rounded_up(x: f32) -> u32
     whole
 }
 
-// What a wish is worth whose least whole number not below it is `whole`: a rule of its own, so that it can change alone.
+// What a wish is worth whose least whole number not below it is `whole`. The counters throw the first slot away, so one is never enough.
 fn worth_of(whole: u32) -> u32
     ensures { λ r. ⌜ r ≡ worth whole ⌝ }
 {
+    if whole == 1 {
+        return 2;
+    }
     whole
 }

@@ -155,7 +155,7 @@ fn can_be_full(rest: &Demand, chosen: &[usize]) -> bool {
 }
 
 /// One wish by whole numbers alone: a finite binary32 is m × 2^e, and the slots are that, rounded
-/// up. The error is the code.
+/// up, and at least 2 where it is above zero. The error is the code.
 pub fn wish(bits: u32) -> Result<u64, u64> {
     let (sign, exponent, fraction) = (bits >> 31, bits >> 23 & 0xff, u64::from(bits & 0x7f_ffff));
     if exponent == 0xff {
@@ -174,7 +174,7 @@ pub fn wish(bits: u32) -> Result<u64, u64> {
     if exceeds {
         return Err(8);
     }
-    Ok(slots)
+    Ok(if slots == 0 { 0 } else { slots.max(2) })
 }
 
 fn record(hold: u64, setting: &[usize]) -> Record {

@@ -2,7 +2,8 @@
 
 use crate::{square, Counts, Outcome, Refusal, MOST_LINE, MOST_PORTS, WISH_SIZE};
 
-/// One wish to slots: the least whole number not below it. Its refusals are those of record 0.
+/// One wish to slots: above zero the larger of 2 and the least whole number not below it. Its
+/// refusals are those of record 0.
 #[inline(never)] // timed as a call of a library
 pub fn wish(bits: u32) -> Outcome {
     slots(bits, 0).map(|slots| Counts { total: u64::from(slots), ..Counts::default() })
@@ -47,5 +48,6 @@ fn slots(bits: u32, k: usize) -> Result<u32, Refusal> {
         return Err(Refusal::AboveMost(k));
     }
     let floor = wish as u32;
-    Ok(floor + u32::from((floor as f32) < wish))
+    let least = floor + u32::from((floor as f32) < wish);
+    Ok(if least == 1 { 2 } else { least })
 }

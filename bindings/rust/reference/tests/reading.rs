@@ -136,7 +136,7 @@ fn the_first_faulty_wish_is_refused() {
     assert_eq!(answer(&list(&[[0, 0, 0, 1, 0, 0, 0, 0]])), Err(Refusal::Malformed(0)));
     assert_eq!(cells, [7; 4]);
     assert_eq!(wishes(2, &list(&[good(1), good(2)]), &mut cells).unwrap().records, 2);
-    assert_eq!(cells, [0, 1, 1, 0]);
+    assert_eq!(cells, [0, 2, 2, 0]);
     assert_eq!(wishes(2, &[], &mut cells).unwrap().records, 0);
     assert_eq!(cells, [0; 4]);
 }
