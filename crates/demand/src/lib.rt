@@ -10,7 +10,7 @@ ghost use mathlib.Core.Path.{_≡_};
 ghost use Prim.Native.Nat.{ℕ, _+_, _*_, _-_, _<_, _≤_};
 ghost use lib.ListN.{length};
 ghost use Rattle.switch.specs.Demand.{cell, line, longest};
-ghost use Rattle.switch.specs.Empty.{askedSlots};
+ghost use Rattle.switch.specs.Empty.{allSlots};
 ghost use Rattle.demand.specs.Lines.{strided, over, lineOver, Sized, Short};
 ghost use Rattle.demand.specs.Check.{checkDemand};
 
@@ -111,7 +111,7 @@ fn sum_of(cells: &[u32], from: usize, step: usize, n: usize) -> u64
 // The empty slots of a plan whose settings join every input and that covers the demand: N × total less the sum of all cells.
 pub fn empty_slots(n: usize, cells: &[u32], total: u64) -> u64
     requires { ⌜ Short n (now cells) × (longest n (cell n (now cells)) ≤ total) × (total ≤ 131070) ⌝ }
-    ensures { λ r. ⌜ r ≡ n * total - askedSlots n (cell n (now (cells .entry))) ⌝ }
+    ensures { λ r. ⌜ r ≡ n * total - allSlots n (cell n (now (cells .entry))) ⌝ }
 {
     n as u64 * total - asked_slots(n, cells)
 }
@@ -119,7 +119,7 @@ pub fn empty_slots(n: usize, cells: &[u32], total: u64) -> u64
 // The sum of all cells.
 pub fn asked_slots(n: usize, cells: &[u32]) -> u64
     requires { ⌜ Short n (now cells) ⌝ }
-    ensures { λ r. ⌜ r ≡ askedSlots n (cell n (now (cells .entry))) ⌝ }
+    ensures { λ r. ⌜ r ≡ allSlots n (cell n (now (cells .entry))) ⌝ }
 {
     let mut asked: u64 = 0;
     for i in 0..n {

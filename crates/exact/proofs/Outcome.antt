@@ -11,7 +11,7 @@ use Rattle.switch.specs.declared.Outcome.the-variants.{Done, Refused}
 use Rattle.switch.specs.Answer.{demandCounts}
 use Rattle.switch.specs.Demand.{cell}
 use Rattle.switch.specs.Plan.{Record}
-use Rattle.switch.specs.Empty.{askedSlots, emptySlots}
+use Rattle.switch.specs.Empty.{allSlots, emptySlots}
 use Rattle.demand.specs.declared.Checked.the-variants.{Fine}
 use Rattle.demand.specs.Lines.{Short}
 use Rattle.demand.specs.Check.{checkDemand, Asked}
@@ -57,12 +57,12 @@ module _ (W e N T : ℕ) (d buf : List ℕ) (narrow : W ≤ 128) (fine : checkDe
 
     -- another working copy, laid
     pub writes-plan : need ≡ 0 → (w' z' : List ℕ) → w' ≡ d ++ z' → (records : ℕ) → records ≡ length (exactPlan W N w') → (after : List ℕ)
-        → after ≡ laid buf 0 (bytes e N (map (stretch 1) (exactPlan W N w'))) → (empty : ℕ) → empty ≡ N * T - askedSlots N (cell N d)
+        → after ≡ laid buf 0 (bytes e N (map (stretch 1) (exactPlan W N w'))) → (empty : ℕ) → empty ≡ N * T - allSlots N (cell N d)
         → Answers W e N d buf (Done (demandCounts records T T empty)) after
     writes-plan q w' z' copied' records r after a empty x =
         let p = copied-plan W N T d w' narrow asked z' copied' in
         answers _ (planned-done W e N d (exactPlan W N d) buf T fine (enough q)) _ _
         (written-outcome e N T (emptySlots N (cell N d) (exactPlan W N d)) records T empty (exactPlan W N d) buf (r ∙ ap length p)
         (asked .longest-is ∙ sym (exact-total W N (asked .some) (asked .few) d (le-of-eq (sym (asked .size)))))
-        (x ∙ ap (λ (t : ℕ). N * t - askedSlots N (cell N d)) (asked .longest-is) ∙ sym (exact-empty-slots W N (asked .some) (asked .few) d (le-of-eq (sym (asked .size))))))
+        (x ∙ ap (λ (t : ℕ). N * t - allSlots N (cell N d)) (asked .longest-is) ∙ sym (exact-empty-slots W N (asked .some) (asked .few) d (le-of-eq (sym (asked .size))))))
         (a ∙ ap (λ (x : List Record). laid buf 0 (bytes e N x)) (stretch-once (exactPlan W N w') ∙ p) ∙ written-bytes e N T (emptySlots N (cell N d) (exactPlan W N d)) (exactPlan W N d) buf)

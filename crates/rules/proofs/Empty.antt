@@ -8,7 +8,7 @@ use lib.ListN.{length}
 use lib.Dec.{eqb}
 use Rattle.switch.specs.Demand.{cell, longest}
 use Rattle.switch.specs.Plan.{Full, Record, output, total, Covers}
-use Rattle.switch.specs.Empty.{askedSlots, emptySlots, AllFull}
+use Rattle.switch.specs.Empty.{allSlots, emptySlots, AllFull}
 use Rattle.switch.proofs.Empty.{full-empty, empty-none}
 use Rattle.rules.specs.Peel.{Peels, none, more}
 use Rattle.rules.specs.Exact.{tab, exactPlan}
@@ -54,7 +54,7 @@ module _ (W N : ℕ) (pos : 0 < N) (top : N ≤ W) (d : List ℕ) (s : N * N ≤
   exact-full = peels-full (exact-peels W N pos top d s)
 
   -- "For the exact plan this is N × T less the sum of all cells."
-  pub exact-empty-slots : emptySlots N (cell N d) (exactPlan W N d) ≡ N * longest N (cell N d) - askedSlots N (cell N d)
+  pub exact-empty-slots : emptySlots N (cell N d) (exactPlan W N d) ≡ N * longest N (cell N d) - allSlots N (cell N d)
   exact-empty-slots = omega (
     arith,
     full-empty N (cell N d) exact-full (exact-covers W N pos top d s),
@@ -73,7 +73,7 @@ module _ (W N : ℕ) (pos : 0 < N) (top : N ≤ W) (d : List ℕ) (s : N * N ≤
             (stretch-full u (peels-full (exact-peels W N pos top (divide u d) (omega (arith, s, length-divide u d))))) (turns-full W N top τ J (H u) N 0 (omega arith))
 
     pub doubled-empty-slots : Covers N (cell N d) (doubledBy W N τ H d)
-        → emptySlots N (cell N d) (doubledBy W N τ H d) ≡ N * total (doubledBy W N τ H d) - askedSlots N (cell N d)
+        → emptySlots N (cell N d) (doubledBy W N τ H d) ≡ N * total (doubledBy W N τ H d) - allSlots N (cell N d)
     doubled-empty-slots c = omega (arith, full-empty N (cell N d) doubled-full c)
 
 -- the quick cover grants every pair exactly its cell

@@ -9,19 +9,19 @@ use Rattle.counting.specs.Matrix.{row}
 use Rattle.counting.proofs.Sum.{sum-cong, sum-mono, sum-add, sum-mul, sum-const, sum-none}
 use Rattle.switch.specs.Demand.{longest}
 use Rattle.switch.specs.Plan.{Record, output, grant, total, Covers}
-use Rattle.switch.specs.Empty.{askedSlots, emptySlots, AllFull, none, more}
+use Rattle.switch.specs.Empty.{allSlots, beyond, emptySlots, AllFull, none, more}
 use Rattle.switch.proofs.Demand.{row-le-longest}
 use Rattle.switch.proofs.Plan.{full-row}
 
 -- at most T slots are asked of each input
-pub asked-most : (N : ℕ) (M : ℕ → ℕ → ℕ) → askedSlots N M ≤ N * longest N M
-unfolding askedSlots
+pub asked-most : (N : ℕ) (M : ℕ → ℕ → ℕ) → allSlots N M ≤ N * longest N M
+unfolding allSlots
 asked-most N M = omega (arith, sum-mono N (row N M) (λ _. longest N M) (row-le-longest N M), sum-const N (longest N M))
 
 module _ (N : ℕ) (M : ℕ → ℕ → ℕ) (p : List Record) where
   -- a plan that covers grants what was asked, and the empty slots
-  pub empty-granted : Covers N M p → emptySlots N M p + askedSlots N M ≡ askedSlots N (grant p)
-  unfolding emptySlots askedSlots row
+  pub empty-granted : Covers N M p → emptySlots N M p + allSlots N M ≡ allSlots N (grant p)
+  unfolding emptySlots beyond allSlots row
   empty-granted c = omega (
     arith,
     sum-add N (λ i. sum N (λ j. grant p i j - M i j)) (λ i. sum N (λ j. M i j)),
@@ -37,7 +37,7 @@ module _ (N : ℕ) (M : ℕ → ℕ → ℕ) (p : List Record) where
 
   -- a plan that grants each pair no more than its cell has none
   pub empty-none : ((i j : ℕ) → i < N → j < N → grant p i j ≤ M i j) → emptySlots N M p ≡ 0
-  unfolding emptySlots askedSlots row
+  unfolding emptySlots beyond row
   empty-none h = sum-none N (λ i. sum N (λ j. grant p i j - M i j)) (λ i l. sum-none N (λ j. grant p i j - M i j) (λ j k. omega (arith, h i j l k)))
 
 -- a plan of full settings grants every input its total hold
@@ -53,10 +53,10 @@ full-row-grants N (more {r} {p} f fs) i l = omega (
 )
 
 -- so N × total in all,
-pub full-grants : (N : ℕ) {p : List Record} → AllFull N p → askedSlots N (grant p) ≡ N * total p
-unfolding askedSlots
+pub full-grants : (N : ℕ) {p : List Record} → AllFull N p → allSlots N (grant p) ≡ N * total p
+unfolding allSlots
 full-grants N {p} f = omega (arith, sum-cong N (row N (grant p)) (λ _. total p) (full-row-grants N f), sum-const N (total p))
 
 -- and where it covers, its empty slots are N × total less the sum of all cells
-pub full-empty : (N : ℕ) (M : ℕ → ℕ → ℕ) {p : List Record} → AllFull N p → Covers N M p → emptySlots N M p + askedSlots N M ≡ N * total p
+pub full-empty : (N : ℕ) (M : ℕ → ℕ → ℕ) {p : List Record} → AllFull N p → Covers N M p → emptySlots N M p + allSlots N M ≡ N * total p
 full-empty N M {p} f c = omega (arith, empty-granted N M p c, full-grants N f)

@@ -5,13 +5,17 @@ use Rattle.counting.specs.Sum.{sum}
 use Rattle.counting.specs.Matrix.{row}
 use Rattle.switch.specs.Plan.{Full, Record, output, grant}
 
--- all slots that M asks: the sum of all cells
-unfoldable pub askedSlots : ℕ → (ℕ → ℕ → ℕ) → ℕ
-askedSlots N M = sum N (row N M)
+-- all slots that M asks, or grants: the sum of all cells
+unfoldable pub allSlots : ℕ → (ℕ → ℕ → ℕ) → ℕ
+allSlots N M = sum N (row N M)
 
--- a plan's empty slots: over all pairs, granted less asked, summed
+-- over all pairs, granted (G) less asked (M), summed
+unfoldable pub beyond : ℕ → (ℕ → ℕ → ℕ) → (ℕ → ℕ → ℕ) → ℕ
+beyond N M G = sum N (row N (λ i j. G i j - M i j))
+
+-- a plan's empty slots
 unfoldable pub emptySlots : ℕ → (ℕ → ℕ → ℕ) → List Record → ℕ
-emptySlots N M p = askedSlots N (λ i j. grant p i j - M i j)
+emptySlots N M p = beyond N M (grant p)
 
 -- every setting of the plan joins every input
 pub data AllFull (N : ℕ) : List Record → Type 0 where

@@ -7,7 +7,7 @@ use Rattle.counting.specs.Matrix.{row}
 use Rattle.counting.proofs.Sum.{sum-zero, sum-next}
 use Rattle.switch.specs.Demand.{cell}
 use Rattle.switch.proofs.Demand.{line-row, row-le-longest}
-use Rattle.switch.specs.Empty.{askedSlots}
+use Rattle.switch.specs.Empty.{allSlots}
 use borrow.Author.Needs.{needs}
 use Rattle.demand.proofs.asked_slots.Statement.{statement}
 use Rattle.demand.proofs.asked_slots.Tie as tie
@@ -56,7 +56,7 @@ loop-again c =
     (omega arith, omega (arith, is-row c, l .inv .1, sum-next (l .i) (row (start c .args .n) (cell (start c .args .n) (start c .args .cells .now)))), omega (arith, short c))
 
 returns : tie.Need-returns Inv-loop μ-loop
-unfolding askedSlots
+unfolding allSlots
 returns c =
     let l = c .before .loop in
     let n = c .before .before .before .args .n in
