@@ -145,7 +145,9 @@ cv_answer cv_quick(uint64_t n, const uint32_t *cells, size_t cells_len, uint8_t 
 cv_answer cv_check(uint64_t n, const uint32_t *cells, size_t cells_len, const uint8_t *plan, size_t plan_len);
 
 /*
- * The length of a plan at a switching time of d slots: total hold + d * number of records.
+ * The length of a plan at a switching time of d slots: total hold, and d for each record that moves
+ * the mirrors, which are the first and those whose outputs differ from the record before. An empty
+ * plan has length 0.
  * Codes:  1, 9, 10, 11.
  * Writes: nothing.
  * Done:   length, records, total.

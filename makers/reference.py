@@ -398,7 +398,8 @@ def plan_length(n, plan, d):
     if refused:
         return refused
     total = total_hold(records)
-    return Answer(records=len(records), total=total, length=total + d * len(records))
+    moves = sum(k == 0 or outputs != records[k - 1][1] for k, (_, outputs) in enumerate(records))
+    return Answer(records=len(records), total=total, length=total + d * moves)
 
 
 # ---- The lister

@@ -22,7 +22,7 @@ use Rattle.audit.specs.Reading.{reading, Passed}
 use Rattle.audit.specs.declared.Meeting.{Meeting}
 use Rattle.audit.specs.Check.{meeting, covering, afterDemand, checkPlan, Blank, Grants}
 use Rattle.audit.proofs.Reading.{reading-whole}
-use Rattle.audit.proofs.Pass.{length-plan}
+use Rattle.plans.proofs.Plans.{length-plan}
 use Rattle.audit.proofs.Cover.{meeting-cong, answers, covering-meeting}
 
 -- codes 1, 2 and 3, and a demand that is fine

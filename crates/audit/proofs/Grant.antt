@@ -18,7 +18,8 @@ use Rattle.switch.proofs.Demand.{set-raised}
 use Rattle.records.specs.Record.{hold, decoded}
 use Rattle.records.specs.Bytes.{recordAt, planFrom}
 use Rattle.audit.specs.Check.{Blank, Grants, Granting, Granted}
-use Rattle.audit.proofs.Pass.{plan-next, grant-next}
+use Rattle.plans.proofs.Plans.{plan-next}
+use Rattle.audit.proofs.Pass.{grant-next}
 
 pub grant-le-total : (p : List Record) (i j : ℕ) → grant p i j ≤ total p
 unfolding grant total

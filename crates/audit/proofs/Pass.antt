@@ -3,9 +3,7 @@
 use mathlib.Core.Path.{_≡_, refl, sym, ap, _∙_}
 use mathlib.Core.Bool.{Bool, true, false, not}
 use mathlib.Core.List.{List, [], _∷_, _++_}
-use Prim.Native.Nat.{ℕ, zero, suc, _+_, _*_, _-_, _<_, _≤_}
-use native.Mathlib.Nat.{add-zero, suc-add, add-suc}
-use native.Mathlib.Numerals.{add-one}
+use Prim.Native.Nat.{ℕ, _+_, _*_, _-_, _<_, _≤_}
 use native.Mathlib.Omega.{arith}
 use lib.ListN.{length}
 use borrow.Author.Tests.{not-true, not-false}
@@ -18,25 +16,10 @@ use Rattle.records.specs.Bytes.{recordAt, whole, planFrom}
 use Rattle.plans.specs.Read.{malformed}
 use Rattle.records.proofs.Part.{whole-fits, record-fits, record-size}
 use Rattle.plans.proofs.Read.{scan-stop, scan-more, scan-end}
+use Rattle.plans.proofs.Plans.{plan-next}
 use Rattle.audit.specs.Reading.{Readable, Passed}
 
 -- ---- one record more
-
-module _ (W : ℕ) (plan : List ℕ) where
-  plan-append : (a m : ℕ) → planFrom W plan a (suc m) ≡ planFrom W plan a m ++ decoded (recordAt W plan (a + m)) ∷ []
-  unfolding planFrom
-  plan-append a zero = ap (λ (k : ℕ). decoded (recordAt W plan k) ∷ []) (sym (add-zero a))
-  plan-append a (suc m) =
-      ap (λ (p : List Record). decoded (recordAt W plan a) ∷ p) (plan-append (suc a) m
-      ∙ ap (λ (k : ℕ). planFrom W plan (suc a) m ++ decoded (recordAt W plan k) ∷ []) (suc-add a m ∙ sym (add-suc a m)))
-
-  pub plan-next : (k : ℕ) → planFrom W plan 0 (k + 1) ≡ planFrom W plan 0 k ++ decoded (recordAt W plan k) ∷ []
-  plan-next k = rw add-one (plan-append 0 k ∙ ap (λ (i : ℕ). planFrom W plan 0 k ++ decoded (recordAt W plan i) ∷ []) (let e : 0 + k ≡ k = omega arith in e))
-
-  pub length-plan : (k m : ℕ) → length (planFrom W plan k m) ≡ m
-  unfolding planFrom
-  length-plan k zero = refl
-  length-plan k (suc m) = ap suc (length-plan (suc k) m)
 
 pub total-next : (p : List Record) (r : Record) → total (p ++ r ∷ []) ≡ total p + r .hold
 unfolding total

@@ -33,7 +33,7 @@ use Rattle.plans.proofs.Plans.{checked, bytes-pass}
 use Rattle.rules.proofs.Fill.{place-in}
 use Rattle.audit.specs.Check.{uncovered, Short, covering, checkPlan}
 use Rattle.audit.proofs.Reading.{after-checking}
-use Rattle.audit.proofs.Pass.{length-plan}
+use Rattle.plans.proofs.Plans.{length-plan}
 use Rattle.audit.proofs.Cover.{uncovered-short, uncovered-none, covered-end, covering-short, covering-done}
 use Rattle.audit.proofs.Check.{check-faulty, check-fine}
 

@@ -1,7 +1,8 @@
 -- The length of a plan at a switching time of d slots. Definitions only.
 use mathlib.Core.Path.{_≡_}
+use mathlib.Core.Bool.{Bool, true, not, cond}
 use mathlib.Core.List.{List}
-use Prim.Native.Nat.{ℕ, _+_}
+use Prim.Native.Nat.{ℕ, zero, suc, _+_}
 use lib.ListN.{length}
 use Rattle.counting.specs.Sum.{sum}
 use Rattle.switch.specs.declared.Counts.{Counts}
@@ -9,11 +10,17 @@ use Rattle.switch.specs.declared.Outcome.{Outcome}
 use Rattle.switch.specs.declared.Outcome.the-variants.{Done}
 use Rattle.switch.specs.Plan.{Record, total}
 use Rattle.plans.specs.declared.Edition.{Edition}
+use Rattle.settings.specs.Sums.{sameOutputs, settingAt}
 use Rattle.audit.specs.Reading.{reading}
 
--- what record k of plan p is charged: the switching time, for every record
+-- the mirrors move for the first record, and for each later one whose outputs differ from those of the record before it
+unfoldable pub moves : List Record → ℕ → Bool
+moves p zero = true
+moves p (suc k) = not (sameOutputs (settingAt p k) (settingAt p (suc k)))
+
+-- what record k of plan p is charged: the switching time where the mirrors move
 unfoldable pub charge : ℕ → List Record → ℕ → ℕ
-charge d p k = d
+charge d p k = cond (moves p k) d 0
 
 -- total hold, and what the records are charged
 unfoldable pub lengthOf : ℕ → List Record → ℕ

@@ -15,7 +15,7 @@ ghost use Prim.Native.Nat.{_+_, _*_, _<_, _≤_};
 ghost use lib.ListN.{length};
 ghost use Rattle.switch.specs.Demand.{cell};
 ghost use Rattle.records.specs.Record.{decoded};
-ghost use Rattle.records.specs.Bytes.{recordAt, whole, planOf, planFrom};
+ghost use Rattle.records.specs.Bytes.{whole, planOf, planFrom};
 ghost use Rattle.plans.specs.Read.{firstEdition, Bounded};
 ghost use Rattle.audit.specs.Reading.{reading, Readable, Passed};
 ghost use Rattle.audit.specs.Check.{meeting, covering, checkPlan, Blank, Grants, Granting, Granted};
@@ -98,7 +98,7 @@ fn grant_plan(n: usize, plan: &[u8], e: Edition, records: usize, grants: &mut [u
 {
     let mut total: u64 = 0;
     for k in 0..records {
-        let rec = record_at(plan, e.width, k);
+        let rec = plans::record_at(plan, e.width, k);
         if !records::record_fine(rec, n, e.byte) {
             return counted(k, total, 0);
         }
@@ -164,7 +164,7 @@ fn charge_plan(n: usize, plan: &[u8], d: u16, e: Edition, count: usize) -> Count
     let mut total: u64 = 0;
     let mut length: u64 = 0;
     for k in 0..count {
-        let rec = record_at(plan, e.width, k);
+        let rec = plans::record_at(plan, e.width, k);
         if !records::record_fine(rec, n, e.byte) {
             return counted(k, total, length);
         }
@@ -175,23 +175,20 @@ fn charge_plan(n: usize, plan: &[u8], d: u16, e: Edition, count: usize) -> Count
     counted(count, total, length)
 }
 
-// What record k of a plan is charged: the switching time, whatever stands in the record and in the one before it.
+// What record k of a plan is charged: the switching time for the first, and where the mirrors differ from the record before.
 fn charge_of(plan: &[u8], width: usize, k: usize, d: u16) -> u64
     requires { ⌜ (width ≤ 128) × (k < whole width (now plan)) ⌝ }
     ensures { λ r. ⌜ (r ≡ charge d (planOf width (now (plan .entry))) k) × (r ≤ 65535) ⌝ }
 {
+    if k == 0 {
+        return d as u64;
+    }
+    let left = settings::setting_at(plan, width, k - 1);
+    let met = settings::setting_at(plan, width, k);
+    if settings::same_outputs(left, met) {
+        return 0;
+    }
     d as u64
-}
-
-// Record k of a plan.
-fn record_at(plan: &[u8], width: usize, k: usize) -> &[u8]
-    requires { ⌜ (width ≤ 128) × (k < whole width (now plan)) ⌝ }
-    ensures { λ r. ⌜ now r ≡ recordAt width (now (plan .entry)) k ⌝ }
-{
-    let size = width + HEAD;
-    let from = k * size;
-    let to = from + size;
-    &plan[from..to]
 }
 
 // How far a pass over a plan came.

@@ -21,11 +21,11 @@ use Rattle.records.specs.Bytes.{whole, bytes, laid}
 use Rattle.planner.specs.Planned.{Planned, refuses, writes, roomFor, planned, plannedUpTo, Gives, shortage}
 
 module _ (W e N T empty : ℕ) (p : List Record) (buf : List ℕ) where
-  no-room : whole W buf < length p → roomFor W e N T empty p buf ≡ refuses (Room (length p)) buf
+  pub no-room : whole W buf < length p → roomFor W e N T empty p buf ≡ refuses (Room (length p)) buf
   unfolding roomFor
   no-room l = rw (lt-ltb _ _ l)
 
-  room : length p ≤ whole W buf → roomFor W e N T empty p buf ≡ writes e N T empty p buf
+  pub room : length p ≤ whole W buf → roomFor W e N T empty p buf ≡ writes e N T empty p buf
   unfolding roomFor
   room l = rw (le-ltb _ _ l)
 

@@ -2,9 +2,10 @@
 use mathlib.Core.Path.{_≡_, refl, sym, ap, ap₂, _∙_, subst}
 use mathlib.Core.Bool.{Bool, true, false}
 use mathlib.Core.Logic.{dite}
-use mathlib.Core.List.{List}
+use mathlib.Core.List.{List, [], _∷_, _++_}
 use Prim.Native.Nat.{ℕ, zero, suc, _+_, _*_, _%_, _<_, _≤_}
-use native.Mathlib.Nat.{mul-mod-left}
+use native.Mathlib.Nat.{add-zero, suc-add, add-suc, mul-mod-left}
+use native.Mathlib.Numerals.{add-one}
 use native.Mathlib.Decide.{decLt}
 use native.Mathlib.Omega.{arith}
 use lib.ListN.{length}
@@ -15,14 +16,31 @@ use Rattle.switch.specs.declared.Refusal.{Refusal}
 use Rattle.switch.specs.Answer.{planCounts}
 use Rattle.switch.specs.Plan.{Record, total}
 use Rattle.plans.specs.declared.Edition.{Edition}
-use Rattle.records.specs.Record.{Sound}
-use Rattle.records.specs.Bytes.{whole, planOf, bytes, Each}
+use Rattle.records.specs.Record.{decoded, Sound}
+use Rattle.records.specs.Bytes.{recordAt, whole, planFrom, planOf, bytes, Each}
 use Rattle.plans.specs.Read.{Bounded, opening, malformed, checkingIn, checking}
 use Rattle.records.proofs.Bytes.{bytes-size}
 use Rattle.records.proofs.Part.{whole-fits}
 use Rattle.records.proofs.Round.{whole-bytes, planOf-bytes}
 use Rattle.records.proofs.Sound.{fine, each-width, plan-sound, bytes-fine}
 use Rattle.plans.proofs.Read.{opened, opened-records, opening-done, check-refused, check-opened, check-malformed, check-done}
+
+-- a plan read one record further, and how many records are read
+module _ (W : ℕ) (plan : List ℕ) where
+  plan-append : (a m : ℕ) → planFrom W plan a (suc m) ≡ planFrom W plan a m ++ decoded (recordAt W plan (a + m)) ∷ []
+  unfolding planFrom
+  plan-append a zero = ap (λ (k : ℕ). decoded (recordAt W plan k) ∷ []) (sym (add-zero a))
+  plan-append a (suc m) =
+      ap (λ (p : List Record). decoded (recordAt W plan a) ∷ p) (plan-append (suc a) m
+      ∙ ap (λ (k : ℕ). planFrom W plan (suc a) m ++ decoded (recordAt W plan k) ∷ []) (suc-add a m ∙ sym (add-suc a m)))
+
+  pub plan-next : (k : ℕ) → planFrom W plan 0 (k + 1) ≡ planFrom W plan 0 k ++ decoded (recordAt W plan k) ∷ []
+  plan-next k = rw add-one (plan-append 0 k ∙ ap (λ (i : ℕ). planFrom W plan 0 k ++ decoded (recordAt W plan i) ∷ []) (let e : 0 + k ≡ k = omega arith in e))
+
+  pub length-plan : (k m : ℕ) → length (planFrom W plan k m) ≡ m
+  unfolding planFrom
+  length-plan k zero = refl
+  length-plan k (suc m) = ap suc (length-plan (suc k) m)
 
 -- f is the first of k, .. (m of them) at which p is false; k + m where there is none
 pub record First (p : ℕ → Bool) (m k f : ℕ) : Type 0 where

@@ -10,10 +10,10 @@ use switch::Counts;
 use switch::Outcome;
 use switch::Refusal;
 ghost use mathlib.Core.Path.{_≡_};
-ghost use Prim.Native.Nat.{_+_, _*_, _≤_};
+ghost use Prim.Native.Nat.{_+_, _*_, _<_, _≤_};
 ghost use lib.ListN.{length};
 ghost use Rattle.switch.specs.Plan.{total};
-ghost use Rattle.records.specs.Bytes.{planFrom};
+ghost use Rattle.records.specs.Bytes.{recordAt, whole, planFrom};
 ghost use Rattle.plans.specs.Read.{firstEdition, Bounded, opening, nothing, given, stepAt, malformed, checking};
 
 // A plan has at most 8,192 records.
@@ -194,4 +194,15 @@ fn total_hold(plan: &[u8], width: usize, records: usize) -> u64
         sum += records::hold_of(&plan[from..to]) as u64;
     }
     sum
+}
+
+// Record k of a plan.
+pub fn record_at(plan: &[u8], width: usize, k: usize) -> &[u8]
+    requires { ⌜ (width ≤ 128) × (k < whole width (now plan)) ⌝ }
+    ensures { λ r. ⌜ now r ≡ recordAt width (now (plan .entry)) k ⌝ }
+{
+    let size = width + HEAD;
+    let start = k * size;
+    let end = start + size;
+    &plan[start..end]
 }

@@ -77,12 +77,18 @@ pub fn write(hold: u16, n: u64, outputs: &[u8; MOST_PORTS], plan: &mut [u8]) -> 
     Ok(Counts { records: 1, total: u64::from(hold), ..Counts::default() })
 }
 
-/// The length of a plan at a switching time of d slots: total hold + d × records.
+/// The length of a plan: total hold, and d slots for each record that moves the mirrors, which are
+/// the first and those whose outputs differ from the record before.
 pub fn length(n: u64, plan: &[u8], d: u16) -> Outcome {
     let n = opened(n, plan)?;
-    let mut total = 0;
-    let records = each_record(n, plan, |hold, _| total += u64::from(hold))?;
-    Ok(Counts { records, total, length: total + u64::from(d) * records, longest: 0 })
+    let (mut total, mut moves) = (0, 0);
+    let mut before = None;
+    let records = each_record(n, plan, |hold, outputs| {
+        total += u64::from(hold);
+        moves += u64::from(before != Some(outputs));
+        before = Some(outputs);
+    })?;
+    Ok(Counts { records, total, length: total + u64::from(d) * moves, longest: 0 })
 }
 
 /// Checks a plan from anywhere against a demand.
@@ -140,7 +146,11 @@ fn step_from(n: usize, rest: &[u8], number: u64) -> Step {
 }
 
 /// Hands out each record of an opened plan and counts them; code 11 at the first that is not well formed.
-fn each_record(n: usize, plan: &[u8], mut take: impl FnMut(u16, &[u8; MOST_PORTS])) -> Result<u64, Refusal> {
+fn each_record<'a>(
+    n: usize,
+    plan: &'a [u8],
+    mut take: impl FnMut(u16, &'a [u8; MOST_PORTS]),
+) -> Result<u64, Refusal> {
     for (k, record) in plan.chunks_exact(RECORD_SIZE).enumerate() {
         let record = record.first_chunk().expect("a chunk is a whole record");
         if !well_formed(n, record) {

@@ -123,7 +123,7 @@ fn most_records() {
     };
     let plan = one.repeat(8_193);
     let counts = length(64, &plan[..8_192 * RECORD_SIZE], 65_535).unwrap();
-    assert_eq!((counts.records, counts.total, counts.length), (8_192, 536_862_720, 1_073_725_440));
+    assert_eq!((counts.records, counts.total, counts.length), (8_192, 536_862_720, 536_928_255));
     assert_eq!(length(64, &plan, 0), Err(Refusal::Records));
     assert_eq!(length(64, &plan[1..], 0), Err(Refusal::Torn(8_192)));
     assert_eq!(open(64, &[&plan[..], &[0]].concat()), Err(Refusal::Torn(8_193)));

@@ -2,17 +2,17 @@
 use native.Mathlib.Omega.{arith}
 use Rattle.records.proofs.Part.{whole-fits, record-fits, part-record}
 use borrow.Author.Needs.{needs}
-use Rattle.audit.proofs.record_at.Statement.{statement}
-use Rattle.audit.proofs.record_at.Tie as tie
+use Rattle.plans.proofs.record_at.Statement.{statement}
+use Rattle.plans.proofs.record_at.Tie as tie
 
 add-size : tie.Need-add-size
 add-size c = search needs
 
-mul-from : tie.Need-mul-from
-mul-from c = omega (arith, record-fits (c .args .width) (c .args .plan .now) (c .args .k) _ (c .pre .1) (whole-fits (c .args .width) (c .args .plan .now)))
+mul-start : tie.Need-mul-start
+mul-start c = omega (arith, record-fits (c .args .width) (c .args .plan .now) (c .args .k) _ (c .pre .1) (whole-fits (c .args .width) (c .args .plan .now)))
 
-add-to : tie.Need-add-to
-add-to c = omega (arith, record-fits (c .args .width) (c .args .plan .now) (c .args .k) _ (c .pre .1) (whole-fits (c .args .width) (c .args .plan .now)))
+add-end : tie.Need-add-end
+add-end c = omega (arith, record-fits (c .args .width) (c .args .plan .now) (c .args .k) _ (c .pre .1) (whole-fits (c .args .width) (c .args .plan .now)))
 
 sub-result : tie.Need-sub-result
 sub-result c = search needs
@@ -29,4 +29,4 @@ returns c = part-record (c .before .args .width) (c .before .args .plan .now) (c
 pub record-at-spec : {M : Type 1} → statement M
 record-at-spec =
     tie.close
-    (tie.spec add-size mul-from add-to sub-result part-result-start part-result-end returns)
+    (tie.spec add-size mul-start add-end sub-result part-result-start part-result-end returns)

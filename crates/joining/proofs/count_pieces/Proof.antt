@@ -1,0 +1,81 @@
+-- Each turn counts the pieces of one sum more.
+use mathlib.Core.Path.{_≡_, ap}
+use mathlib.Core.List.{List}
+use Prim.Native.Nat.{ℕ, _+_, _*_, _-_, _≤_}
+use native.Mathlib.Omega.{arith}
+use lib.ListN.{length}
+use Rattle.settings.specs.Table.{entriesFrom}
+use Rattle.joining.specs.Join.{cut}
+use Rattle.joining.proofs.Sums.{cut-more, cut-end}
+use borrow.Author.Needs.{needs}
+use Rattle.joining.proofs.count_pieces.Statement.{statement}
+use Rattle.joining.proofs.count_pieces.Tie as tie
+
+abbrev Inv-loop : tie.InvT-loop
+Inv-loop totals count need₀ e₀ need e =
+    (e ≤ count) × (need ≤ 65538 * e)
+    × ((W : ℕ) (plan firsts : List ℕ) → need + length (cut (entriesFrom W plan firsts totals e (count - e))) ≡ length (cut (entriesFrom W plan firsts totals 0 count)))
+
+abbrev μ-loop : tie.MeasureT-loop
+μ-loop totals count need₀ e₀ need e = count - e
+
+loop-holds : tie.Need-loop-holds Inv-loop μ-loop
+loop-holds c =
+    let a = c .before .args in
+    (search needs, omega arith, λ W plan firsts. omega (arith, ap (λ (m : ℕ). length (cut (entriesFrom W plan firsts (a .totals .now) 0 m))) (let z : a .count - 0 ≡ a .count = omega arith in z)))
+
+mul-wide : tie.Need-mul-wide Inv-loop μ-loop
+mul-wide c = search needs
+
+shared-slice-read-wide : tie.Need-shared-slice-read-wide Inv-loop μ-loop
+shared-slice-read-wide c = search needs
+
+wide-requires : tie.Need-wide-requires Inv-loop μ-loop
+wide-requires c κs = search needs
+
+sub-need : tie.Need-sub-need Inv-loop μ-loop
+sub-need c = search needs
+
+add-need : tie.Need-add-need Inv-loop μ-loop
+add-need c = omega (arith, c .before .shared-slice-known2 .given (c .before .before .before .loop .e), c .wide .ensures)
+
+add-need-2 : tie.Need-add-need-2 Inv-loop μ-loop
+add-need-2 c = omega (arith, c .before .shared-slice-known2 .given (c .before .before .before .loop .e), c .wide .ensures, c .before .before .before .loop .inv .1, c .before .before .before .before .before .pre .0)
+
+add-e : tie.Need-add-e Inv-loop μ-loop
+add-e c = search needs
+
+loop-less : tie.Need-loop-less Inv-loop μ-loop
+loop-less c = search needs
+
+loop-again : tie.Need-loop-again Inv-loop μ-loop
+loop-again c =
+    let l = c .before .before .before .loop in
+    let a = c .before .before .before .before .before .args in (
+      omega arith,
+      omega (arith, c .before .shared-slice-known2 .given (l .e), c .wide .ensures, l .inv .1),
+      λ W plan firsts.
+          omega (arith, l .inv .2 W plan firsts, cut-more W plan firsts (a .totals .now) (a .count) (l .e) (omega arith), c .wide .ensures),
+    )
+
+returns : tie.Need-returns Inv-loop μ-loop
+returns c = λ W plan firsts.
+    omega (arith, c .before .loop .inv .2 W plan firsts, cut-end W plan firsts (c .before .before .before .args .totals .now) (c .before .before .before .args .count) (c .before .loop .e) (omega arith))
+
+pub count-pieces-spec : {M : Type 1} → statement M
+count-pieces-spec =
+    tie.close
+    (tie.spec
+    Inv-loop
+    μ-loop
+    loop-holds
+    mul-wide
+    shared-slice-read-wide
+    wide-requires
+    sub-need
+    add-need
+    add-need-2
+    add-e
+    loop-less
+    loop-again
+    returns)

@@ -1,0 +1,51 @@
+-- The first edition keeps to the bounds of every edition, and new arrays are an empty table with an entry for each of 8,192 records.
+use mathlib.Core.Path.{ap, _∙_}
+use native.Mathlib.Omega.{arith}
+use Rattle.plans.specs.declared.Edition.{Edition}
+use Rattle.plans.proofs.Read.{first-bounded}
+use Rattle.settings.proofs.Next.{empty-zeros, roomy-zeros}
+use Rattle.joining.specs.Join.{joining}
+use borrow.Author.Needs.{needs}
+use Rattle.joining.proofs.join_plan.Statement.{statement}
+use Rattle.joining.proofs.join_plan.Tie as tie
+
+first-edition-requires : tie.Need-first-edition-requires
+first-edition-requires c κs = search needs
+
+slice-aggregate-join-for : tie.Need-slice-aggregate-join-for
+slice-aggregate-join-for c = search needs
+
+slice-aggregate-join-for-2 : tie.Need-slice-aggregate-join-for-2
+slice-aggregate-join-for-2 c = search needs
+
+slice-aggregate-join-for-3 : tie.Need-slice-aggregate-join-for-3
+slice-aggregate-join-for-3 c = search needs
+
+slice-aggregate-join-for-4 : tie.Need-slice-aggregate-join-for-4
+slice-aggregate-join-for-4 c = search needs
+
+join-for-requires : tie.Need-join-for-requires
+join-for-requires c κs = rw (c .before .before .before .before .before .first-edition .ensures) (first-bounded, empty-zeros 16384 (omega arith), roomy-zeros 8192)
+
+same-length : tie.Need-same-length
+same-length c = search needs
+
+returns : tie.Need-returns
+returns c =
+    let a = c .before .before .before .before .before .before .before .before .before .before .before .before .before .before .before .args in
+    let j = c .before .before .before .before .before .before .join-for .ensures in
+    let q = c .before .before .before .before .before .before .before .before .before .before .before .before .first-edition .ensures in
+    (j .0 ∙ ap (λ (e : Edition). joining e (a .n) (a .plan .now) (a .joined .now) .outcome) q, j .1 ∙ ap (λ (e : Edition). joining e (a .n) (a .plan .now) (a .joined .now) .bytes) q)
+
+pub join-plan-spec : {M : Type 1} → statement M
+join-plan-spec =
+    tie.close
+    (tie.spec
+    first-edition-requires
+    slice-aggregate-join-for
+    slice-aggregate-join-for-2
+    slice-aggregate-join-for-3
+    slice-aggregate-join-for-4
+    join-for-requires
+    same-length
+    returns)

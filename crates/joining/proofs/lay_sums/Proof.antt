@@ -1,0 +1,93 @@
+-- Each turn lays the pieces of one sum more behind those before it.
+use mathlib.Core.Path.{_≡_, sym, subst}
+use Prim.Native.Nat.{ℕ, _-_, _<_, _≤_}
+use native.Mathlib.Omega.{arith}
+use Rattle.records.specs.Bytes.{whole}
+use Rattle.settings.specs.Table.{entriesFrom}
+use Rattle.joining.specs.Join.{cut}
+use Rattle.joining.proofs.Sums.{cut-next, cut-none}
+use Rattle.joining.proofs.Laying.{Laying, laying-none, laying-end, laying-room-all, laying-all}
+use borrow.Author.Needs.{needs}
+use Rattle.joining.proofs.lay_sums.Statement.{statement}
+use Rattle.joining.proofs.lay_sums.Tie as tie
+
+abbrev Inv-loop : tie.InvT-loop
+Inv-loop n plan width edition firsts totals count buffer₀ at₀ e₀ buffer at e =
+    (e ≤ count) × Laying edition n buffer₀ 0 (cut (entriesFrom width plan firsts totals 0 count)) buffer at (cut (entriesFrom width plan firsts totals e (count - e)))
+
+abbrev μ-loop : tie.MeasureT-loop
+μ-loop n plan width edition firsts totals count buffer₀ at₀ e₀ buffer at e = count - e
+
+loop-holds : tie.Need-loop-holds Inv-loop μ-loop
+loop-holds c =
+    let a = c .before .before .before .before .args in
+    let z : a .count ≡ a .count - 0 = omega arith in (
+      search needs,
+      subst (λ (m : ℕ). Laying (a .edition) (a .n) (a .buffer .now) 0 (cut (entriesFrom (a .width) (a .plan .now) (a .firsts .now) (a .totals .now) 0 (a .count))) (a .buffer .now) 0 (cut (entriesFrom (a .width) (a .plan .now) (a .firsts .now) (a .totals .now) 0 m))) z
+          (laying-none _ _ _ _ _ (omega (arith, c .before .before .before .before .pre .5))),
+    )
+
+mul-wide : tie.Need-mul-wide Inv-loop μ-loop
+mul-wide c = omega (arith, c .before .before .before .before .before .before .pre .2)
+
+shared-slice-read-wide : tie.Need-shared-slice-read-wide Inv-loop μ-loop
+shared-slice-read-wide c = omega (arith, c .before .before .before .before .before .before .before .pre .2)
+
+wide-requires : tie.Need-wide-requires Inv-loop μ-loop
+wide-requires c κs = search needs
+
+setting-at-requires : tie.Need-setting-at-requires Inv-loop μ-loop
+setting-at-requires c κs =
+    let a = c .before .before .before .before .before .before .before .before .args in
+    (c .before .before .before .before .before .before .before .before .pre .1, subst (λ (k : ℕ). k < whole (a .width) (a .plan .now)) (sym (c .wide .ensures)) (c .before .before .before .before .before .before .before .before .pre .4 (c .before .before .before .loop .e) (omega arith)))
+
+mul-wide-2 : tie.Need-mul-wide-2 Inv-loop μ-loop
+mul-wide-2 c = omega (arith, c .before .before .before .before .before .before .before .before .before .pre .3)
+
+shared-slice-read-wide-2 : tie.Need-shared-slice-read-wide-2 Inv-loop μ-loop
+shared-slice-read-wide-2 c = omega (arith, c .before .before .before .before .before .before .before .before .before .before .pre .3)
+
+wide-requires-2 : tie.Need-wide-requires-2 Inv-loop μ-loop
+wide-requires-2 c κs = search needs
+
+lay-sum-requires : tie.Need-lay-sum-requires Inv-loop μ-loop
+lay-sum-requires c κs = (c .before .before .before .before .before .before .before .before .before .before .before .before .pre .0, laying-room-all _ _ _ _ _ _ _ _ _ (subst (Laying _ _ _ _ _ (c .before .before .before .before .before .before .before .loop .buffer) (c .before .before .before .before .before .before .before .loop .at)) (cut-next (c .before .before .before .before .before .before .before .before .before .before .before .before .args .width) (c .before .before .before .before .before .before .before .before .before .before .before .before .args .plan .now) (c .before .before .before .before .before .before .before .before .before .before .before .before .args .firsts .now) (c .before .before .before .before .before .before .before .before .before .before .before .before .args .totals .now) (c .before .before .before .before .before .before .before .before .before .before .before .before .args .count) (c .before .before .before .before .before .before .before .loop .e) (omega arith) _ (c .before .before .before .before .wide .ensures) _ (c .before .before .before .setting-at .ensures) _ (c .before .wide2 .ensures)) (c .before .before .before .before .before .before .before .loop .inv .1)))
+
+add-e : tie.Need-add-e Inv-loop μ-loop
+add-e c = search needs
+
+loop-less : tie.Need-loop-less Inv-loop μ-loop
+loop-less c = search needs
+
+loop-again : tie.Need-loop-again Inv-loop μ-loop
+loop-again c = (omega arith, laying-all _ _ _ _ _ _ _ _ _ (subst (Laying _ _ _ _ _ (c .before .before .before .before .before .before .before .before .before .before .loop .buffer) (c .before .before .before .before .before .before .before .before .before .before .loop .at)) (cut-next (c .before .before .before .before .before .before .before .before .before .before .before .before .before .before .before .args .width) (c .before .before .before .before .before .before .before .before .before .before .before .before .before .before .before .args .plan .now) (c .before .before .before .before .before .before .before .before .before .before .before .before .before .before .before .args .firsts .now) (c .before .before .before .before .before .before .before .before .before .before .before .before .before .before .before .args .totals .now) (c .before .before .before .before .before .before .before .before .before .before .before .before .before .before .before .args .count) (c .before .before .before .before .before .before .before .before .before .before .loop .e) (omega arith) _ (c .before .before .before .before .before .before .before .wide .ensures) _ (c .before .before .before .before .before .before .setting-at .ensures) _ (c .before .before .before .before .wide2 .ensures)) (c .before .before .before .before .before .before .before .before .before .before .loop .inv .1)) _ (c .before .before .lay-sum .ensures .1) _ (c .before .before .lay-sum .ensures .0))
+
+same-length : tie.Need-same-length Inv-loop μ-loop
+same-length c = c .before .loop .inv .1 .size
+
+returns : tie.Need-returns Inv-loop μ-loop
+returns c =
+    let l = c .before .loop in
+    let a = c .before .before .before .before .before .before .args in
+    laying-end _ _ _ _ _ _ _ (subst (Laying _ _ _ _ _ (l .buffer) (l .at)) (cut-none (a .width) (a .plan .now) (a .firsts .now) (a .totals .now) (a .count) (l .e) (omega arith)) (l .inv .1)) .1
+
+pub lay-sums-spec : {M : Type 1} → statement M
+lay-sums-spec =
+    tie.close
+    (tie.spec
+    Inv-loop
+    μ-loop
+    loop-holds
+    mul-wide
+    shared-slice-read-wide
+    wide-requires
+    setting-at-requires
+    mul-wide-2
+    shared-slice-read-wide-2
+    wide-requires-2
+    lay-sum-requires
+    add-e
+    loop-less
+    loop-again
+    same-length
+    returns)

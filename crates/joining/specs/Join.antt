@@ -1,0 +1,44 @@
+-- Joining equal settings. Definitions only.
+use mathlib.Core.List.{List, [], _∷_, _++_}
+use Prim.Native.Nat.{ℕ, zero, suc, _/_, _%_}
+use lib.ListN.{replicate}
+use Rattle.switch.specs.declared.Outcome.{Outcome}
+use Rattle.switch.specs.declared.Outcome.the-variants.{Done, Refused}
+use Rattle.switch.specs.Plan.{Record}
+use Rattle.records.specs.Bytes.{planOf}
+use Rattle.plans.specs.declared.Edition.{Edition}
+use Rattle.plans.specs.Read.{checking}
+use Rattle.planner.specs.Planned.{Planned, refuses, roomFor}
+use Rattle.settings.specs.Sums.{sums}
+
+-- a setting o held for h
+abbrev pub held : ℕ → List ℕ → Record
+held h o = record { hold = h; outputs = o }
+
+-- what is left, if any
+unfoldable pub rest : ℕ → List ℕ → List Record
+rest zero o = []
+rest (suc h) o = held (suc h) o ∷ []
+
+-- a sum above 65,535 is written as records of 65,535 followed by what is left, if any
+unfoldable pub pieces : ℕ → List ℕ → List Record
+pieces h o = replicate (h / 65535) (held 65535 o) ++ rest (h % 65535) o
+
+-- each sum as records
+unfoldable pub cut : List Record → List Record
+cut [] = []
+cut (s ∷ q) = pieces (s .hold) (s .outputs) ++ cut q
+
+-- settings stand in order of first appearance; a setting's holds are summed
+unfoldable pub joinPlan : List Record → List Record
+joinPlan p = cut (sums p)
+
+-- a plan that is refused by itself changes nothing, and else what is done with it
+abbrev pub afterReading : Outcome → Planned → List ℕ → Planned
+afterReading (Done c) done buf = done
+afterReading (Refused r) done buf = refuses r buf
+
+-- refusals 1, 9, 10, 11, 5; records and total of the plan that is written, no T and no empty slots
+unfoldable pub joining : Edition → ℕ → List ℕ → List ℕ → Planned
+joining E N plan buf =
+    afterReading (checking E N plan) (roomFor (E .width) (E .byte) N 0 0 (joinPlan (planOf (E .width) plan)) buf) buf
