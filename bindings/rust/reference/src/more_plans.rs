@@ -18,7 +18,7 @@ pub fn doubled(n: u64, cells: &[u32], plan: &mut [u8]) -> Outcome {
             rotations(n, (unit - 1) as u16, &mut written);
         }
     }
-    written.lend(longest, plan)
+    written.lend(cells, longest, plan)
 }
 
 /// N settings that together join every pair once: input i to output (i + k) mod N.
@@ -46,7 +46,7 @@ pub fn quick(n: u64, cells: &[u32], plan: &mut [u8]) -> Outcome {
         }
         written.push(1, n, &cover.setting(slot % n));
     }
-    written.lend(longest, plan)
+    written.lend(cells, longest, plan)
 }
 
 /// What the quick cover has left to serve.
