@@ -120,13 +120,22 @@ cv_answer cv_exact(uint64_t n, const uint32_t *cells, size_t cells_len, uint8_t 
 
 /*
  * The doubled plan: few records, at most twice the time. With u = T / N rounded up: the exact plan
- * of the cells divided by u, each hold times u; then, if u is at least 2, the N rotations with hold
- * u - 1. At most 2 * N records, total hold at most 2 * T - 1; empty when T is 0.
+ * of the cells divided by u, each hold times u; then the N rotations (rotation k joins input i to
+ * output (i + k) mod N), each held for the largest remainder, cell modulo u, among its pairs, and
+ * left out when that is 0. At most 2 * N records, total hold at most 2 * T - 1; empty when T is 0.
  * Codes:  1, 2, 3, 5.
  * Writes: the plan's records, at the start of plan; no later byte. The demand is only read.
  * Done:   records, longest, total, empty.
  */
 cv_answer cv_doubled(uint64_t n, const uint32_t *cells, size_t cells_len, uint8_t *plan, size_t plan_len);
+
+/*
+ * The doubled plan by the rule before that, for controllers that expect all N rotations: if u is at
+ * least 2, every rotation is there, with hold u - 1. The same bounds hold. Code 5 counts the records
+ * of this rule.
+ * Codes, writes, done: as cv_doubled.
+ */
+cv_answer cv_doubled_every_rotation(uint64_t n, const uint32_t *cells, size_t cells_len, uint8_t *plan, size_t plan_len);
 
 /*
  * The quick cover: one record of hold 1 for each slot s = 0, 1, ..; inputs s mod N and on around

@@ -10,6 +10,13 @@ import reference as ref
 import tape
 from record_vectors import changed, join, sound
 
+METHODS = [
+    ("exact", ref.exact_list),
+    ("doubled", ref.doubled_list),
+    ("every rotation", ref.doubled_list_every_rotation),
+    ("quick", ref.quick_list),
+]
+
 
 def check_case(name, n, cells, parts):
     title = f"check {name}:"
@@ -38,7 +45,7 @@ def passing():
     rng = random.Random(3)
     for n in (1, 2, 3, 5, 8):
         cells = plans.dense(rng, n, 9)
-        for word, method in (("exact", ref.exact_list), ("doubled", ref.doubled_list), ("quick", ref.quick_list)):
+        for word, method in METHODS:
             yield check_case(f"N = {n}, the {word} plan", n, cells, planned(method, n, cells))
     yield check_case("N = 64, rotations", 64, [3] * 4_096, rotations(64, 3))
     yield check_case("N = 64, more than asked", 64, [3] * 4_096, rotations(64, 3) + rotations(64, 65_535, 9))

@@ -1,5 +1,5 @@
 #!/usr/bin/env python3
-"""The stored vectors of the three planners: demands of every shape, edges, and every refusal.
+"""The stored vectors of the planners: demands of every shape, edges, and every refusal.
 
 python3 makers/plan_vectors.py stdin|stdout
 """
@@ -8,7 +8,12 @@ import random
 import reference as ref
 import tape
 
-PLANNERS = {"x": ("exact", ref.exact_plan), "d": ("doubled", ref.doubled_plan), "q": ("quick", ref.quick_plan)}
+PLANNERS = {
+    "x": ("exact", ref.exact_plan),
+    "d": ("doubled", ref.doubled_plan),
+    "e": ("every rotation", ref.doubled_plan_every_rotation),
+    "q": ("quick", ref.quick_plan),
+}
 LARGEST = bytes([tape.BLANK] * (ref.RECORD * 4_096))  # all the room that the program can lend
 SHORT = 6  # plans of up to so many records are printed
 
@@ -149,6 +154,15 @@ def doubled_demands():
     yield "N = 64 dense", 64, dense(random.Random(3), 64, 1_180)
 
 
+def every_demands():
+    """Some of the doubled plan's demands, of each N the first few: what the rules share is in the first part."""
+    seen = {}
+    for name, n, cells in doubled_demands():
+        seen[n] = seen.get(n, 0) + 1
+        if n < 16 or seen[n] <= 5 or name == "N = 64 dense":
+            yield name, n, cells
+
+
 def scarce():
     """(name, N, cells) of demands that never leave a setting to choose by the lowest output alone."""
     yield "stranded input", 3, [1, 1, 0, 1, 0, 1, 1, 0, 0]
@@ -192,6 +206,14 @@ def refusals(letter):
     yield make("no room is needed, some is lent", 4, [0] * 16, 1, 9)
     yield make("the largest line and too little room", 2, [limit, 0, 0, limit], 0, 67)
     if letter == "d":
+        yield make("room for the first part alone", 4, diagonal(4, 5), 1, 67)
+        yield make("room for the one rotation held", 4, diagonal(4, 5), 2)
+        yield make("no rotation is held, a record too few", 4, [3] * 16, 3, 67)
+        yield make("no rotation is held, room for all", 4, [3] * 16, 4)
+        yield make("2N records, one too few", 4, [2] * 4 + [1] * 4 + [0] * 8, 7, 67)
+        yield make("2N records, room for all", 4, [2] * 4 + [1] * 4 + [0] * 8, 8)
+        yield make("the largest remainder in the last pair", 3, [3, 0, 0, 0, 4, 0, 0, 0, 5], 9)
+    if letter == "e":
         yield make("room for the first part alone", 4, diagonal(4, 5), 1, 67)
         yield make("a rotation too few", 4, diagonal(4, 5), 4, 67)
         yield make("room for all rotations", 4, diagonal(4, 5), 5)
@@ -244,12 +266,12 @@ def wasteful():
     return best
 
 
-DEMANDS = {"x": exact_demands, "d": doubled_demands, "q": quick_demands}
+DEMANDS = {"x": exact_demands, "d": doubled_demands, "e": every_demands, "q": quick_demands}
 
 
 def cases():
     made = []
-    for letter in "xdq":
+    for letter in DEMANDS:
         for k, (name, n, cells) in enumerate(DEMANDS[letter]()):
             made.append(fitting(letter, name, n, cells, spare=k % 2, more=k % 3 * 34))
         made += refusals(letter)

@@ -328,13 +328,35 @@ def exact_list(n, cells):
 # ---- The doubled plan and the quick cover
 
 
+def doubled_unit(n, cells):
+    """u: T / N rounded up."""
+    return -(-longest_line(n, cells) // n)
+
+
+def doubled_first(n, cells, u):
+    """The doubled plan's first part: the exact plan of the quotients, holds times u."""
+    return [(hold * u, outputs) for hold, outputs in exact_list(n, [cell // u for cell in cells])]
+
+
 def doubled_list(n, cells):
-    """The exact plan of the quotients, holds times u; then, if u is at least 2, N rotations of hold u - 1."""
-    longest = longest_line(n, cells)
-    if longest == 0:
+    """The first part; then each rotation held for the largest remainder among its pairs, and left out where that is 0."""
+    u = doubled_unit(n, cells)
+    if u == 0:
         return []
-    u = -(-longest // n)
-    plan = [(hold * u, outputs) for hold, outputs in exact_list(n, [cell // u for cell in cells])]
+    plan = doubled_first(n, cells, u)
+    for k in range(n):
+        outputs = [(i + k) % n for i in range(n)]
+        hold = max(cells[i * n + j] % u for i, j in enumerate(outputs))
+        plan += [(hold, outputs)] if hold else []
+    return plan
+
+
+def doubled_list_every_rotation(n, cells):
+    """The old rule: the first part; then, if u is at least 2, N rotations of hold u - 1."""
+    u = doubled_unit(n, cells)
+    if u == 0:
+        return []
+    plan = doubled_first(n, cells, u)
     if u >= 2:
         plan += [(u - 1, [(i + k) % n for i in range(n)]) for k in range(n)]
     return plan
@@ -373,6 +395,11 @@ def exact_plan(n, cells, buffer):
 def doubled_plan(n, cells, buffer):
     refused = refused_demand(n, cells)
     return (refused, buffer) if refused else planned(n, cells, doubled_list(n, cells), buffer)
+
+
+def doubled_plan_every_rotation(n, cells, buffer):
+    refused = refused_demand(n, cells)
+    return (refused, buffer) if refused else planned(n, cells, doubled_list_every_rotation(n, cells), buffer)
 
 
 def quick_plan(n, cells, buffer):
@@ -457,14 +484,17 @@ def plan_text(plan):
 
 SMALL = [  # no., N, demand, method, plan
     ("P1", 2, [2, 1, 1, 2], exact_list, "2:0 1; 1:1 0"),
-    ("P2", 2, [2, 1, 1, 2], doubled_list, "2:0 1; 1:0 1; 1:1 0"),
+    ("P2", 2, [2, 1, 1, 2], doubled_list, "2:0 1; 1:1 0"),
+    ("P2, every rotation", 2, [2, 1, 1, 2], doubled_list_every_rotation, "2:0 1; 1:0 1; 1:1 0"),
     ("P3", 2, [2, 1, 1, 2], quick_list, "1:0 1; 1:1 0; 1:0 1"),
     ("P4", 2, [3, 0, 1, 0], exact_list, "3:0 1; 1:1 0"),
     ("P5", 2, [3, 0, 1, 0], quick_list, "1:0 -; 1:- 0; 1:0 -; 1:0 -"),
     ("P6", 3, [1, 0, 1, 0, 1, 1, 1, 1, 0], exact_list, "1:0 2 1; 1:2 1 0"),
     ("P7", 3, [1, 0, 1, 0, 1, 1, 1, 1, 0], quick_list, "1:0 1 -; 1:- 2 0; 1:2 - 1"),
-    ("P8", 1, [5], doubled_list, "5:0; 4:0"),
-    ("P9", 4, [5, 0, 0, 0, 0, 5, 0, 0, 0, 0, 5, 0, 0, 0, 0, 5], doubled_list, "4:0 1 2 3; 1:0 1 2 3; 1:1 2 3 0; 1:2 3 0 1; 1:3 0 1 2"),
+    ("P8", 1, [5], doubled_list, "5:0"),
+    ("P8, every rotation", 1, [5], doubled_list_every_rotation, "5:0; 4:0"),
+    ("P9", 4, [5, 0, 0, 0, 0, 5, 0, 0, 0, 0, 5, 0, 0, 0, 0, 5], doubled_list, "4:0 1 2 3; 1:0 1 2 3"),
+    ("P9, every rotation", 4, [5, 0, 0, 0, 0, 5, 0, 0, 0, 0, 5, 0, 0, 0, 0, 5], doubled_list_every_rotation, "4:0 1 2 3; 1:0 1 2 3; 1:1 2 3 0; 1:2 3 0 1; 1:3 0 1 2"),
     ("P10", 1, [0], exact_list, ""),
 ]
 
@@ -500,7 +530,9 @@ def examples():
 def edges():
     room = bytes([170] * 680)
     same("T = 4, N = 4", doubled_list(4, [4, *[0] * 15]), [(4, [0, 1, 2, 3])])
-    same("T = 5, N = 4", [hold for hold, _ in doubled_list(4, [5, *[0] * 15])], [4, 1, 1, 1, 1])
+    same("T = 5, N = 4", doubled_list(4, [5, *[0] * 15]), [(4, [0, 1, 2, 3]), (1, [0, 1, 2, 3])])
+    same("T = 4, N = 4, every rotation", doubled_list_every_rotation(4, [4, *[0] * 15]), [(4, [0, 1, 2, 3])])
+    same("T = 5, N = 4, every rotation", [hold for hold, _ in doubled_list_every_rotation(4, [5, *[0] * 15])], [4, 1, 1, 1, 1])
     same("65,535 passes", exact_plan(1, [65_535], room)[0], Answer(records=1, longest=65_535, total=65_535))
     same("65,536 is code 3", exact_plan(1, [65_536], room), (Answer(3, 0, "input"), room))
     same("a column over", exact_plan(2, [0, 65_535, 0, 1], room)[0], Answer(3, 1, "output"))
@@ -527,19 +559,20 @@ def laws(n, cells):
     same("filled lines", set(inputs_lines(n, filled) + outputs_lines(n, filled)), {longest})
     if n <= 5 and longest:
         same("first setting", first_setting(n, filled), brute_first(n, filled))
-    exact, doubled, quick = exact_list(n, cells), doubled_list(n, cells), quick_list(n, cells)
+    exact, doubled, every, quick = exact_list(n, cells), doubled_list(n, cells), doubled_list_every_rotation(n, cells), quick_list(n, cells)
     same("exact grants the filled demand", grants(n, exact), filled)
     same("exact total", total_hold(exact), longest)
     same("exact empty slots", empty_slots(n, cells, exact), n * longest - asked)
     same("exact records", len(exact) <= min(longest, n * n - 2 * n + 2), True)
-    same("doubled records", len(doubled) <= 2 * n, True)
-    same("doubled total", total_hold(doubled) <= max(0, 2 * longest - 1), True)
-    same("doubled empty slots", empty_slots(n, cells, doubled), n * total_hold(doubled) - asked)
+    for plan in (doubled, every):
+        same("doubled records", len(plan) <= 2 * n, True)
+        same("doubled total", total_hold(plan) <= max(0, 2 * longest - 1), True)
+        same("doubled empty slots", empty_slots(n, cells, plan), n * total_hold(plan) - asked)
     same("quick records", longest <= len(quick) <= max(0, 2 * longest - 1), True)
     same("quick grants", grants(n, quick), cells)
     same("quick empty slots", empty_slots(n, cells, quick), 0)
     same("quick slots", sum(1 for _, outputs in quick for j in outputs if j != IDLE), asked)
-    for method, plan in ((exact_plan, exact), (doubled_plan, doubled), (quick_plan, quick)):
+    for method, plan in ((exact_plan, exact), (doubled_plan, doubled), (doubled_plan_every_rotation, every), (quick_plan, quick)):
         if method is quick_plan and longest > QUICK:
             continue
         room = bytes([170] * (RECORD * len(plan) + 5))

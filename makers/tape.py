@@ -7,7 +7,7 @@ laid. Tapes may be put one after the other, and so may the lines that they give.
 
 | letter | call | first | second | small | laid |
 |---|---|---|---|---|---|
-| x, d, q | exact, doubled, quick | N | whole records of room | bytes of room more | cells |
+| x, d, e, q | exact, doubled, doubled with every rotation, quick | N | whole records of room | bytes of room more | cells |
 | k | check | N | cells, of those laid the first | 0 | cells, then the plan |
 | l | length | N | d | 0 | the plan |
 | r | open, and every step | N | 0 | 0 | the plan |

@@ -12,11 +12,12 @@ use chordvenus as proved;
 use reference as proved;
 
 /// The calls in the order of the header, with what one timed run does.
-pub const CALLS: [(&str, &str); 10] = [
+pub const CALLS: [(&str, &str); 11] = [
     ("wish", "one call for each pair with slots"),
     ("wishes", "a list of the pairs with slots"),
     ("exact", "one plan"),
     ("doubled", "one plan"),
+    ("doubled_every_rotation", "one plan"),
     ("quick", "one plan, cells scaled so that T is at most 1,024"),
     ("check", "the exact plan against its demand"),
     ("length", "the exact plan"),
@@ -60,6 +61,7 @@ pub fn pair<'a>(call: &str, demand: &'a Demand) -> Pair<'a> {
     match call {
         "exact" => planner!(exact, n, cells.clone()),
         "doubled" => planner!(doubled, n, cells.clone()),
+        "doubled_every_rotation" => planner!(doubled_every_rotation, n, cells.clone()),
         "quick" => planner!(quick, n, demand.quick_cells()),
         "check" => both!(library => move || run(library::check(n, black_box(cells), plan))),
         "length" => both!(library => move || run(library::length(n, black_box(plan), 5))),

@@ -48,9 +48,14 @@ pub fn exact(n: u64, cells: &[u32], plan: &mut [u8]) -> Answer {
     unsafe { sys::cv_exact(n, cells.as_ptr(), cells.len(), plan.as_mut_ptr(), plan.len()) }
 }
 
-/// The doubled plan of a demand.
+/// The doubled plan of a demand: each rotation is held for the largest remainder among its pairs.
 pub fn doubled(n: u64, cells: &[u32], plan: &mut [u8]) -> Answer {
     unsafe { sys::cv_doubled(n, cells.as_ptr(), cells.len(), plan.as_mut_ptr(), plan.len()) }
+}
+
+/// The doubled plan of a demand by the rule that older controllers expect: every rotation is there.
+pub fn doubled_every_rotation(n: u64, cells: &[u32], plan: &mut [u8]) -> Answer {
+    unsafe { sys::cv_doubled_every_rotation(n, cells.as_ptr(), cells.len(), plan.as_mut_ptr(), plan.len()) }
 }
 
 /// The quick cover of a demand.

@@ -29,6 +29,13 @@ extern "C" {
     pub fn cv_wishes(n: u64, list: *const u8, list_len: usize, cells: *mut u32, cells_len: usize) -> Answer;
     pub fn cv_exact(n: u64, cells: *const u32, cells_len: usize, plan: *mut u8, plan_len: usize) -> Answer;
     pub fn cv_doubled(n: u64, cells: *const u32, cells_len: usize, plan: *mut u8, plan_len: usize) -> Answer;
+    pub fn cv_doubled_every_rotation(
+        n: u64,
+        cells: *const u32,
+        cells_len: usize,
+        plan: *mut u8,
+        plan_len: usize,
+    ) -> Answer;
     pub fn cv_quick(n: u64, cells: *const u32, cells_len: usize, plan: *mut u8, plan_len: usize) -> Answer;
     pub fn cv_check(n: u64, cells: *const u32, cells_len: usize, plan: *const u8, plan_len: usize) -> Answer;
     pub fn cv_length(n: u64, plan: *const u8, plan_len: usize, d: u16) -> Answer;

@@ -159,6 +159,17 @@ fn doubled() {
 }
 
 #[test]
+fn doubled_every_rotation() {
+    compare_planner(
+        13,
+        chordvenus::doubled_every_rotation,
+        reference::doubled_every_rotation,
+        MOST_LINE as usize,
+        &[0, 1, 2, 3, 5],
+    );
+}
+
+#[test]
 fn quick() {
     compare_planner(3, chordvenus::quick, reference::quick, MOST_QUICK as usize, &[0, 1, 2, 3, 4, 5]);
 }
@@ -171,7 +182,12 @@ fn check() {
     for case in 0..CASES {
         let line = rng.pick(&[3, 17, 300, MOST_LINE as usize]);
         let (n, mut cells) = demand(&mut rng, line);
-        let planner = rng.pick(&[reference::exact as Planner, reference::doubled, reference::quick]);
+        let planner = rng.pick(&[
+            reference::exact as Planner,
+            reference::doubled,
+            reference::doubled_every_rotation,
+            reference::quick,
+        ]);
         let small = n.clamp(1, MOST_PORTS as u64) as usize;
         let plan = match planner(n, &cells, &mut ample) {
             _ if rng.one_in(200) => longest_plan(&mut rng, small),
@@ -377,6 +393,7 @@ fn a_length_of_0_may_come_with_a_null_pointer() {
     unsafe {
         assert_eq!(sys::cv_exact(0, null(), 0, null_mut(), 0), code(1, 0));
         assert_eq!(sys::cv_doubled(2, null(), 0, plan.as_mut_ptr(), 68), code(2, 4));
+        assert_eq!(sys::cv_doubled_every_rotation(1, [5].as_ptr(), 1, plan.as_mut_ptr(), 68), code(5, 2));
         assert_eq!(sys::cv_quick(1, [1].as_ptr(), 1, null_mut(), 0), code(5, 1));
         assert_eq!(sys::cv_exact(1, [0].as_ptr(), 1, null_mut(), 0), code(0, 0));
         assert_eq!(sys::cv_check(1, [1].as_ptr(), 1, null(), 0), code(13, 0));

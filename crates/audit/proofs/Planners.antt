@@ -1,4 +1,4 @@
--- The plans of the three rules pass the checker for their demand: their records are settings below N with all later outputs idle, they are few
+-- The planners' plans pass the checker for their demand: their records are settings below N with all later outputs idle, they are few
 -- enough, and they cover.
 use mathlib.Core.Path.{_≡_, refl, sym, ap, _∙_, subst}
 use mathlib.Core.Logic.{_⊎_, inl, inr}
@@ -23,13 +23,14 @@ use Rattle.rules.specs.Search.{put}
 use Rattle.rules.specs.Peel as rule
 use Rattle.rules.specs.Peel.{Peels, peel}
 use Rattle.rules.specs.Exact.{tab, exactPlan}
-use Rattle.rules.specs.Doubled.{unit, divide, stretch, held, turns, rotate, flat, doubledBy, doubledPlan, Joins}
+use Rattle.rules.specs.Doubled.{unit, divide, stretch, held, turns, rotate, flat, tight, doubledBy, doubledPlan, tightPlan, Joins, Doubled}
 use Rattle.rules.specs.Quick.{lowest, may, seat, visits, slot, slots, quickFrom, quickPlan}
 use Rattle.rules.proofs.Peels.{length-tab, output-tab}
 use Rattle.rules.proofs.Ports.{put-same, put-other}
 use Rattle.rules.proofs.Exact.{exact-peels, exact-covers, exact-records}
 use Rattle.rules.proofs.Doubled.{length-divide, unit-above}
 use Rattle.rules.proofs.Rotate.{rotate-joins, rotate-idle, doubled}
+use Rattle.rules.proofs.Tight.{tight-doubled}
 use Rattle.rules.proofs.Slot.{Low, lowest-low, slot-maximal, slot-idle}
 use Rattle.rules.proofs.Slot as low
 use Rattle.rules.proofs.Quick.{quick-covers, quick-at-most}
@@ -121,7 +122,7 @@ module _ (W N : ℕ) where
         go (yes e) rest = rw (eq-eqb (sum N (row N M)) 0 e) none
         go (no ne) rest = rw (ne-eqb (sum N (row N M)) 0 ne) (more here rest)
 
-    -- ---- the three rules
+    -- ---- the plans
 
     module _ (pos : 0 < N) where
       pub exact-sound : (d : List ℕ) → N * N ≤ length d → Each (Sound W N) (exactPlan W N d)
@@ -154,9 +155,17 @@ module _ (W N : ℕ) where
                   by (yes z) = absurd (omega (arith, unit-above N T pos, ap (λ (x : ℕ). x * N) z))
                   by (no z) = omega arith
 
+      -- rotations, by any rule
+      rotations-sound : (H : ℕ → ℕ → ℕ) (d : List ℕ) → N * N ≤ length d → Each (Sound W N) (doubledBy W N (rotate N) H d)
+      rotations-sound = doubled-by-sound (rotate N) (rotate-joins N pos) (rotate-idle N)
+
       pub doubled-sound : (d : List ℕ) → N * N ≤ length d → Each (Sound W N) (doubledPlan W N d)
       unfolding doubledPlan
-      doubled-sound = doubled-by-sound (rotate N) (rotate-joins N pos) (rotate-idle N) flat
+      doubled-sound = rotations-sound flat
+
+      pub tight-sound : (d : List ℕ) → N * N ≤ length d → Each (Sound W N) (tightPlan W N d)
+      unfolding tightPlan
+      tight-sound d = rotations-sound (tight N (rotate N) d) d
 
       pub quick-sound : N ≤ 255 → (d : List ℕ) → Each (Sound W N) (quickPlan W N d)
       unfolding quickPlan quickFrom
@@ -196,10 +205,15 @@ module _ (E : Edition) (bounds : Bounded E) (roomy : Roomy E) (N T : ℕ) (d : L
   exact-passes = pass (omega (arith, square, roomy, exact-records (E .width) N (asked .some) top d enough))
       (exact-sound (E .width) N top (asked .some) d enough) (exact-covers (E .width) N (asked .some) top d enough)
 
+  -- any plan of sound records that keeps the doubled plan's promises, whatever the rule
+  pub keeps-passes : {p : List Record} → Doubled N d p → Each (Sound (E .width) N) p → PassesAs E N T d p
+  keeps-passes k s = pass (omega (arith, roomy, k .few, top, bounds .width)) s (k .covers)
+
   pub doubled-passes : PassesAs E N T d (doubledPlan (E .width) N d)
-  doubled-passes =
-      let p = doubled (E .width) N (asked .some) top d enough in
-      pass (omega (arith, roomy, p .few, top, bounds .width)) (doubled-sound (E .width) N top (asked .some) d enough) (p .covers)
+  doubled-passes = keeps-passes (doubled (E .width) N (asked .some) top d enough) (doubled-sound (E .width) N top (asked .some) d enough)
+
+  pub tight-passes : PassesAs E N T d (tightPlan (E .width) N d)
+  tight-passes = keeps-passes (tight-doubled (E .width) N (asked .some) top d enough) (tight-sound (E .width) N top (asked .some) d enough)
 
   pub quick-passes : T ≤ 1024 → PassesAs E N T d (quickPlan (E .width) N d)
   quick-passes l =

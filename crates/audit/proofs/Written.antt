@@ -24,10 +24,10 @@ use Rattle.plans.specs.Read.{Bounded}
 use Rattle.planner.specs.Planned.{Planned, refuses, writes, planned, plannedUpTo}
 use Rattle.planner.proofs.Planned.{planned-faulty, planned-short, planned-done, limited-faulty, limited-long, limited-short, limited-done}
 use Rattle.rules.specs.Exact.{exactPlan}
-use Rattle.rules.specs.Doubled.{doubledPlan}
+use Rattle.rules.specs.Doubled.{doubledPlan, tightPlan}
 use Rattle.rules.specs.Quick.{quickPlan}
 use Rattle.audit.specs.Check.{checkPlan}
-use Rattle.audit.proofs.Planners.{Roomy, PassesAs, exact-passes, doubled-passes, quick-passes}
+use Rattle.audit.proofs.Planners.{Roomy, PassesAs, exact-passes, doubled-passes, tight-passes, quick-passes}
 
 -- a planner refuses, or writes the plan p of a demand whose longest line T is fine and as Q says
 data Wrote (W e N : ℕ) (d : List ℕ) (p : List Record) (buf : List ℕ) (Q : ℕ → Type 0) : Planned → Type 0 where
@@ -89,7 +89,7 @@ module _ (E : Edition) (N : ℕ) (d buf : List ℕ) where
       size = bytes-size (E .byte) N (E .width) (each-width (E .width) N (pass T f q .sound))
           ∙ ap (λ (x : Counts). x .records * (E .width + 4)) (sym (same (e ∙ wrote-counts)))
 
--- ---- the three planners
+-- ---- the planners
 
 module _ (E : Edition) (bounds : Bounded E) (roomy : Roomy E) (square : E .ports ≡ E .width) (N : ℕ) (d buf : List ℕ) where
   checked : {T : ℕ} → Fine T ≡ checkDemand (E .width) N d → Fine T ≡ checkDemand (E .ports) N d
@@ -100,6 +100,9 @@ module _ (E : Edition) (bounds : Bounded E) (roomy : Roomy E) (square : E .ports
 
   pub doubled-rechecks : Rechecks E N d (planned (E .width) (E .byte) N d (doubledPlan (E .width) N d) buf)
   doubled-rechecks = rechecks E N d buf (λ T f _. doubled-passes E bounds roomy N T d (checked f)) (planned-wrote (E .width) (E .byte) N d (doubledPlan (E .width) N d) buf)
+
+  pub tight-rechecks : Rechecks E N d (planned (E .width) (E .byte) N d (tightPlan (E .width) N d) buf)
+  tight-rechecks = rechecks E N d buf (λ T f _. tight-passes E bounds roomy N T d (checked f)) (planned-wrote (E .width) (E .byte) N d (tightPlan (E .width) N d) buf)
 
   pub quick-rechecks : Rechecks E N d (plannedUpTo 1024 (E .width) (E .byte) N d (quickPlan (E .width) N d) buf)
   quick-rechecks = rechecks E N d buf (λ T f l. quick-passes E bounds roomy N T d (checked f) l) (limited-wrote (E .width) (E .byte) N d (quickPlan (E .width) N d) buf 1024)

@@ -8,7 +8,7 @@ ghost use lib.ListN.{length};
 ghost use Rattle.wish.specs.Wish.{wishBits};
 ghost use Rattle.wishes.specs.Wishes.{outcome, cellsAfter};
 ghost use Rattle.rules.specs.Exact.{exactPlan};
-ghost use Rattle.rules.specs.Doubled.{doubledPlan};
+ghost use Rattle.rules.specs.Doubled.{doubledPlan, tightPlan};
 ghost use Rattle.rules.specs.Quick.{quickPlan};
 ghost use Rattle.planner.specs.Planned.{planned, plannedUpTo};
 ghost use Rattle.records.specs.Write.{written};
@@ -76,9 +76,17 @@ pub extern "C" fn cv_exact(n: usize, cells: &[u32], plan: &mut [u8]) -> CvAnswer
 // The doubled plan.
 #[no_mangle]
 pub extern "C" fn cv_doubled(n: usize, cells: &[u32], plan: &mut [u8]) -> CvAnswer
-    ensures { λ r. ⌜ (r ≡ flat (planned 64 0 n (now (cells .entry)) (doubledPlan 64 n (now (cells .entry))) (now (plan .entry)) .outcome)) × (now (plan .exit) ≡ planned 64 0 n (now (cells .entry)) (doubledPlan 64 n (now (cells .entry))) (now (plan .entry)) .bytes) ⌝ }
+    ensures { λ r. ⌜ (r ≡ flat (planned 64 0 n (now (cells .entry)) (tightPlan 64 n (now (cells .entry))) (now (plan .entry)) .outcome)) × (now (plan .exit) ≡ planned 64 0 n (now (cells .entry)) (tightPlan 64 n (now (cells .entry))) (now (plan .entry)) .bytes) ⌝ }
 {
     flatten(doubled::doubled_plan(n, cells, plan))
+}
+
+// The doubled plan by the rule of every rotation.
+#[no_mangle]
+pub extern "C" fn cv_doubled_every_rotation(n: usize, cells: &[u32], plan: &mut [u8]) -> CvAnswer
+    ensures { λ r. ⌜ (r ≡ flat (planned 64 0 n (now (cells .entry)) (doubledPlan 64 n (now (cells .entry))) (now (plan .entry)) .outcome)) × (now (plan .exit) ≡ planned 64 0 n (now (cells .entry)) (doubledPlan 64 n (now (cells .entry))) (now (plan .entry)) .bytes) ⌝ }
+{
+    flatten(doubled::doubled_plan_every_rotation(n, cells, plan))
 }
 
 // The quick cover.

@@ -14,19 +14,20 @@ use Rattle.demand.specs.Check.{checkDemand}
 use Rattle.demand.specs.declared.Checked.the-variants.{Fine}
 use Rattle.demand.proofs.Check.{fine-asked}
 use Rattle.rules.specs.Exact.{exactPlan}
-use Rattle.rules.specs.Doubled.{doubledPlan}
-use Rattle.rules.proofs.Rotate.{doubled-empty}
+use Rattle.rules.specs.Doubled.{rotate}
+use Rattle.rules.proofs.Tight.{by-empty}
 use Rattle.records.specs.Bytes.{whole, bytes, laid}
 use Rattle.records.proofs.Laid.{laid-none}
 use Rattle.records.proofs.Bytes.{bytes-none}
 use Rattle.planner.specs.Planned.{Planned, planned}
 use Rattle.planner.proofs.Planned.{planned-short, planned-done, written-outcome, written-bytes}
-use Rattle.rotations.specs.Second.{Turning, Measures}
+use Rattle.rotations.specs.declared.Rule.{Rule}
+use Rattle.rotations.specs.Second.{holdsBy, doubledRule, Measures}
 use Rattle.peel.specs.Standing.{Cells}
 use Rattle.exact.specs.Laying.{Place}
 use Rattle.doubled.specs.Parts.{parts, Divided, Needs}
 use Rattle.doubled.proofs.Both.{parts-records, parts-total}
-use Rattle.doubled.proofs.Divided.{asked, turning, doubled-parts, within, quotient-cells}
+use Rattle.doubled.proofs.Divided.{asked, within, quotient-cells}
 
 -- a plan of r records and total t that is laid is the answer
 laid-answer : (W e N T r t : ℕ) (d : List ℕ) (p : List Record) (plan plan' : List ℕ) → checkDemand W N d ≡ Fine T → length p ≤ whole W plan
@@ -37,47 +38,47 @@ laid-answer W e N T r t d p plan plan' fine fits a b c =
     (written-outcome e N T r t p plan a b ∙ ap (λ (x : Planned). x .outcome) s, c ∙ written-bytes e N T p plan ∙ ap (λ (x : Planned). x .bytes) s)
 
 -- T is 0
-pub empty-answer : (W e N : ℕ) (d plan : List ℕ) → checkDemand W N d ≡ Fine 0
-    → (Done (planCounts 0 0 0) ≡ planned W e N d (doubledPlan W N d) plan .outcome) × (plan ≡ planned W e N d (doubledPlan W N d) plan .bytes)
-empty-answer W e N d plan fine = laid-answer W e N 0 0 0 d (doubledPlan W N d) plan plan fine (omega (arith, ap length none)) (sym (ap length none)) (unfold total in sym (ap total none))
+pub empty-answer : (r : Rule) (W e N : ℕ) (d plan : List ℕ) → checkDemand W N d ≡ Fine 0
+    → (Done (planCounts 0 0 0) ≡ planned W e N d (doubledRule r W N d) plan .outcome) × (plan ≡ planned W e N d (doubledRule r W N d) plan .bytes)
+empty-answer r W e N d plan fine = laid-answer W e N 0 0 0 d (doubledRule r W N d) plan plan fine (omega (arith, ap length none)) (sym (ap length none)) (unfold total in sym (ap total none))
     (sym (laid-none plan 0) ∙ ap (laid plan 0) (sym (ap (bytes e N) none ∙ bytes-none e N)))
   where
-    none : doubledPlan W N d ≡ []
-    none = doubled-empty W N d (sym (fine-asked W N 0 d fine .longest-is))
+    none : doubledRule r W N d ≡ []
+    none = by-empty W N (rotate N) (holdsBy r N d) d (sym (fine-asked W N 0 d fine .longest-is))
 
-module _ (W N T u : ℕ) (d q : List ℕ) (v : Divided W N T u d q) (e : ℕ) (plan : List ℕ) (turns sum : ℕ) (m : Measures N u turns sum) where
-  records : length (doubledPlan W N d) ≡ length (exactPlan W N q) + turns
-  records = omega (arith, ap length (doubled-parts W N T u d q v), parts-records W N u q, m .count W)
+module _ (W N T u : ℕ) (d q H : List ℕ) (v : Divided W N T u d q) (e : ℕ) (plan : List ℕ) (turns sum : ℕ) (m : Measures N H turns sum) where
+  records : length (parts W N u q H) ≡ length (exactPlan W N q) + turns
+  records = omega (arith, parts-records W N u q H, m .count W)
 
   module _ (need : ℕ) (s : Needs (whole W plan) need (length (exactPlan W N q) + turns)) where
     -- code 5, with the records needed
     pub short-answer : whole W plan < need
-        → (Refused (Room need) ≡ planned W e N d (doubledPlan W N d) plan .outcome) × (plan ≡ planned W e N d (doubledPlan W N d) plan .bytes)
+        → (Refused (Room need) ≡ planned W e N d (parts W N u q H) plan .outcome) × (plan ≡ planned W e N d (parts W N u q H) plan .bytes)
     short-answer l =
-        let n : need ≡ length (doubledPlan W N d) = omega (arith, s .short l, records) in
-        let r = sym (planned-short W e N d (doubledPlan W N d) plan T (v .fine) (omega (arith, n))) in
+        let n : need ≡ length (parts W N u q H) = omega (arith, s .short l, records) in
+        let r = sym (planned-short W e N d (parts W N u q H) plan T (v .fine) (omega (arith, n))) in
         (ap (λ (k : ℕ). Refused (Room k)) n ∙ ap (λ (x : Planned). x .outcome) r, ap (λ (x : Planned). x .bytes) r)
 
     -- there is room, and the quotients are as they were
     module _ (l : need ≤ whole W plan) (S : ℕ) (longest-is : S ≡ longest N (cell N q)) (q' : List ℕ) (same : q' ≡ q) where
-      fits : length (doubledPlan W N d) ≤ whole W plan
+      fits : length (parts W N u q H) ≤ whole W plan
       fits = omega (arith, s .fits l, records)
 
-      pub ready : Cells N S q' × Turning N u × Place N S u W 0 (parts W N u q') plan
-      ready = rw same (quotient-cells W N T u d q v S longest-is, turning W N T u d q v, place)
+      pub ready : Cells N S q' × Place N S u W 0 (parts W N u q' H) plan
+      ready = rw same (quotient-cells W N T u d q v S longest-is, place)
         where
-          place : Place N S u W 0 (parts W N u q) plan
+          place : Place N S u W 0 (parts W N u q H) plan
           place = record {
             wide = asked W N T u d q v .few;
             narrow = v .narrow;
             fits = omega (arith, within W N T u d q v S longest-is, asked W N T u d q v .small);
-            room = omega (arith, div-mul-le-self (length plan) (W + 4), mul-le-mul-right (W + 4) fits, ap (λ (p : List Record). length p * (W + 4)) (doubled-parts W N T u d q v));
+            room = omega (arith, div-mul-le-self (length plan) (W + 4), mul-le-mul-right (W + 4) fits);
           }
 
       -- both parts are laid
-      pub both-answer : (r : ℕ) (plan' : List ℕ) → r ≡ length (exactPlan W N q') → plan' ≡ laid plan 0 (bytes e N (parts W N u q'))
-          → (Done (planCounts (r + turns) T (S * u + sum)) ≡ planned W e N d (doubledPlan W N d) plan .outcome) × (plan' ≡ planned W e N d (doubledPlan W N d) plan .bytes)
-      both-answer r plan' count put = laid-answer W e N T (r + turns) (S * u + sum) d (doubledPlan W N d) plan plan' (v .fine) fits
+      pub both-answer : (r : ℕ) (plan' : List ℕ) → r ≡ length (exactPlan W N q') → plan' ≡ laid plan 0 (bytes e N (parts W N u q' H))
+          → (Done (planCounts (r + turns) T (S * u + sum)) ≡ planned W e N d (parts W N u q H) plan .outcome) × (plan' ≡ planned W e N d (parts W N u q H) plan .bytes)
+      both-answer r plan' count put = laid-answer W e N T (r + turns) (S * u + sum) d (parts W N u q H) plan plan' (v .fine) fits
           (omega (arith, count ∙ ap (λ (x : List ℕ). length (exactPlan W N x)) same, records))
-          (omega (arith, ap total (doubled-parts W N T u d q v), parts-total W N S u q (quotient-cells W N T u d q v S longest-is) (asked W N T u d q v .few), m .held W))
-          (put ∙ ap (λ (x : List ℕ). laid plan 0 (bytes e N (parts W N u x))) same ∙ ap (λ (p : List Record). laid plan 0 (bytes e N p)) (sym (doubled-parts W N T u d q v)))
+          (omega (arith, parts-total W N S u q H (quotient-cells W N T u d q v S longest-is) (asked W N T u d q v .few), m .held W))
+          (put ∙ ap (λ (x : List ℕ). laid plan 0 (bytes e N (parts W N u x H))) same)

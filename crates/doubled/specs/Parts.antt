@@ -9,9 +9,9 @@ use Rattle.rules.specs.Exact.{exactPlan}
 use Rattle.rules.specs.Doubled.{unit, divide, stretch}
 use Rattle.rotations.specs.Second.{rotations}
 
--- first the exact plan of the quotients q, each hold multiplied by u; then the rotations
-abbrev pub parts : ℕ → ℕ → ℕ → List ℕ → List Record
-parts W N u q = map (stretch u) (exactPlan W N q) ++ rotations W N u
+-- first the exact plan of the quotients q, each hold multiplied by u; then the rotations, held for H
+abbrev pub parts : ℕ → ℕ → ℕ → List ℕ → List ℕ → List Record
+parts W N u q H = map (stretch u) (exactPlan W N q) ++ rotations W N H
 
 -- a demand that asks for something and that no check refuses, its u, and its cells divided by u
 pub record Divided (W N T u : ℕ) (d q : List ℕ) : Type 0 where

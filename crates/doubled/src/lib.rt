@@ -1,13 +1,15 @@
-// The doubled planner: the exact plan of the cells divided by u, each hold then multiplied by u, and the rotations for what is left over.
-// It promises the whole answer and every byte of the lent plan, for any N and any cells: the refusals in document 01's order, all known
-// before the first byte is written, and else the plan. The lent demand is only read. The settings of the first part are `exact`'s, the
-// rotations are `rotations`', and what a demand is refused for is `demand`'s: this crate divides, counts what both parts need, and adds up.
+// The doubled planner: the exact plan of the cells divided by u, each hold then multiplied by u, and the rotations for what is left over,
+// held by the tight rule or, for callers that ask for it by name, every one for u - 1. It promises the whole answer and every byte of the
+// lent plan, for any N and any cells: the refusals in document 01's order, all known before the first byte is written, and else the plan.
+// The lent demand is only read. The settings of the first part are `exact`'s, the rotations and their rules are `rotations`', and what a
+// demand is refused for is `demand`'s: this crate divides, counts what both parts need, and adds up.
 use demand::Checked;
 use demand::check_demand;
 use demand::longest_line;
 use records::EDITION;
 use records::HEAD;
 use records::OUTPUTS;
+use rotations::Rule;
 use switch::Counts;
 use switch::Outcome;
 use switch::PORTS;
@@ -18,43 +20,70 @@ ghost use lib.ListN.{length};
 ghost use Rattle.demand.specs.Check.{checkDemand};
 ghost use Rattle.demand.specs.declared.Checked.the-variants.{Fine};
 ghost use Rattle.rules.specs.Exact.{exactPlan};
-ghost use Rattle.rules.specs.Doubled.{unit, divide, doubledPlan};
+ghost use Rattle.rules.specs.Doubled.{unit, divide, doubledPlan, tightPlan};
 ghost use Rattle.planner.specs.Planned.{planned};
 ghost use Rattle.records.specs.Bytes.{bytes, laid};
 ghost use Rattle.peel.specs.Standing.{Cells};
 ghost use Rattle.exact.specs.Laying.{Place};
-ghost use Rattle.rotations.specs.Second.{Turning};
+ghost use Rattle.rotations.specs.Second.{doubledRule, Turning};
 ghost use Rattle.doubled.specs.Parts.{parts, Divided, Needs};
 
 // The cells of the largest switch of this edition.
 const CELLS: usize = 4096;
 
-// The doubled plan of a demand, written at the start of a lent plan.
+// The doubled plan of a demand, written at the start of a lent plan. Each rotation is held for the largest remainder among its pairs.
 pub fn doubled_plan(n: usize, cells: &[u32], plan: &mut [u8]) -> Outcome
+    ensures { λ r. ⌜ (r ≡ planned 64 0 n (now (cells .entry)) (tightPlan 64 n (now (cells .entry))) (now (plan .entry)) .outcome) × (now (plan .exit) ≡ planned 64 0 n (now (cells .entry)) (tightPlan 64 n (now (cells .entry))) (now (plan .entry)) .bytes) ⌝ }
+{
+    plan_by(Rule::Tight, n, cells, plan)
+}
+
+// The doubled plan by the old rule: if u is at least 2, every rotation is there, held for u - 1.
+pub fn doubled_plan_every_rotation(n: usize, cells: &[u32], plan: &mut [u8]) -> Outcome
     ensures { λ r. ⌜ (r ≡ planned 64 0 n (now (cells .entry)) (doubledPlan 64 n (now (cells .entry))) (now (plan .entry)) .outcome) × (now (plan .exit) ≡ planned 64 0 n (now (cells .entry)) (doubledPlan 64 n (now (cells .entry))) (now (plan .entry)) .bytes) ⌝ }
+{
+    plan_by(Rule::Every, n, cells, plan)
+}
+
+// The doubled plan by either rule.
+fn plan_by(rule: Rule, n: usize, cells: &[u32], plan: &mut [u8]) -> Outcome
+    ensures { λ r. ⌜ (r ≡ planned 64 0 n (now (cells .entry)) (doubledRule rule 64 n (now (cells .entry))) (now (plan .entry)) .outcome) × (now (plan .exit) ≡ planned 64 0 n (now (cells .entry)) (doubledRule rule 64 n (now (cells .entry))) (now (plan .entry)) .bytes) ⌝ }
 {
     match check_demand(n, PORTS, cells) {
         Checked::Faulty(r) => Outcome::Refused(r),
         Checked::Fine(longest) => {
             let mut work = [0u32; CELLS];
+            let mut holds = [0u16; PORTS];
             let size = cells.len();
-            plan_fine(n, longest, cells, &mut work[..size], OUTPUTS, EDITION, plan)
+            plan_fine(
+                rule,
+                n,
+                longest,
+                cells,
+                &mut work[..size],
+                &mut holds[..n],
+                OUTPUTS,
+                EDITION,
+                plan,
+            )
         }
     }
 }
 
 // The same for a demand that nothing but the room can refuse. If T is 0, the plan is empty, and there is no u to divide by.
 fn plan_fine(
+    rule: Rule,
     n: usize,
     longest: u64,
     cells: &[u32],
     work: &mut [u32],
+    holds: &mut [u16],
     width: usize,
     edition: u8,
     plan: &mut [u8],
 ) -> Outcome
-    requires { ⌜ (checkDemand width n (now cells) ≡ Fine longest) × (width ≤ 128) × (length (now work) ≡ length (now cells)) ⌝ }
-    ensures { λ r. ⌜ (r ≡ planned width edition n (now (cells .entry)) (doubledPlan width n (now (cells .entry))) (now (plan .entry)) .outcome) × (now (plan .exit) ≡ planned width edition n (now (cells .entry)) (doubledPlan width n (now (cells .entry))) (now (plan .entry)) .bytes) ⌝ }
+    requires { ⌜ (checkDemand width n (now cells) ≡ Fine longest) × (width ≤ 128) × (length (now work) ≡ length (now cells)) × (length (now holds) ≡ n) ⌝ }
+    ensures { λ r. ⌜ (r ≡ planned width edition n (now (cells .entry)) (doubledRule rule width n (now (cells .entry))) (now (plan .entry)) .outcome) × (now (plan .exit) ≡ planned width edition n (now (cells .entry)) (doubledRule rule width n (now (cells .entry))) (now (plan .entry)) .bytes) ⌝ }
 {
     if longest == 0 {
         return Outcome::Done(Counts {
@@ -66,7 +95,8 @@ fn plan_fine(
     }
     let unit = unit_of(n, longest);
     quotients(cells, work, unit);
-    plan_parts(n, longest, unit, cells, work, width, edition, plan)
+    rotations::fill_holds(rule, n, cells, unit, holds);
+    plan_parts(n, longest, unit, cells, work, holds, width, edition, plan)
 }
 
 // u is T / N rounded up.
@@ -96,29 +126,30 @@ fn quotient(cell: u32, unit: u32) -> u32
     cell / unit
 }
 
-// The same for quotients that are made: both parts, once it is known that there is room for both.
+// The plan of quotients and holds that are made: both parts, once it is known that there is room for both.
 fn plan_parts(
     n: usize,
     longest: u64,
     unit: u32,
     cells: &[u32],
     work: &mut [u32],
+    holds: &[u16],
     width: usize,
     edition: u8,
     plan: &mut [u8],
 ) -> Outcome
-    requires { ⌜ Divided width n longest unit (now cells) (now work) ⌝ }
-    ensures { λ r. ⌜ (r ≡ planned width edition n (now (cells .entry)) (doubledPlan width n (now (cells .entry))) (now (plan .entry)) .outcome) × (now (plan .exit) ≡ planned width edition n (now (cells .entry)) (doubledPlan width n (now (cells .entry))) (now (plan .entry)) .bytes) ⌝ }
+    requires { ⌜ Divided width n longest unit (now cells) (now work) × Turning n (now holds) ⌝ }
+    ensures { λ r. ⌜ (r ≡ planned width edition n (now (cells .entry)) (parts width n unit (now (work .entry)) (now (holds .entry))) (now (plan .entry)) .outcome) × (now (plan .exit) ≡ planned width edition n (now (cells .entry)) (parts width n unit (now (work .entry)) (now (holds .entry))) (now (plan .entry)) .bytes) ⌝ }
 {
     let first = longest_line(work, n);
-    let second = rotations::measure(n, unit);
+    let second = rotations::measure(n, holds);
     let turns = second.records;
     let room = plan.len() / (width + HEAD);
     let need = needed(cells, work, n, unit, first, turns, room);
     if room < need {
         return Outcome::Refused(Refusal::Room(need));
     }
-    let records = lay_parts(work, n, first, unit, width, edition, plan);
+    let records = lay_parts(work, n, first, unit, holds, width, edition, plan);
     Outcome::Done(Counts {
         records: records + turns,
         longest: longest,
@@ -156,14 +187,15 @@ fn lay_parts(
     n: usize,
     first: u64,
     unit: u32,
+    holds: &[u16],
     width: usize,
     edition: u8,
     plan: &mut [u8],
 ) -> usize
-    requires { ⌜ Cells n first (now work) × Turning n unit × Place n first unit width 0 (parts width n unit (now work)) (now plan) ⌝ }
-    ensures { λ r. ⌜ (r ≡ length (exactPlan width n (now (work .entry)))) × (now (plan .exit) ≡ laid (now (plan .entry)) 0 (bytes edition n (parts width n unit (now (work .entry))))) ⌝ }
+    requires { ⌜ Cells n first (now work) × Turning n (now holds) × Place n first unit width 0 (parts width n unit (now work) (now holds)) (now plan) ⌝ }
+    ensures { λ r. ⌜ (r ≡ length (exactPlan width n (now (work .entry)))) × (now (plan .exit) ≡ laid (now (plan .entry)) 0 (bytes edition n (parts width n unit (now (work .entry)) (now (holds .entry))))) ⌝ }
 {
     let records = exact::lay(work, n, first, unit, width, edition, plan, 0);
-    rotations::lay(n, unit, width, edition, plan, records * (width + HEAD));
+    rotations::lay(n, holds, width, edition, plan, records * (width + HEAD));
     records
 }

@@ -8,7 +8,7 @@ use native.Mathlib.Numerals.{add-one}
 use lib.ListN.{length, getD, set, take, length-append}
 use Rattle.switch.specs.Plan.{Record, total}
 use Rattle.rules.specs.Exact.{tab}
-use Rattle.rules.specs.Doubled.{flat, held, turns}
+use Rattle.rules.specs.Doubled.{held, turns}
 use Rattle.rules.proofs.Peels.{length-tab, getD-tab}
 use Rattle.rules.proofs.Doubled.{total-append, length-held, total-held}
 use Rattle.records.specs.Bytes.{encode, bytes, laid, Each, OfWidth}
@@ -53,11 +53,14 @@ module _ (W : ℕ) (o : ℕ → ℕ) (d : List ℕ) (size : length d ≡ W) wher
   pub tab-whole : (p : List ℕ) (i : ℕ) → W ≤ i → p ≡ laid d 0 (take i (tab W 0 o)) → p ≡ tab W 0 o
   tab-whole p i l q = copy-whole d (tab W 0 o) p i (length-tab W 0 o ∙ sym size) (omega (arith, length-tab W 0 o)) q
 
--- ---- holds that fit two bytes
+-- ---- the same holds make the same settings
 
-pub flat-small : (u k : ℕ) → u ≤ 65536 → flat u k ≤ 65535
-unfolding flat
-flat-small u k l = omega arith
+pub turns-same : (W : ℕ) (τ : ℕ → ℕ → ℕ) (H G : ℕ → ℕ) (n k : ℕ) → ((c : ℕ) → k ≤ c → c < n + k → H c ≡ G c) → turns W τ H n k ≡ turns W τ G n k
+unfolding turns
+turns-same W τ H G zero k e = refl
+turns-same W τ H G (suc n) k e =
+    ap (λ (h : ℕ). held W h (τ k) ++ turns W τ H n (suc k)) (e k (omega arith) (omega arith))
+    ∙ ap (λ (p : List Record). held W (G k) (τ k) ++ p) (turns-same W τ H G n (suc k) (λ c a b. e c (omega arith) (omega arith)))
 
 -- ---- setting k and those after it
 

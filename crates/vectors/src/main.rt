@@ -52,7 +52,7 @@ fn run(step: Step, laid: &[u8])
 {
     let letter = step.letter;
     match letter {
-        b'x' | b'd' | b'q' => plan::plan(step, laid),
+        b'x' | b'd' | b'e' | b'q' => plan::plan(step, laid),
         b'k' => check::check(step.first, laid, step.second),
         b'l' => check::length(step.first, laid, step.second as u16),
         b'r' => record::read(step.first, laid, step.second),

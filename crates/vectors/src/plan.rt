@@ -44,5 +44,8 @@ fn planned(letter: u8, n: usize, cells: &[u32], lent: &mut [u8]) -> Outcome {
     if letter == b'd' {
         return doubled::doubled_plan(n, cells, lent);
     }
+    if letter == b'e' {
+        return doubled::doubled_plan_every_rotation(n, cells, lent);
+    }
     quick::quick_plan(n, cells, lent)
 }

@@ -1,6 +1,6 @@
-//! The switch planner of document 01 in plain, unproved Rust.
+//! The switch planner of documents 01 and 02 in plain, unproved Rust.
 //!
-//! It is written from the paper and from nothing else, so that the proved library can be held to
+//! It is written from the papers and from nothing else, so that the proved library can be held to
 //! it: the same inputs must give the same codes, places, counts and bytes. It is also the peer that
 //! the proved library's speed is measured against, so it is written to be fast. [`slow`] says the
 //! same plans once more in the plainest words, to test the fast ones.
@@ -13,7 +13,7 @@ pub mod slow;
 mod wishes;
 
 pub use exact::exact;
-pub use more_plans::{doubled, quick};
+pub use more_plans::{doubled, doubled_every_rotation, quick};
 pub use plan::{check, length, open, step_at, write, Reader, Record, Step};
 pub use wishes::{wish, wishes};
 

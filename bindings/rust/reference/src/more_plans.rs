@@ -3,8 +3,21 @@
 use crate::exact::{peel, Writer};
 use crate::{demand, Outcome, Refusal, IDLE, MOST_PORTS, MOST_QUICK};
 
-/// The doubled plan: at most 2N records and a total of at most 2T - 1.
+/// The doubled plan, at most 2N records and a total of at most 2T - 1: each rotation is held for the
+/// largest remainder among its pairs.
 pub fn doubled(n: u64, cells: &[u32], plan: &mut [u8]) -> Outcome {
+    doubled_by(n, cells, plan, largest_remainders)
+}
+
+/// The same by the old rule: every rotation is held for u - 1.
+pub fn doubled_every_rotation(n: u64, cells: &[u32], plan: &mut [u8]) -> Outcome {
+    doubled_by(n, cells, plan, |_, _, unit| [(unit - 1) as u16; MOST_PORTS])
+}
+
+/// The rotations' holds, from N, the cells and u.
+type Holds = fn(usize, &[u32], u32) -> [u16; MOST_PORTS];
+
+fn doubled_by(n: u64, cells: &[u32], plan: &mut [u8], holds: Holds) -> Outcome {
     let (n, longest) = demand(n, cells)?;
     let mut written = Writer::default();
     if longest > 0 {
@@ -14,16 +27,28 @@ pub fn doubled(n: u64, cells: &[u32], plan: &mut [u8]) -> Outcome {
             *quotient = cell / unit;
         }
         peel(n, &quotients[..n * n], unit, &mut written);
-        if unit >= 2 {
-            rotations(n, (unit - 1) as u16, &mut written);
-        }
+        rotations(n, &holds(n, cells, unit), &mut written);
     }
     written.lend(cells, longest, plan)
 }
 
-/// N settings that together join every pair once: input i to output (i + k) mod N.
-fn rotations(n: usize, hold: u16, written: &mut Writer) {
-    for k in 0..n {
+/// For each rotation the largest remainder among its pairs.
+fn largest_remainders(n: usize, cells: &[u32], unit: u32) -> [u16; MOST_PORTS] {
+    let mut largest = [0; MOST_PORTS];
+    for (input, row) in cells.chunks_exact(n).enumerate() {
+        // Rotation 0 joins this input to the output of its own number, the next to the next, around.
+        let (last, first) = row.split_at(input);
+        for (hold, cell) in largest.iter_mut().zip(first.iter().chain(last)) {
+            *hold = (*hold).max((cell % unit) as u16);
+        }
+    }
+    largest
+}
+
+/// N settings that together join every pair once, input i to output (i + k) mod N, each left out
+/// where its hold is 0.
+fn rotations(n: usize, holds: &[u16; MOST_PORTS], written: &mut Writer) {
+    for (k, &hold) in holds[..n].iter().enumerate().filter(|(_, &hold)| hold > 0) {
         let mut outputs = [IDLE; MOST_PORTS];
         for (input, output) in outputs[..n].iter_mut().enumerate() {
             *output = ((input + k) % n) as u8;

@@ -49,25 +49,52 @@ pub fn exact(demand: &Demand, first: First) -> Vec<Record> {
     plan
 }
 
-/// The doubled plan, over the exact plan with the first setting found as `first` does.
+/// The doubled plan, over the exact plan with the first setting found as `first` does: each rotation
+/// is held for the largest remainder among its pairs, and left out when that is 0.
 pub fn doubled(demand: &Demand, first: First) -> Vec<Record> {
-    let (n, longest) = (demand.len() as u64, longest(demand));
-    if longest == 0 {
+    let unit = unit(demand);
+    let mut plan = quotients_plan(demand, unit, first);
+    for rotation in all_rotations(demand.len()) {
+        let remainders = rotation.iter().enumerate().map(|(i, &j)| demand[i][j] % unit.max(1));
+        let hold = remainders.max().expect("N is at least 1");
+        if hold != 0 {
+            plan.push(record(hold, &rotation));
+        }
+    }
+    plan
+}
+
+/// The doubled plan by the old rule: if u is at least 2, the N rotations, hold u - 1.
+pub fn doubled_every_rotation(demand: &Demand, first: First) -> Vec<Record> {
+    let unit = unit(demand);
+    let mut plan = quotients_plan(demand, unit, first);
+    if unit >= 2 {
+        plan.extend(all_rotations(demand.len()).map(|rotation| record(unit - 1, &rotation)));
+    }
+    plan
+}
+
+/// u is T / N rounded up.
+fn unit(demand: &Demand) -> u64 {
+    longest(demand).div_ceil(demand.len() as u64)
+}
+
+/// The exact plan of the cells divided by u, rounded down, each hold multiplied by u; empty if T is 0.
+fn quotients_plan(demand: &Demand, unit: u64, first: First) -> Vec<Record> {
+    if unit == 0 {
         return Vec::new();
     }
-    let unit = longest.div_ceil(n);
     let quotients = demand.iter().map(|row| row.iter().map(|cell| cell / unit).collect()).collect();
     let mut plan = exact(&quotients, first);
     for record in &mut plan {
         record.hold *= unit as u16;
     }
-    if unit >= 2 {
-        for k in 0..demand.len() {
-            let rotation: Vec<usize> = (0..demand.len()).map(|i| (i + k) % demand.len()).collect();
-            plan.push(record(unit - 1, &rotation));
-        }
-    }
     plan
+}
+
+/// k from 0 to N - 1: input i to output (i + k) mod N.
+fn all_rotations(n: usize) -> impl Iterator<Item = Vec<usize>> {
+    (0..n).map(move |k| (0..n).map(|i| (i + k) % n).collect())
 }
 
 /// The quick cover.

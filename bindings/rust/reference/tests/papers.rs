@@ -1,4 +1,4 @@
-//! Document 01's own figures: the small plans P1 to P12, the bit table, the edges.
+//! The documents' own figures: the small plans P1 to P12, the bit table, the edges.
 
 use reference::*;
 
@@ -31,16 +31,20 @@ const DIAGONAL: [u32; 16] = [5, 0, 0, 0, 0, 5, 0, 0, 0, 0, 5, 0, 0, 0, 0, 5];
 
 #[test]
 fn small_plans() {
-    let table: [(&str, &[u32], Planner, &str); 10] = [
+    let every = doubled_every_rotation;
+    let table: [(&str, &[u32], Planner, &str); 13] = [
         ("P1", &[2, 1, 1, 2], exact, "2:0 1; 1:1 0"),
-        ("P2", &[2, 1, 1, 2], doubled, "2:0 1; 1:0 1; 1:1 0"),
+        ("P2", &[2, 1, 1, 2], doubled, "2:0 1; 1:1 0"),
+        ("P2 by the old rule", &[2, 1, 1, 2], every, "2:0 1; 1:0 1; 1:1 0"),
         ("P3", &[2, 1, 1, 2], quick, "1:0 1; 1:1 0; 1:0 1"),
         ("P4", &[3, 0, 1, 0], exact, "3:0 1; 1:1 0"),
         ("P5", &[3, 0, 1, 0], quick, "1:0 -; 1:- 0; 1:0 -; 1:0 -"),
         ("P6", &[1, 0, 1, 0, 1, 1, 1, 1, 0], exact, "1:0 2 1; 1:2 1 0"),
         ("P7", &[1, 0, 1, 0, 1, 1, 1, 1, 0], quick, "1:0 1 -; 1:- 2 0; 1:2 - 1"),
-        ("P8", &[5], doubled, "5:0; 4:0"),
-        ("P9", &DIAGONAL, doubled, "4:0 1 2 3; 1:0 1 2 3; 1:1 2 3 0; 1:2 3 0 1; 1:3 0 1 2"),
+        ("P8", &[5], doubled, "5:0"),
+        ("P8 by the old rule", &[5], every, "5:0; 4:0"),
+        ("P9", &DIAGONAL, doubled, "4:0 1 2 3; 1:0 1 2 3"),
+        ("P9 by the old rule", &DIAGONAL, every, "4:0 1 2 3; 1:0 1 2 3; 1:1 2 3 0; 1:2 3 0 1; 1:3 0 1 2"),
         ("P10", &[0], exact, ""),
     ];
     for (name, cells, planner, text) in table {
@@ -89,16 +93,19 @@ fn bit_table() {
 
 #[test]
 fn unit_of_the_doubled_plan() {
-    let plan_of = |longest: u32| {
+    let plan_of = |planner: Planner, longest: u32| {
         let mut cells = [0; 16];
         cells[0] = longest;
         let mut lent = [0; 8 * RECORD_SIZE];
-        let counts = doubled(4, &cells, &mut lent).unwrap();
+        let counts = planner(4, &cells, &mut lent).unwrap();
         read(4, &lent[..counts.records as usize * RECORD_SIZE])
     };
     // T = 4 with N = 4 gives u = 1 and no rotations, T = 5 gives u = 2.
-    assert_eq!(plan_of(4), records("4:0 1 2 3"));
-    assert_eq!(plan_of(5), records("4:0 1 2 3; 1:0 1 2 3; 1:1 2 3 0; 1:2 3 0 1; 1:3 0 1 2"));
+    assert_eq!(plan_of(doubled, 4), records("4:0 1 2 3"));
+    assert_eq!(plan_of(doubled, 5), records("4:0 1 2 3; 1:0 1 2 3"));
+    let every = doubled_every_rotation;
+    assert_eq!(plan_of(every, 4), records("4:0 1 2 3"));
+    assert_eq!(plan_of(every, 5), records("4:0 1 2 3; 1:0 1 2 3; 1:1 2 3 0; 1:2 3 0 1; 1:3 0 1 2"));
 }
 
 #[test]

@@ -5,6 +5,7 @@ use reference::slow::{self, Demand, First};
 use reference::*;
 
 type Planner = fn(u64, &[u32], &mut [u8]) -> Outcome;
+type Slow = fn(&Demand, First) -> Vec<Record>;
 
 /// A planner's plan, read back, with its answer; the buffer has room to spare and keeps its rest.
 fn planned(planner: Planner, n: usize, cells: &[u32], room: usize) -> (Counts, Vec<Record>) {
@@ -42,7 +43,7 @@ fn covers(granted: &Demand, asked: &Demand) -> bool {
     granted.iter().flatten().zip(asked.iter().flatten()).all(|(granted, asked)| granted >= asked)
 }
 
-/// Holds the three planners to the slow ones, where a way to find the first setting is given, and
+/// Holds the planners to the slow ones, where a way to find the first setting is given, and
 /// to their promises.
 fn try_demand(n: usize, cells: &[u32], first: Option<First>) {
     let asked = slow::rows(n, cells);
@@ -59,12 +60,16 @@ fn try_demand(n: usize, cells: &[u32], first: Option<First>) {
         assert_eq!(plan, slow::exact(&asked, first), "N = {n}, {cells:?}");
     }
 
-    let (counts, plan) = planned(doubled, n, cells, 2 * n);
-    assert!(plan.len() <= 2 * n);
-    assert!(counts.total <= (2 * longest).saturating_sub(1));
-    assert!(covers(&granted(n, &plan), &asked));
-    if let Some(first) = first {
-        assert_eq!(plan, slow::doubled(&asked, first), "N = {n}, {cells:?}");
+    let rules: [(Planner, Slow); 2] =
+        [(doubled, slow::doubled), (doubled_every_rotation, slow::doubled_every_rotation)];
+    for (planner, slow) in rules {
+        let (counts, plan) = planned(planner, n, cells, 2 * n);
+        assert!(plan.len() <= 2 * n);
+        assert!(counts.total <= (2 * longest).saturating_sub(1));
+        assert!(covers(&granted(n, &plan), &asked));
+        if let Some(first) = first {
+            assert_eq!(plan, slow(&asked, first), "N = {n}, {cells:?}");
+        }
     }
 
     if longest <= MOST_QUICK {
@@ -134,7 +139,7 @@ fn room_is_found_wanting_before_anything_is_written() {
     for _ in 0..5_000 {
         let n = rng.between(1, 8);
         let cells = cases::demand(&mut rng, n, 1_024);
-        for planner in [exact as Planner, doubled, quick] {
+        for planner in [exact as Planner, doubled, doubled_every_rotation, quick] {
             let (counts, _) = planned(planner, n, &cells, 2 * MOST_QUICK as usize);
             let records = counts.records as usize;
             let bytes = records * RECORD_SIZE;

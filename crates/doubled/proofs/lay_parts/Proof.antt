@@ -5,24 +5,25 @@ use Rattle.doubled.proofs.Both.{first-place, second-room, second-laid}
 use borrow.Author.Needs.{needs}
 use Rattle.doubled.proofs.lay_parts.Statement.{statement}
 use Rattle.doubled.proofs.lay_parts.Tie as tie
+use Rattle.rotations.proofs.lay.Reads as lay-reads′
 
 lay-requires : tie.Need-lay-requires
-lay-requires c κs = let p = c .before .before .before .before .pre in (p .0, first-place _ _ _ _ _ (p .0) (p .2 .wide) _ (p .2))
+lay-requires c κs = let p = c .before .before .before .before .before .pre in (p .0, first-place _ _ _ _ _ (c .before .before .before .before .before .args .holds .now) (p .0) (p .2 .wide) _ (p .2))
 
 add-lay : tie.Need-add-lay
 add-lay c = search needs
 
 mul-lay : tie.Need-mul-lay
 mul-lay c =
-    let p = c .before .before .before .before .before .before .before .before .before .before .pre in
+    let p = c .before .before .before .before .before .before .before .before .before .before .before .pre in
     let l = c .before .before .before .before .before .lay .ensures in
-    omega (arith, second-room _ _ _ _ _ (p .0) (p .2 .wide) _ (p .2) _ _ (l .1) _ (l .0))
+    omega (arith, second-room _ _ _ _ _ (c .before .before .before .before .before .before .before .before .before .before .before .args .holds .now) (p .0) (p .2 .wide) _ (p .2) _ _ (l .1) _ (l .0))
 
 lay-requires-2 : tie.Need-lay-requires-2
 lay-requires-2 c κs =
-    let p = c .before .before .before .before .before .before .before .before .before .before .pre in
+    let p = c .before .before .before .before .before .before .before .before .before .before .before .pre in
     let l = c .before .before .before .before .before .lay .ensures in
-    (p .1, p .2 .wide, p .2 .narrow, second-room _ _ _ _ _ (p .0) (p .2 .wide) _ (p .2) _ _ (l .1) _ (l .0))
+    (p .1, p .2 .wide, p .2 .narrow, second-room _ _ _ _ _ (c .before .before .before .before .before .before .before .before .before .before .before .args .holds .now) (p .0) (p .2 .wide) _ (p .2) _ _ (l .1) _ (l .0))
 
 same-length : tie.Need-same-length
 same-length c = search needs
@@ -32,9 +33,9 @@ same-length-2 c = search needs
 
 returns : tie.Need-returns
 returns c =
-    let p = c .before .before .before .before .before .before .before .before .before .before .before .before .before .pre in
+    let p = c .before .before .before .before .before .before .before .before .before .before .before .before .before .before .pre in
     let l = c .before .before .before .before .before .before .before .before .lay .ensures in
-    (l .0, c .before .before .lay2 .ensures ∙ second-laid _ _ _ _ _ (p .0) (p .2 .wide) _ (p .2) _ _ (l .1) _ (l .0))
+    (l .0, c .before .before .lay2 .ensures ∙ second-laid _ _ _ _ _ (c .before .before .before .before .before .before .before .before .before .before .before .before .before .before .args .holds .now) (p .0) (p .2 .wide) _ (p .2) _ _ (l .1) _ (l .0))
 
 pub lay-parts-spec : {M : Type 1} → statement M
 lay-parts-spec =

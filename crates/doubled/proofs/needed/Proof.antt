@@ -17,7 +17,7 @@ returns : tie.Need-returns
 returns c =
     let a = c .before .before .before .args in
     let p = c .before .before .before .pre in
-    (refl, λ W wide narrow. needs-surely _ _ _ (omega (arith, first-few W _ _ (a .unit) _ (p .0) wide)) (c .if1 .taken))
+    (refl, λ W wide narrow. needs-surely _ _ _ (omega (arith, first-few W _ _ _ (p .0) wide)) (c .if1 .taken))
 
 count-requires : tie.Need-count-requires
 count-requires c κs = c .before .before .before .before .pre .0
@@ -26,7 +26,7 @@ add-need : tie.Need-add-need
 add-need c =
     let a = c .before .before .before .before .before .before .before .args in
     let p = c .before .before .before .before .before .before .before .pre in
-    omega (arith, c .before .before .count .ensures (a .n) (omega arith) (p .0 .few), first-few (a .n) _ _ (a .unit) _ (p .0) (omega arith), p .0 .small, p .0 .few, p .3)
+    omega (arith, c .before .before .count .ensures (a .n) (omega arith) (p .0 .few), first-few (a .n) _ _ _ (p .0) (omega arith), p .0 .small, p .0 .few, p .3)
 
 quotients-requires : tie.Need-quotients-requires
 quotients-requires c κs =

@@ -1,17 +1,17 @@
 -- The first part's total is the quotients' longest line times u, so both parts and their room are known before anything is laid.
 use native.Mathlib.Omega.{arith}
 use Rattle.doubled.proofs.Both.{first-few}
-use Rattle.doubled.proofs.Divided.{asked, turning, sized, within, quotient-cells}
+use Rattle.doubled.proofs.Divided.{asked, holding, sized, within, quotient-cells}
 use Rattle.doubled.proofs.Answer.{short-answer, ready, both-answer}
 use borrow.Author.Needs.{needs}
 use Rattle.doubled.proofs.plan_parts.Statement.{statement}
 use Rattle.doubled.proofs.plan_parts.Tie as tie
 
 longest-line-requires : tie.Need-longest-line-requires
-longest-line-requires c κs = sized _ _ _ _ _ _ (c .before .before .before .before .pre)
+longest-line-requires c κs = sized _ _ _ _ _ _ (c .before .before .before .before .before .pre .0)
 
 measure-requires : tie.Need-measure-requires
-measure-requires c κs = turning _ _ _ _ _ _ (c .before .before .before .before .before .pre)
+measure-requires c κs = search needs
 
 add-room : tie.Need-add-room
 add-room c = search needs
@@ -21,43 +21,45 @@ div-room c = search needs
 
 needed-requires : tie.Need-needed-requires
 needed-requires c κs =
-    let v = c .before .before .before .before .before .before .before .pre in
-    (quotient-cells _ _ _ _ _ _ v _ (c .before .before .longest-line .ensures), v .quotients-are, turning _ _ _ _ _ _ v .least, c .before .measure .ensures .few)
+    let v = c .before .before .before .before .before .before .before .before .pre .0 in
+    (quotient-cells _ _ _ _ _ _ v _ (c .before .before .longest-line .ensures), v .quotients-are, holding _ _ _ _ _ _ v .least, omega (arith, c .before .measure .ensures .few))
 
 same-length : tie.Need-same-length
 same-length c = search needs
 
 returns : tie.Need-returns
 returns c =
-    let a = c .before .before .before .before .before .before .before .before .before .before .before .args in
-    let v = c .before .before .before .before .before .before .before .before .before .before .before .pre in
-    short-answer _ _ _ _ _ _ v (a .edition) _ _ _ (c .before .before .before .before .before .measure .ensures) _ (c .before .before .before .needed .ensures .1 (a .width) (asked _ _ _ _ _ _ v .few) (v .narrow)) (c .if1 .taken)
+    let a = c .before .before .before .before .before .before .before .before .before .before .before .before .args in
+    let v = c .before .before .before .before .before .before .before .before .before .before .before .before .pre .0 in
+    short-answer _ _ _ _ _ _ _ v (a .edition) _ _ _ (c .before .before .before .before .before .measure .ensures) _ (c .before .before .before .needed .ensures .1 (a .width) (asked _ _ _ _ _ _ v .few) (v .narrow)) (c .if1 .taken)
 
 lay-parts-requires : tie.Need-lay-parts-requires
 lay-parts-requires c κs =
-    let a = c .before .before .before .before .before .before .before .before .before .before .before .before .before .args in
-    let v = c .before .before .before .before .before .before .before .before .before .before .before .before .before .pre in
+    let a = c .before .before .before .before .before .before .before .before .before .before .before .before .before .before .args in
+    let v = c .before .before .before .before .before .before .before .before .before .before .before .before .before .before .pre .0 in
     let n = c .before .before .before .before .before .needed .ensures in
-    ready _ _ _ _ _ _ v (a .edition) (a .plan .now) _ _ (c .before .before .before .before .before .before .before .measure .ensures) _ (n .1 (a .width) (asked _ _ _ _ _ _ v .few) (v .narrow)) (c .before .before .if1 .left) _ (c .before .before .before .before .before .before .before .before .longest-line .ensures) _ (n .0)
+    let r = ready _ _ _ _ _ _ _ v (a .edition) (a .plan .now) _ _ (c .before .before .before .before .before .before .before .measure .ensures) _ (n .1 (a .width) (asked _ _ _ _ _ _ v .few) (v .narrow)) (c .before .before .if1 .left) _ (c .before .before .before .before .before .before .before .before .longest-line .ensures) _ (n .0) in
+    (r .0, c .before .before .before .before .before .before .before .before .before .before .before .before .before .before .pre .1, r .1)
 
-add-t17 : tie.Need-add-t17
-add-t17 c =
-    let a = c .before .before .before .before .before .before .before .before .before .before .before .before .before .before .before .before .before .before .args in
-    let v = c .before .before .before .before .before .before .before .before .before .before .before .before .before .before .before .before .before .before .pre in
+add-t18 : tie.Need-add-t18
+add-t18 c =
+    let a = c .before .before .before .before .before .before .before .before .before .before .before .before .before .before .before .before .before .before .before .args in
+    let v = c .before .before .before .before .before .before .before .before .before .before .before .before .before .before .before .before .before .before .before .pre .0 in
     let n = c .before .before .before .before .before .before .before .before .before .before .needed .ensures in
-    let r = ready _ _ _ _ _ _ v (a .edition) (a .plan .now) _ _ (c .before .before .before .before .before .before .before .before .before .before .before .before .measure .ensures) _ (n .1 (a .width) (asked _ _ _ _ _ _ v .few) (v .narrow)) (c .before .before .before .before .before .before .before .if1 .left) _ (c .before .before .before .before .before .before .before .before .before .before .before .before .before .longest-line .ensures) _ (n .0) in
-    omega (arith, c .before .before .before .before .lay-parts .ensures .0, first-few _ _ _ (a .unit) _ (r .0) (asked _ _ _ _ _ _ v .few), r .0 .small, c .before .before .before .before .before .before .before .before .before .before .before .before .measure .ensures .few, r .0 .few)
+    let q = quotient-cells _ _ _ _ _ _ v _ (c .before .before .before .before .before .before .before .before .before .before .before .before .before .longest-line .ensures) in
+    let r = ready _ _ _ _ _ _ _ v (a .edition) (a .plan .now) _ _ (c .before .before .before .before .before .before .before .before .before .before .before .before .measure .ensures) _ (n .1 (a .width) (asked _ _ _ _ _ _ v .few) (v .narrow)) (c .before .before .before .before .before .before .before .if1 .left) _ (c .before .before .before .before .before .before .before .before .before .before .before .before .before .longest-line .ensures) _ (n .0) in
+    omega (arith, c .before .before .before .before .lay-parts .ensures .0, first-few _ _ _ _ (r .0) (asked _ _ _ _ _ _ v .few), q .small, c .before .before .before .before .before .before .before .before .before .before .before .before .measure .ensures .few, q .few)
 
-mul-t28 : tie.Need-mul-t28
-mul-t28 c =
-    let v = c .before .before .before .before .before .before .before .before .before .before .before .before .before .before .before .before .before .before .pre in
+mul-t29 : tie.Need-mul-t29
+mul-t29 c =
+    let v = c .before .before .before .before .before .before .before .before .before .before .before .before .before .before .before .before .before .before .before .pre .0 in
     omega (arith, within _ _ _ _ _ _ v _ (c .before .before .before .before .before .before .before .before .before .before .before .before .before .longest-line .ensures), asked _ _ _ _ _ _ v .small)
 
-add-t29 : tie.Need-add-t29
-add-t29 c =
-    let v = c .before .before .before .before .before .before .before .before .before .before .before .before .before .before .before .before .before .before .before .pre in
+add-t30 : tie.Need-add-t30
+add-t30 c =
+    let v = c .before .before .before .before .before .before .before .before .before .before .before .before .before .before .before .before .before .before .before .before .pre .0 in
     let m = c .before .before .before .before .before .before .before .before .before .before .before .before .before .measure .ensures in
-    omega (arith, within _ _ _ _ _ _ v _ (c .before .before .before .before .before .before .before .before .before .before .before .before .before .before .longest-line .ensures), asked _ _ _ _ _ _ v .small, m .small, turning _ _ _ _ _ _ v .few)
+    omega (arith, within _ _ _ _ _ _ v _ (c .before .before .before .before .before .before .before .before .before .before .before .before .before .before .longest-line .ensures), asked _ _ _ _ _ _ v .small, m .small, holding _ _ _ _ _ _ v .few)
 
 same-length-2 : tie.Need-same-length-2
 same-length-2 c = search needs
@@ -67,11 +69,11 @@ same-length-3 c = search needs
 
 returns-2 : tie.Need-returns-2
 returns-2 c =
-    let a = c .before .before .before .before .before .before .before .before .before .before .before .before .before .before .before .before .before .before .before .args in
-    let v = c .before .before .before .before .before .before .before .before .before .before .before .before .before .before .before .before .before .before .before .pre in
+    let a = c .before .before .before .before .before .before .before .before .before .before .before .before .before .before .before .before .before .before .before .before .args in
+    let v = c .before .before .before .before .before .before .before .before .before .before .before .before .before .before .before .before .before .before .before .before .pre .0 in
     let n = c .before .before .before .before .before .before .before .before .before .before .before .needed .ensures in
     let l = c .before .before .before .before .before .lay-parts .ensures in
-    both-answer _ _ _ _ _ _ v (a .edition) (a .plan .now) _ _ (c .before .before .before .before .before .before .before .before .before .before .before .before .before .measure .ensures) _ (n .1 (a .width) (asked _ _ _ _ _ _ v .few) (v .narrow)) (c .before .before .before .before .before .before .before .before .if1 .left) _ (c .before .before .before .before .before .before .before .before .before .before .before .before .before .before .longest-line .ensures) _ (n .0) _ _ (l .0) (l .1)
+    both-answer _ _ _ _ _ _ _ v (a .edition) (a .plan .now) _ _ (c .before .before .before .before .before .before .before .before .before .before .before .before .before .measure .ensures) _ (n .1 (a .width) (asked _ _ _ _ _ _ v .few) (v .narrow)) (c .before .before .before .before .before .before .before .before .if1 .left) _ (c .before .before .before .before .before .before .before .before .before .before .before .before .before .before .longest-line .ensures) _ (n .0) _ _ (l .0) (l .1)
 
 pub plan-parts-spec : {M : Type 1} → statement M
 plan-parts-spec =
@@ -85,9 +87,9 @@ plan-parts-spec =
     same-length
     returns
     lay-parts-requires
-    add-t17
-    mul-t28
-    add-t29
+    add-t18
+    mul-t29
+    add-t30
     same-length-2
     same-length-3
     returns-2)

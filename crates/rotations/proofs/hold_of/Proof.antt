@@ -1,19 +1,58 @@
--- The hold is u - 1 for every rotation, by its definition.
-use mathlib.Core.Path.{refl}
+use Prim.Native.Nat.{ℕ}
+use Rattle.rules.specs.Doubled.{rotate}
+use Rattle.rotations.specs.declared.Rule.{Rule}
+use Rattle.rotations.specs.Second.{holdsBy}
+use mathlib.Core.Path.{_≡_, sym}
+-- Each rule's hold is what its definition says, and below u.
+use mathlib.Core.Path.{ap, _∙_}
+use native.Mathlib.Omega.{arith}
 use Rattle.rules.specs.Doubled.{flat}
+use Rattle.rotations.proofs.Holds.{tight-small}
 use borrow.Author.Needs.{needs}
 use Rattle.rotations.proofs.hold_of.Statement.{statement}
 use Rattle.rotations.proofs.hold_of.Tie as tie
 
+enum-told : tie.Need-enum-told
+enum-told c = search needs
+
+largest-remainder-requires : tie.Need-largest-remainder-requires
+largest-remainder-requires c κs = search needs
+
+cast-result : tie.Need-cast-result
+cast-result c =
+    let a = c .before .before .before .before .args in
+    let h = c .before .before .before .before .pre .0 in
+    omega (arith, c .largest-remainder .ensures, tight-small (a .n) (rotate (a .n)) (a .cells .now) (a .unit) (a .k) (h .least), h .most)
+
+enum-told-2 : tie.Need-enum-told-2
+enum-told-2 c = search needs
+
 sub-result : tie.Need-sub-result
 sub-result c = search needs
 
-cast-result : tie.Need-cast-result
-cast-result c = search needs
+cast-result-2 : tie.Need-cast-result-2
+cast-result-2 c = search needs
 
 returns : tie.Need-returns
+returns c =
+    let a = c .before .before .before .before .args in
+    c .largest-remainder .ensures ∙ ap (λ (r : Rule). holdsBy r (a .n) (a .cells .now) (a .unit) (a .k)) (sym (c .before .enum-told .given .1))
+
+returns-2 : tie.Need-returns-2
 unfolding flat
-returns c = refl
+returns-2 c =
+    let a = c .before .before .before .args in
+    ap (λ (r : Rule). holdsBy r (a .n) (a .cells .now) (a .unit) (a .k)) (sym (c .enum-told2 .given .1))
 
 pub hold-of-spec : {M : Type 1} → statement M
-hold-of-spec = tie.close (tie.spec sub-result cast-result returns)
+hold-of-spec =
+    tie.close
+    (tie.spec
+    enum-told
+    largest-remainder-requires
+    cast-result
+    enum-told-2
+    sub-result
+    cast-result-2
+    returns
+    returns-2)

@@ -2,9 +2,9 @@
 use mathlib.Core.Path.{_≡_, sym, ap, _∙_, subst}
 use Prim.Native.Nat.{ℕ, _+_, _≤_}
 use native.Mathlib.Omega.{arith}
-use lib.ListN.{length, take, replicate, length-replicate}
+use lib.ListN.{length, getD, take, replicate, length-replicate}
 use lib.Seq.{length-take-le}
-use Rattle.rules.specs.Doubled.{rotate, flat}
+use Rattle.rules.specs.Doubled.{rotate}
 use Rattle.records.specs.Bytes.{bytes, laid}
 use Rattle.rotations.specs.Second.{rotations}
 use Rattle.rotations.proofs.Turns.{turns-room}
@@ -19,21 +19,21 @@ array-borrow-prefix-out : tie.Need-array-borrow-prefix-out
 array-borrow-prefix-out c = search needs
 
 slice-aggregate-lay-all : tie.Need-slice-aggregate-lay-all
-slice-aggregate-lay-all c = sym (wide _ (c .before .before .before .pre .2))
+slice-aggregate-lay-all c = sym (wide _ (c .before .before .before .before .pre .2))
 
 lay-all-requires : tie.Need-lay-all-requires
 lay-all-requires c κs =
-    let a = c .before .before .before .args in
-    let p = c .before .before .before .pre in
-    (p .0, omega (arith, p .1, wide _ (p .2)), subst (λ (W : ℕ). a .from + length (bytes (a .edition) (a .n) (rotations W (a .n) (a .unit))) ≤ length (a .plan .now)) (sym (wide _ (p .2))) (turns-room (rotate (a .n)) (flat (a .unit)) (a .n) (a .edition) (a .n) (a .width) (a .from) (a .plan .now) (p .3)))
+    let a = c .before .before .before .before .args in
+    let p = c .before .before .before .before .pre in
+    (p .0, omega (arith, p .1, wide _ (p .2)), subst (λ (W : ℕ). a .from + length (bytes (a .edition) (a .n) (rotations W (a .n) (a .holds .now))) ≤ length (a .plan .now)) (sym (wide _ (p .2))) (turns-room (rotate (a .n)) (λ k. getD (a .holds .now) k 0) (a .n) (a .edition) (a .n) (a .width) (a .from) (a .plan .now) (p .3)))
 
 same-length : tie.Need-same-length
 same-length c = search needs
 
 returns : tie.Need-returns
 returns c =
-    let a = c .before .before .before .before .before .before .before .args in
-    c .before .before .before .lay-all .ensures ∙ ap (λ (W : ℕ). laid (a .plan .now) (a .from) (bytes (a .edition) (a .n) (rotations W (a .n) (a .unit)))) (wide _ (c .before .before .before .before .before .before .before .pre .2))
+    let a = c .before .before .before .before .before .before .before .before .args in
+    c .before .before .before .lay-all .ensures ∙ ap (λ (W : ℕ). laid (a .plan .now) (a .from) (bytes (a .edition) (a .n) (rotations W (a .n) (a .holds .now)))) (wide _ (c .before .before .before .before .before .before .before .before .pre .2))
 
 pub lay-spec : {M : Type 1} → statement M
 lay-spec =

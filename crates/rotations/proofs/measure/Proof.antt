@@ -1,35 +1,40 @@
+use mathlib.Core.Path.{refl}
 -- Each turn counts one setting's records and adds its hold.
 use Prim.Native.Nat.{_-_, _≤_}
 use native.Mathlib.Omega.{arith}
-use Rattle.rules.specs.Doubled.{rotate, flat}
-use Rattle.rotations.proofs.Turns.{Counted, counted-none, counted-next, counted-all, one-at-most, flat-small}
+use lib.ListN.{getD}
+use Rattle.rules.specs.Doubled.{rotate}
+use Rattle.rotations.proofs.Turns.{Counted, counted-none, counted-next, counted-all, one-at-most}
 use borrow.Author.Needs.{needs}
 use Rattle.rotations.proofs.measure.Statement.{statement}
 use Rattle.rotations.proofs.measure.Tie as tie
 
 abbrev Inv-loop : tie.InvT-loop
-Inv-loop n unit records₀ total₀ k₀ records total k = (k ≤ n) × Counted (rotate n) (flat unit) n k records total
+Inv-loop n holds records₀ total₀ k₀ records total k = (k ≤ n) × Counted (rotate n) (λ x. getD holds x 0) n k records total
 
 abbrev μ-loop : tie.MeasureT-loop
-μ-loop n unit records₀ total₀ k₀ records total k = n - k
+μ-loop n holds records₀ total₀ k₀ records total k = n - k
 
 loop-holds : tie.Need-loop-holds Inv-loop μ-loop
 loop-holds c = (omega arith, counted-none _ _ _)
 
-hold-of-requires : tie.Need-hold-of-requires Inv-loop μ-loop
-hold-of-requires c κs = let p = c .before .before .pre in (p .least, p .most)
+mul-hold : tie.Need-mul-hold Inv-loop μ-loop
+mul-hold c = search needs
+
+shared-slice-read-hold : tie.Need-shared-slice-read-hold Inv-loop μ-loop
+shared-slice-read-hold c = omega (arith, c .before .before .before .before .pre .size)
 
 records-of-requires : tie.Need-records-of-requires Inv-loop μ-loop
 records-of-requires c κs = search needs
 
 add-records : tie.Need-add-records Inv-loop μ-loop
-add-records c = let p = c .before .before .before .before .pre in let q = c .before .before .before .loop .inv .1 in omega (arith, p .few, q .few, one-at-most _ _ (c .records-of .ensures))
+add-records c = let p = c .before .before .before .before .before .pre in let q = c .before .before .before .loop .inv .1 in omega (arith, p .few, q .few, one-at-most _ _ (c .records-of .ensures))
 
 cast-total : tie.Need-cast-total Inv-loop μ-loop
-cast-total c = search needs
+cast-total c = omega (arith, c .before .shared-slice-known2 .given (c .before .before .before .loop .k))
 
 add-total : tie.Need-add-total Inv-loop μ-loop
-add-total c = let p = c .before .before .before .before .pre in let l = c .before .before .before .loop in omega (arith, p .few, l .inv .1 .small, c .before .hold-of .ensures, flat-small _ (l .k) (p .most))
+add-total c = let l = c .before .before .before .loop in omega (arith, c .before .before .before .before .before .pre .few, l .inv .1 .small, c .before .shared-slice-known2 .given (l .k))
 
 add-k : tie.Need-add-k Inv-loop μ-loop
 add-k c = search needs
@@ -40,8 +45,7 @@ loop-less c = search needs
 loop-again : tie.Need-loop-again Inv-loop μ-loop
 loop-again c =
     let l = c .before .before .before .loop in
-    let h = c .before .hold-of .ensures in
-    (omega arith, counted-next _ _ _ _ _ _ (l .inv .1) _ _ (omega arith) h (omega (arith, h, flat-small _ (l .k) (c .before .before .before .before .pre .most))) (c .records-of .ensures))
+    (omega arith, counted-next _ _ _ _ _ _ (l .inv .1) _ _ (omega arith) refl (omega (arith, c .before .shared-slice-known2 .given (l .k))) (c .records-of .ensures))
 
 returns : tie.Need-returns Inv-loop μ-loop
 returns c =
@@ -57,7 +61,8 @@ measure-spec =
     Inv-loop
     μ-loop
     loop-holds
-    hold-of-requires
+    mul-hold
+    shared-slice-read-hold
     records-of-requires
     add-records
     cast-total
