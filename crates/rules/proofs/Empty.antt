@@ -47,6 +47,11 @@ module _ (W N : ℕ) (top : N ≤ W) (τ : ℕ → ℕ → ℕ) (J : Joins N τ)
   turns-full zero k l = AllFull.none
   turns-full (suc n) k l = append-full (held-full (H k) (τ k) (J .full k (omega arith))) (turns-full n (suc k) (omega arith))
 
+-- the two parts of a doubled plan, with quotients q
+pub parts-full : (W N : ℕ) → 0 < N → N ≤ W → (q : List ℕ) → N * N ≤ length q → (τ : ℕ → ℕ → ℕ) → Joins N τ → (u : ℕ) (H : ℕ → ℕ)
+    → AllFull N (map (stretch u) (exactPlan W N q) ++ turns W τ H N 0)
+parts-full W N pos top q s τ J u H = append-full (stretch-full u (peels-full (exact-peels W N pos top q s))) (turns-full W N top τ J H N 0 (omega arith))
+
 -- ---- the rules
 
 module _ (W N : ℕ) (pos : 0 < N) (top : N ≤ W) (d : List ℕ) (s : N * N ≤ length d) where
@@ -63,14 +68,13 @@ module _ (W N : ℕ) (pos : 0 < N) (top : N ≤ W) (d : List ℕ) (s : N * N ≤
 
   -- a doubled plan, whatever its second part and however long that is held, where it covers: N × total less the sum of all cells
   module _ (τ : ℕ → ℕ → ℕ) (J : Joins N τ) (H : ℕ → ℕ → ℕ) where
-    pub doubled-full : AllFull N (doubledBy W N τ H d)
+    doubled-full : AllFull N (doubledBy W N τ H d)
     unfolding doubledBy
     doubled-full = go (eqb (longest N (cell N d)) 0) (unit N (longest N (cell N d)))
       where
         go : (b : Bool) (u : ℕ) → AllFull N (cond b [] (map (stretch u) (exactPlan W N (divide u d)) ++ turns W τ (H u) N 0))
         go true u = AllFull.none
-        go false u = append-full
-            (stretch-full u (peels-full (exact-peels W N pos top (divide u d) (omega (arith, s, length-divide u d))))) (turns-full W N top τ J (H u) N 0 (omega arith))
+        go false u = parts-full W N pos top (divide u d) (omega (arith, s, length-divide u d)) τ J u (H u)
 
     pub doubled-empty-slots : Covers N (cell N d) (doubledBy W N τ H d)
         → emptySlots N (cell N d) (doubledBy W N τ H d) ≡ N * total (doubledBy W N τ H d) - allSlots N (cell N d)
