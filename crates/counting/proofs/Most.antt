@@ -3,7 +3,7 @@ use mathlib.Core.Path.{_≡_, refl}
 use Prim.Native.Nat.{ℕ, zero, suc, _+_, _≤_, _<_, max}
 use native.Mathlib.Nat.{add-zero, add-suc}
 use native.Mathlib.Numerals.{add-one}
-use native.Mathlib.Decide.{ℕ-discrete}
+use native.Mathlib.Decide.{ℕ-discrete, decLt}
 use native.Mathlib.Omega.{arith}
 use Rattle.counting.specs.Sum.{most}
 
@@ -33,6 +33,16 @@ pub most-cong : (n : ℕ) (f g : ℕ → ℕ) → ((i : ℕ) → i < n → f i �
 unfolding most
 most-cong zero f g h = refl
 most-cong (suc n) f g h = omega (arith, most-cong n f g (λ i l. h i (omega arith)), h n (omega arith))
+
+-- where it is not 0, it is one of them
+pub most-one : (n : ℕ) (f : ℕ → ℕ) → 0 < most n f → (i : ℕ) × (i < n) × (f i ≡ most n f)
+unfolding most
+most-one zero f p = absurd (omega arith)
+most-one (suc n) f p = go (decLt (most n f) (f n)) (most-one n f)
+  where
+    go : Dec (most n f < f n) → (0 < most n f → (i : ℕ) × (i < n) × (f i ≡ most n f)) → (i : ℕ) × (i < suc n) × (f i ≡ most (suc n) f)
+    go (yes l) r = (n, omega arith, omega arith)
+    go (no l) r = let e = r (omega (arith, l)) in (e .0, omega (arith, e .1), omega (arith, e .2, l))
 
 -- the largest of n + m numbers is the larger of the two parts' largest
 pub most-split : (n m : ℕ) (f : ℕ → ℕ) → most (n + m) f ≡ max (most n f) (most m (λ i. f (n + i)))

@@ -1,11 +1,18 @@
--- The contracts give the outcome and the buffer by a definition, so they determine both; and the old rule's plan is the one that stood before.
+-- The contracts give the outcome and the buffer by a definition, so they determine both; and both rules are instances of one law.
 use mathlib.Core.Path.{_≡_}
 use mathlib.Core.List.{List}
-use Prim.Native.Nat.{ℕ}
+use Prim.Native.Nat.{ℕ, _*_, _≤_, _<_}
+use lib.ListN.{length}
 use Rattle.switch.specs.declared.Outcome.{Outcome}
 use Rattle.switch.specs.Plan.{Record}
 use Rattle.switch.proofs.Answer.{determined}
+use Rattle.rules.specs.Doubled.{doubledPlan, tightPlan, Doubled}
+use Rattle.rules.proofs.Rotate.{doubled}
+use Rattle.rules.proofs.Tight.{tight-doubled}
 use Rattle.planner.specs.Planned.{planned}
+use Rattle.rotations.specs.declared.Rule.{Rule}
+use Rattle.rotations.specs.declared.Rule.the-variants.{Tight, Every}
+use Rattle.rotations.specs.Second.{doubledRule}
 
 -- any two outcomes, and any two buffers afterwards, that satisfy either contract are equal
 module _ (W e N : ℕ) (d : List ℕ) (p : List Record) (buf : List ℕ) where
@@ -14,3 +21,9 @@ module _ (W e N : ℕ) (d : List ℕ) (p : List Record) (buf : List ℕ) where
 
   pub same-bytes : (l m : List ℕ) → l ≡ planned W e N d p buf .bytes → m ≡ planned W e N d p buf .bytes → l ≡ m
   same-bytes l m x y = determined l m _ x y
+
+-- both bounds and the cover, by either rule: each has holds from the largest remainder to u - 1, which is what `doubled-any` asks
+pub either-rule : (r : Rule) (W N : ℕ) → 0 < N → N ≤ W → (d : List ℕ) → N * N ≤ length d → Doubled N d (doubledRule r W N d)
+unfolding tightPlan doubledPlan
+either-rule Tight W N pos top d s = tight-doubled W N pos top d s
+either-rule Every W N pos top d s = doubled W N pos top d s

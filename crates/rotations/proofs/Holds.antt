@@ -2,7 +2,7 @@
 -- holds stands for the rule that filled it.
 use mathlib.Core.Path.{_≡_, sym, ap, _∙_}
 use mathlib.Core.List.{List}
-use Prim.Native.Nat.{ℕ, zero, suc, _+_, _*_, _%_, _≤_, _<_}
+use Prim.Native.Nat.{ℕ, zero, suc, _+_, _*_, _%_, _<_}
 use native.Mathlib.Omega.{arith}
 use native.Mathlib.Nat.{mod-lt}
 use lib.Arith.{digits-lt}
@@ -22,7 +22,7 @@ tight-small N τ d (suc v) k l = omega (arith, tight-most N τ d v k)
 
 -- the cell of the pair that rotation k joins at input i
 module _ (N u : ℕ) (d : List ℕ) (h : Holding N u d) (k i t at : ℕ) (l : i < N) (turned : t ≡ (i + k) % N) (place : at ≡ i * N + t) where
-  pub pair-output : t < N
+  pair-output : t < N
   pair-output = omega (arith, turned, mod-lt (i + k) (h .some))
 
   pub pair-inside : at < length d

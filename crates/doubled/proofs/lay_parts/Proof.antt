@@ -5,7 +5,6 @@ use Rattle.doubled.proofs.Both.{first-place, second-room, second-laid}
 use borrow.Author.Needs.{needs}
 use Rattle.doubled.proofs.lay_parts.Statement.{statement}
 use Rattle.doubled.proofs.lay_parts.Tie as tie
-use Rattle.rotations.proofs.lay.Reads as lay-reads′
 
 lay-requires : tie.Need-lay-requires
 lay-requires c κs = let p = c .before .before .before .before .before .pre in (p .0, first-place _ _ _ _ _ (c .before .before .before .before .before .args .holds .now) (p .0) (p .2 .wide) _ (p .2))

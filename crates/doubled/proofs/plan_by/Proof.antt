@@ -9,9 +9,9 @@ use lib.Seq.{length-take-le}
 use Rattle.demand.specs.Check.{checkDemand}
 use Rattle.demand.specs.declared.Checked.the-variants.{Fine}
 use Rattle.demand.proofs.Check.{fine-asked}
-use Rattle.rotations.specs.Second.{doubledRule}
 use Rattle.planner.specs.Planned.{Planned}
 use Rattle.planner.proofs.Planned.{planned-faulty}
+use Rattle.rotations.specs.Second.{doubledRule}
 use borrow.Author.Needs.{needs}
 use Rattle.doubled.proofs.plan_by.Statement.{statement}
 use Rattle.doubled.proofs.plan_by.Tie as tie

@@ -1,16 +1,14 @@
 -- Nothing asked for is the empty plan; else there is a u of at least 1 to divide by, and the rotations' holds by the rule make its second part.
-use mathlib.Core.Path.{_≡_, sym, ap, _∙_}
+use mathlib.Core.Path.{_≡_, ap, _∙_}
 use mathlib.Core.List.{List}
 use Prim.Native.Nat.{ℕ, _≤_, _<_}
 use native.Mathlib.Omega.{arith}
-use Rattle.switch.specs.Plan.{Record}
+use lib.ListN.{length}
+use Rattle.rules.proofs.Peels.{length-tab}
+use Rattle.rules.specs.Doubled.{unit, divide}
 use Rattle.demand.specs.declared.Checked.the-variants.{Fine}
 use Rattle.demand.proofs.Check.{fine-asked}
-use Rattle.planner.specs.Planned.{planned}
-use Rattle.rules.proofs.Peels.{length-tab}
-use lib.ListN.{length}
 use Rattle.demand.specs.Check.{checkDemand}
-use Rattle.rules.specs.Doubled.{unit, divide}
 use Rattle.doubled.specs.Parts.{Divided}
 use Rattle.doubled.proofs.Dividing.{unit-some}
 use Rattle.doubled.proofs.Divided.{holding, rule-parts}

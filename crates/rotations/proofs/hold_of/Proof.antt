@@ -1,12 +1,9 @@
-use Prim.Native.Nat.{ℕ}
-use Rattle.rules.specs.Doubled.{rotate}
+-- Each rule's hold is what its definition says, and below u.
+use mathlib.Core.Path.{sym, ap, _∙_}
+use native.Mathlib.Omega.{arith}
+use Rattle.rules.specs.Doubled.{rotate, flat}
 use Rattle.rotations.specs.declared.Rule.{Rule}
 use Rattle.rotations.specs.Second.{holdsBy}
-use mathlib.Core.Path.{_≡_, sym}
--- Each rule's hold is what its definition says, and below u.
-use mathlib.Core.Path.{ap, _∙_}
-use native.Mathlib.Omega.{arith}
-use Rattle.rules.specs.Doubled.{flat}
 use Rattle.rotations.proofs.Holds.{tight-small}
 use borrow.Author.Needs.{needs}
 use Rattle.rotations.proofs.hold_of.Statement.{statement}

@@ -1,15 +1,14 @@
 -- After i turns it is the largest remainder of the rotation's first i pairs.
-use Rattle.rotations.proofs.Holds.{pair-output, pair-inside, pair-cell}
-use mathlib.Core.Path.{_≡_, refl, sym, ap, _∙_}
+use mathlib.Core.Path.{_≡_, sym, ap, _∙_}
 use mathlib.Core.Logic.{⊎-elim}
-use Prim.Native.Nat.{ℕ, _+_, _*_, _-_, _%_, _≤_, _<_}
+use Prim.Native.Nat.{ℕ, _+_, _-_, _%_, _≤_}
 use native.Mathlib.Omega.{arith}
 use native.Mathlib.Nat.{mod-lt}
-use lib.ListN.{length, getD}
 use Rattle.counting.specs.Sum.{most}
 use Rattle.counting.proofs.Most.{most-zero, most-next}
 use Rattle.switch.specs.Demand.{cell}
 use Rattle.rules.specs.Doubled.{rotate, tight}
+use Rattle.rotations.proofs.Holds.{pair-inside, pair-cell}
 use borrow.Author.Needs.{needs}
 use Rattle.rotations.proofs.largest_remainder.Statement.{statement}
 use Rattle.rotations.proofs.largest_remainder.Tie as tie

@@ -1,5 +1,5 @@
-use mathlib.Core.Path.{refl}
 -- Each turn counts one setting's records and adds its hold.
+use mathlib.Core.Path.{refl}
 use Prim.Native.Nat.{_-_, _≤_}
 use native.Mathlib.Omega.{arith}
 use lib.ListN.{getD}

@@ -1,0 +1,2 @@
+pub mod Opposite
+pub mod Table

@@ -1,0 +1,5 @@
+pub mod First
+pub mod Both
+pub mod Divided
+pub mod Answer
+pub mod Promise

@@ -1,0 +1,68 @@
+-- A demand that is refused by itself changes nothing; the rest is decided beside a place for as many quotients.
+use mathlib.Core.Path.{_≡_, sym, _∙_}
+use mathlib.Core.List.{List}
+use Prim.Native.Nat.{ℕ, _≤_}
+use native.Mathlib.Omega.{arith}
+use native.Mathlib.Nat.{mul-le-mul}
+use lib.ListN.{length, take, replicate, length-replicate}
+use lib.Seq.{length-take-le}
+use Rattle.demand.specs.Check.{checkDemand}
+use Rattle.demand.specs.declared.Checked.the-variants.{Fine}
+use Rattle.demand.proofs.Check.{fine-asked}
+use Rattle.grating.proofs.Answer.{faulty-answer}
+use borrow.Author.Needs.{needs}
+use Rattle.grating.proofs.grating_doubled.Statement.{statement}
+use Rattle.grating.proofs.grating_doubled.Tie as tie
+
+-- a demand of this edition has at most 4,096 cells
+few-cells : (N T : ℕ) (d : List ℕ) → checkDemand 64 N d ≡ Fine T → length d ≤ 4096
+few-cells N T d e = let a = fine-asked 64 N T d e in omega (arith, a .size, mul-le-mul (a .few) (a .few))
+
+-- a place for as many quotients
+part : (k : ℕ) → k ≤ 4096 → k ≡ length {A = ℕ} (take k (replicate 4096 0))
+part k l = sym (length-take-le k (replicate 4096 0) (omega (arith, length-replicate {A = ℕ} 4096 0)))
+
+check-demand-requires : tie.Need-check-demand-requires
+check-demand-requires c κs = search needs
+
+enum-known-r : tie.Need-enum-known-r
+enum-known-r c = search needs
+
+enum-known-longest : tie.Need-enum-known-longest
+enum-known-longest c = search needs
+
+array-borrow-prefix-work : tie.Need-array-borrow-prefix-work
+array-borrow-prefix-work c = few-cells _ _ _ (sym (c .before .before .before .check-demand .ensures) ∙ c .before .longest .given .1)
+
+slice-aggregate-plan-fine : tie.Need-slice-aggregate-plan-fine
+slice-aggregate-plan-fine c = part _ (few-cells _ _ _ (sym (c .before .before .before .before .check-demand .ensures) ∙ c .before .before .longest .given .1))
+
+plan-fine-requires : tie.Need-plan-fine-requires
+plan-fine-requires c κs =
+    let e = sym (c .before .before .before .before .before .check-demand .ensures) ∙ c .before .before .before .longest .given .1 in
+    (e, sym (part _ (few-cells _ _ _ e)))
+
+returns : tie.Need-returns
+returns c =
+    let a = c .before .before .before .before .before .before .args in
+    faulty-answer 64 0 (a .n) (a .cells .now) (a .plan .now) _ (sym (c .before .before .before .check-demand .ensures) ∙ c .before .r .given .1)
+
+same-length : tie.Need-same-length
+same-length c = search needs
+
+returns-2 : tie.Need-returns-2
+returns-2 c = search needs
+
+pub grating-doubled-spec : {M : Type 1} → statement M
+grating-doubled-spec =
+    tie.close
+    (tie.spec
+    check-demand-requires
+    enum-known-r
+    enum-known-longest
+    array-borrow-prefix-work
+    slice-aggregate-plan-fine
+    plan-fine-requires
+    returns
+    same-length
+    returns-2)

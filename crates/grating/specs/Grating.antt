@@ -1,0 +1,41 @@
+-- The doubled plan for the grating fabric, and what the call that writes it answers. Definitions only.
+use mathlib.Core.Bool.{cond}
+use mathlib.Core.List.{List, [], map}
+use Prim.Native.Nat.{ℕ}
+use lib.ListN.{length}
+use lib.Dec.{ltb, eqb}
+use Rattle.switch.specs.declared.Outcome.the-variants.{Done}
+use Rattle.switch.specs.declared.Refusal.the-variants.{Room}
+use Rattle.switch.specs.Answer.{planCounts}
+use Rattle.switch.specs.Demand.{cell, longest}
+use Rattle.switch.specs.Plan.{Record, total}
+use Rattle.demand.specs.Check.{checkDemand}
+use Rattle.rules.specs.Exact.{exactPlan}
+use Rattle.rules.specs.Doubled.{unit, divide, stretch, turns, tight, doubledBy}
+use Rattle.records.specs.Bytes.{whole, bytes, laid}
+use Rattle.planner.specs.Planned.{Planned, refuses, afterCheck}
+use Rattle.antirotations.specs.Opposite.{opposite}
+
+-- the doubled plan whose second part is the anti-rotations, each held for the largest remainder among its pairs and left out when that is 0
+unfoldable pub gratingPlan : ℕ → ℕ → List ℕ → List Record
+gratingPlan W N d = doubledBy W N (opposite N) (tight N (opposite N) d) d
+
+-- its first part: the exact plan of the cells divided by u, each hold multiplied by u; empty if T is 0
+unfoldable pub firstPart : ℕ → ℕ → List ℕ → List Record
+firstPart W N d =
+    let u = unit N (longest N (cell N d)) in
+    cond (eqb (longest N (cell N d)) 0) [] (map (stretch u) (exactPlan W N (divide u d)))
+
+-- its second part; empty if T is 0
+unfoldable pub secondPart : ℕ → ℕ → List ℕ → List Record
+secondPart W N d = cond (eqb (longest N (cell N d)) 0) [] (turns W (opposite N) (tight N (opposite N) d (unit N (longest N (cell N d)))) N 0)
+
+-- code 5: the buffer holds fewer whole records than the plan has; else its records at the buffer's start, and nothing else touched
+unfoldable pub roomed : ℕ → ℕ → ℕ → List Record → List ℕ → Planned
+roomed W e N p buf =
+    cond (ltb (whole W buf) (length p)) (refuses (Room (length p)) buf)
+    (record { outcome = Done (planCounts (length p) 0 (total p)); bytes = laid buf 0 (bytes e N p) })
+
+-- the planner's refusals in its order, 1, 2, 3 and 5; else records and total of the plan that is written
+unfoldable pub gratingPlanned : ℕ → ℕ → ℕ → List ℕ → List ℕ → Planned
+gratingPlanned W e N d buf = afterCheck (checkDemand W N d) (λ T. roomed W e N (gratingPlan W N d) buf) buf

@@ -1,0 +1,2 @@
+pub mod Grating
+pub mod Parts

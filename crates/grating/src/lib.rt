@@ -1,0 +1,161 @@
+// Plans for the grating fabric: the doubled plan with anti-rotations in the place of rotations. A layer above the planner that relies on
+// nothing but what the planner promises: its first part is what the public exact call writes for the divided demand. It promises its whole
+// answer and every byte of the lent plan, for any N and any cells; all refusals are known before the first byte is written. What a plan
+// does to the wavelengths is told by the crate wavelengths.
+use antirotations::find_holds;
+use antirotations::lay;
+use antirotations::measure;
+use demand::Checked;
+use demand::check_demand;
+use exact::exact_plan;
+use plans::record_at;
+use records::EDITION;
+use records::HEAD;
+use records::OUTPUTS;
+use records::RECORD;
+use records::hold_of;
+use records::put_record;
+use switch::Counts;
+use switch::Outcome;
+use switch::PORTS;
+use switch::Refusal;
+use switch::counts_of;
+ghost use mathlib.Core.Path.{_≡_};
+ghost use mathlib.Core.List.{_++_};
+ghost use Prim.Native.Nat.{_+_, _*_, _<_, _≤_};
+ghost use lib.ListN.{length};
+ghost use Rattle.switch.specs.declared.Outcome.the-variants.{Done};
+ghost use Rattle.switch.specs.Answer.{planCounts};
+ghost use Rattle.demand.specs.declared.Checked.the-variants.{Fine};
+ghost use Rattle.demand.specs.Check.{checkDemand};
+ghost use Rattle.rules.specs.Doubled.{unit, divide};
+ghost use Rattle.switch.specs.Plan.{total};
+ghost use Rattle.records.specs.Bytes.{planFrom, bytes, laid};
+ghost use Rattle.antirotations.specs.Opposite.{antiRotations};
+ghost use Rattle.grating.specs.Grating.{gratingPlan, roomed, gratingPlanned};
+ghost use Rattle.grating.specs.Parts.{stretched, First, Parted};
+
+// The cells of a switch of 64 ports.
+const CELLS: usize = 4096;
+
+// The first part has no more records than there are ports: 64 records of 68 bytes.
+const FIRST: usize = 4352;
+
+// The doubled plan of a demand for the grating fabric, written at the start of the plan buffer: refusals 1, 2, 3 and 5, else its records and total.
+pub fn grating_doubled(n: usize, cells: &[u32], plan: &mut [u8]) -> Outcome
+    ensures { λ r. ⌜ (r ≡ gratingPlanned 64 0 n (now (cells .entry)) (now (plan .entry)) .outcome) × (now (plan .exit) ≡ gratingPlanned 64 0 n (now (cells .entry)) (now (plan .entry)) .bytes) ⌝ }
+{
+    match check_demand(n, PORTS, cells) {
+        Checked::Faulty(r) => Outcome::Refused(r),
+        Checked::Fine(longest) => {
+            let mut work = [0u32; CELLS];
+            let size = cells.len();
+            plan_fine(n, longest, cells, &mut work[..size], plan)
+        }
+    }
+}
+
+// The same for a demand that nothing but the room can refuse. If T is 0, the plan is empty, and there is no u to divide by.
+fn plan_fine(n: usize, longest: u64, cells: &[u32], work: &mut [u32], plan: &mut [u8]) -> Outcome
+    requires { ⌜ (checkDemand 64 n (now cells) ≡ Fine longest) × (length (now work) ≡ length (now cells)) ⌝ }
+    ensures { λ r. ⌜ (r ≡ gratingPlanned 64 0 n (now (cells .entry)) (now (plan .entry)) .outcome) × (now (plan .exit) ≡ gratingPlanned 64 0 n (now (cells .entry)) (now (plan .entry)) .bytes) ⌝ }
+{
+    if longest == 0 {
+        return done(0, 0);
+    }
+    let unit = unit_of(n, longest);
+    quotients(cells, work, unit);
+    let mut first = [0u8; FIRST];
+    let made = counts_of(exact_plan(n, work, &mut first));
+    plan_parts(n, cells, unit, &first, made.records, made.total, plan)
+}
+
+// u is T / N rounded up.
+fn unit_of(n: usize, longest: u64) -> u32
+    requires { ⌜ (0 < n) × (n ≤ 64) × (longest ≤ 65535) ⌝ }
+    ensures { λ r. ⌜ r ≡ unit n longest ⌝ }
+{
+    let ports = n as u64;
+    ((longest + (ports - 1)) / ports) as u32
+}
+
+// The cells divided by u, rounded down.
+fn quotients(cells: &[u32], work: &mut [u32], unit: u32)
+    requires { ⌜ (length (now work) ≡ length (now cells)) × (0 < unit) ⌝ }
+    ensures { λ _. ⌜ now (work .exit) ≡ divide unit (now (cells .entry)) ⌝ }
+{
+    for k in 0..cells.len() {
+        work[k] = cells[k] / unit;
+    }
+}
+
+// The same for a first part that is made: so many records at the start of `first`, with the sum of their holds.
+fn plan_parts(
+    n: usize,
+    cells: &[u32],
+    unit: u32,
+    first: &[u8],
+    records: usize,
+    total: u64,
+    plan: &mut [u8],
+) -> Outcome
+    requires { ⌜ Parted 64 n (now cells) unit (now first) records total ⌝ }
+    ensures { λ r. ⌜ (r ≡ roomed 64 0 n (gratingPlan 64 n (now (cells .entry))) (now (plan .entry)) .outcome) × (now (plan .exit) ≡ roomed 64 0 n (gratingPlan 64 n (now (cells .entry))) (now (plan .entry)) .bytes) ⌝ }
+{
+    let mut holds = [0u16; PORTS];
+    find_holds(n, cells, unit, &mut holds);
+    lay_parts(n, unit, first, records, total, &holds, plan)
+}
+
+// Both parts, once it is known that there is room for both.
+fn lay_parts(
+    n: usize,
+    unit: u32,
+    first: &[u8],
+    records: usize,
+    total: u64,
+    holds: &[u16],
+    plan: &mut [u8],
+) -> Outcome
+    requires { ⌜ (0 < n) × (n ≤ 64) × (n ≤ length (now holds)) × First 64 unit (now first) records total ⌝ }
+    ensures { λ r. ⌜ (r ≡ roomed 64 0 n (stretched 64 unit (now (first .entry)) records ++ antiRotations 64 n (now (holds .entry))) (now (plan .entry)) .outcome) × (now (plan .exit) ≡ roomed 64 0 n (stretched 64 unit (now (first .entry)) records ++ antiRotations 64 n (now (holds .entry))) (now (plan .entry)) .bytes) ⌝ }
+{
+    let second = measure(n, holds);
+    let need = records + second.records;
+    if plan.len() / RECORD < need {
+        return Outcome::Refused(Refusal::Room(need));
+    }
+    lay_first(n, unit, first, records, plan);
+    lay(n, holds, plan, records * RECORD);
+    done(need, total * unit as u64 + second.total)
+}
+
+// The first part at the plan's start, each hold multiplied by u.
+fn lay_first(n: usize, unit: u32, first: &[u8], records: usize, plan: &mut [u8])
+    requires { ⌜ (n ≤ 64) × First 64 unit (now first) records (total (planFrom 64 (now first) 0 records)) × (records * 68 ≤ length (now plan)) ⌝ }
+    ensures { λ _. ⌜ now (plan .exit) ≡ laid (now (plan .entry)) 0 (bytes 0 n (stretched 64 unit (now (first .entry)) records)) ⌝ }
+{
+    for k in 0..records {
+        let rec = record_at(first, OUTPUTS, k);
+        let hold = wide(hold_of(rec)) * unit;
+        put_record(plan, k * RECORD, EDITION, hold as u16, n, &rec[HEAD..]);
+    }
+}
+
+// A plan of so many records and so long in all is written.
+fn done(records: usize, total: u64) -> Outcome
+    ensures { λ r. ⌜ r ≡ Done (planCounts records 0 total) ⌝ }
+{
+    Outcome::Done(Counts {
+        records: records,
+        longest: 0,
+        total: total,
+        length: 0,
+    })
+}
+
+fn wide(hold: u16) -> u32
+    ensures { λ r. ⌜ r ≡ hold ⌝ }
+{
+    hold as u32
+}

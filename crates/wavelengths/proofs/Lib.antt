@@ -1,0 +1,3 @@
+pub mod Shared
+pub mod Report
+pub mod Promise

@@ -1,0 +1,78 @@
+-- Each return is the case of the definition whose tests led there; what is written is the report of the records that the check has passed.
+use mathlib.Core.Path.{sym, ap, _∙_}
+use Prim.Native.Nat.{_*_}
+use native.Mathlib.Omega.{arith}
+use Rattle.switch.specs.declared.Counts.{Counts}
+use Rattle.records.specs.Bytes.{planFrom, laid}
+use Rattle.records.specs.Write.{Written}
+use Rattle.plans.specs.declared.Edition.{Edition}
+use Rattle.plans.specs.Read.{firstEdition, checking}
+use Rattle.plans.proofs.Read.{first-bounded}
+use Rattle.wavelengths.specs.Shared.{gratingReport}
+use Rattle.wavelengths.proofs.Report.{report-refused, report-short, report-done, fine-plan}
+use borrow.Author.Needs.{needs}
+use Rattle.wavelengths.proofs.grating_report.Statement.{statement}
+use Rattle.wavelengths.proofs.grating_report.Tie as tie
+
+first-edition-requires : tie.Need-first-edition-requires
+first-edition-requires c κs = search needs
+
+check-plan-requires : tie.Need-check-plan-requires
+check-plan-requires c κs = rw (c .first-edition .ensures) first-bounded
+
+enum-known-checked : tie.Need-enum-known-checked
+enum-known-checked c = search needs
+
+enum-told : tie.Need-enum-told
+enum-told c = search needs
+
+returns : tie.Need-returns
+returns c =
+    let a = c .before .before .before .before .before .before .args in
+    let r = sym (c .enum-told .given .1) ∙ c .before .before .check-plan .ensures ∙ ap (λ (e : Edition). checking e (a .n) (a .plan .now)) (c .before .before .before .first-edition .ensures) in
+    let q = report-refused firstEdition (a .n) (a .plan .now) (a .report .now) r in
+    (c .enum-told .given .1 ∙ ap (λ (w : Written). w .answer) q, ap (λ (w : Written). w .bytes) q)
+
+returns-2 : tie.Need-returns-2
+returns-2 c =
+    let a = c .before .before .before .before .before .before .before .before .args in
+    let f = sym (c .before .before .checked .given .1) ∙ c .before .before .before .before .check-plan .ensures ∙ ap (λ (e : Edition). checking e (a .n) (a .plan .now)) (c .before .before .before .before .before .first-edition .ensures) in
+    let q = report-short firstEdition (a .n) (a .plan .now) (a .report .now) f (c .if1 .taken) in
+    (ap (λ (w : Written). w .answer) q, ap (λ (w : Written). w .bytes) q)
+
+report-records-requires : tie.Need-report-records-requires
+report-records-requires c κs =
+    let a = c .before .before .before .before .before .before .before .before .before .args in
+    let f = sym (c .before .before .before .checked .given .1) ∙ c .before .before .before .before .before .check-plan .ensures ∙ ap (λ (e : Edition). checking e (a .n) (a .plan .now)) (c .before .before .before .before .before .before .first-edition .ensures) in
+    let k = fine-plan (a .n) (a .plan .now) f in
+    let e = ap (λ (x : Counts). x .records) (k .counts) in
+    (k .some, k .few, omega arith, omega (arith, e), omega (arith, c .before .if1 .left))
+
+same-length : tie.Need-same-length
+same-length c = search needs
+
+returns-3 : tie.Need-returns-3
+returns-3 c =
+    let a = c .before .before .before .before .before .before .before .before .before .before .before .before .args in
+    let f = sym (c .before .before .before .before .before .before .checked .given .1) ∙ c .before .before .before .before .before .before .before .before .check-plan .ensures ∙ ap (λ (e : Edition). checking e (a .n) (a .plan .now)) (c .before .before .before .before .before .before .before .before .before .first-edition .ensures) in
+    let k = fine-plan (a .n) (a .plan .now) f in
+    let q = report-done firstEdition (a .n) (a .plan .now) (a .report .now) f (omega (arith, c .before .before .before .before .if1 .left)) in (
+      ap (λ (w : Written). w .answer) q,
+      c .before .before .report-records .ensures
+          ∙ ap (λ (x : Counts). laid (a .report .now) 0 (gratingReport (a .n) (planFrom 64 (a .plan .now) 0 (x .records)))) (k .counts)
+          ∙ ap (λ (w : Written). w .bytes) q,
+    )
+
+pub grating-report-spec : {M : Type 1} → statement M
+grating-report-spec =
+    tie.close
+    (tie.spec
+    first-edition-requires
+    check-plan-requires
+    enum-known-checked
+    enum-told
+    returns
+    returns-2
+    report-records-requires
+    same-length
+    returns-3)
