@@ -11,8 +11,10 @@ use Rattle.switch.specs.Answer.{planCounts, demandCounts}
 use Rattle.switch.specs.Demand.{cell, longest}
 use Rattle.switch.specs.Plan.{Record, grant, total}
 use Rattle.switch.specs.Empty.{allSlots, emptySlots, AllFull}
+use Rattle.switch.proofs.Plan.{least-total}
 use Rattle.switch.proofs.Empty.{full-empty, empty-none}
 use Rattle.demand.specs.Check.{checkDemand}
+use Rattle.demand.specs.Lines.{Short}
 use Rattle.demand.specs.declared.Checked.the-variants.{Fine}
 use Rattle.demand.proofs.Check.{fine-asked}
 use Rattle.rules.specs.Exact.{exactPlan}
@@ -85,6 +87,15 @@ module _ (W N T u : ℕ) (d q H : List ℕ) (v : Divided W N T u d q) (e : ℕ) 
       -- what both come to
       pub both-total : S * u + sum ≡ total (parts W N u q H)
       both-total = omega (arith, parts-total W N S u q H (quotient-cells W N T u d q v S longest-is) (asked W N T u d q v .few), m .held W)
+
+      -- T is no more than that, and twice T is
+      pub both-counted : Doubled N d (parts W N u q H) → Short N d × (longest N (cell N d) ≤ S * u + sum) × (S * u + sum ≤ 131070)
+      both-counted k =
+          let a = asked W N T u d q v in (
+            record { sized = record { few = omega (arith, a .few, v .narrow); room = omega (arith, a .size) }; lines = omega (arith, a .longest-is, a .small) },
+            omega (arith, both-total, least-total N (cell N d) (parts W N u q H) (k .plan) (k .covers)),
+            omega (arith, both-total, k .short, a .longest-is, a .small),
+          )
 
       -- both parts are laid, and x slots of them are empty
       pub both-answer : Doubled N d (parts W N u q H) → (r : ℕ) (plan' : List ℕ) → r ≡ length (exactPlan W N q') → plan' ≡ laid plan 0 (bytes e N (parts W N u q' H))

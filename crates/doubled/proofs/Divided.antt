@@ -12,13 +12,10 @@ use Rattle.demand.specs.Check.{Asked}
 use Rattle.demand.specs.Lines.{Sized}
 use Rattle.demand.proofs.Check.{fine-asked}
 use Rattle.rules.specs.Exact.{tab, exactPlan}
-use Rattle.rules.specs.Doubled.{unit, divide, stretch, rotate, turns, doubledBy, doubledPlan, Doubled}
+use Rattle.rules.specs.Doubled.{unit, divide, stretch, rotate, turns, doubledBy}
 use Rattle.rules.proofs.Doubled.{length-divide, longest-divide}
-use Rattle.rules.proofs.Rotate.{rotate-joins, doubled}
-use Rattle.rules.proofs.Tight.{doubled-tight}
 use Rattle.peel.specs.Standing.{Cells}
 use Rattle.rotations.specs.declared.Rule.{Rule}
-use Rattle.rotations.specs.declared.Rule.the-variants.{Tight, Every}
 use Rattle.rotations.specs.Second.{holdsBy, doubledRule, Holding}
 use Rattle.rotations.proofs.Holds.{table-turns}
 use Rattle.doubled.specs.Parts.{parts, Divided}
@@ -48,11 +45,6 @@ module _ (W N T u : ℕ) (d q : List ℕ) (v : Divided W N T u d q) where
       (ap (λ (x : ℕ). map (stretch x) (exactPlan W N (divide x d)) ++ turns W (rotate N) (holdsBy r N d x) N 0) (ap (unit N) (sym (asked .longest-is)) ∙ sym (v .unit-is))
       ∙ ap (λ (p : List Record). map (stretch u) (exactPlan W N (divide u d)) ++ p) (table-turns W N (holdsBy r N d u) H e)
       ∙ ap (λ (x : List ℕ). parts W N u x H) (sym (v .quotients-are)))
-
-  -- both bounds and the cover, by either rule
-  pub rule-doubled : (r : Rule) → Doubled N d (doubledRule r W N d)
-  rule-doubled Tight = doubled-tight W N (asked .some) (asked .few) (rotate N) (rotate-joins N (asked .some)) d (holding .room)
-  rule-doubled Every = unfold doubledPlan in doubled W N (asked .some) (asked .few) d (holding .room)
 
   module _ (S : ℕ) (longest-is : S ≡ longest N (cell N q)) where
     -- the quotients' T, times u, is at most T
