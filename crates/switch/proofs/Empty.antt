@@ -1,6 +1,6 @@
 -- Empty slots: where a plan covers, what it grants in all is what was asked and what is empty; and a full setting grants its hold once for each input.
 use mathlib.Core.Path.{_≡_, ap}
-use mathlib.Core.List.{List, [], _∷_}
+use mathlib.Core.List.{List}
 use Prim.Native.Nat.{ℕ, _+_, _*_, _-_, _≤_, _<_}
 use native.Mathlib.Omega.{arith}
 use Rattle.counting.specs.Sum.{sum}

@@ -1,7 +1,7 @@
 -- No cell before k is granted less than asked, so what the scan from cell 0 finds is what the scan from cell k finds; and up to k the slots
 -- granted beyond what is asked are summed, each below 2^32, so that 16,384 of them cannot wrap.
 use mathlib.Core.Path.{_≡_, refl, sym, ap, _∙_}
-use Prim.Native.Nat.{ℕ, _+_, _*_, _-_, _≤_}
+use Prim.Native.Nat.{ℕ, _*_, _-_, _≤_}
 use native.Mathlib.Nat.{mul-le-mul}
 use native.Mathlib.Omega.{arith}
 use lib.ListN.{length, getD}

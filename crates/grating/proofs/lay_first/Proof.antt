@@ -74,7 +74,7 @@ loop-again c =
     let l = c .before .before .before .before .before .before .before .before .before .loop in
     let is = c .before .before .before .before .before .before .before .record-at .ensures in
     let h : c .before .before .before .before .before .wide .result * a .unit ≡ longer 64 (a .first .now) (a .unit) (a .records) (l .k) .hold =
-        ap (λ (x : ℕ). x * a .unit) (c .before .before .before .before .before .wide .ensures ∙ c .before .before .before .before .before .before .hold-of .ensures ∙ ap hold is) in
+    ap (λ (x : ℕ). x * a .unit) (c .before .before .before .before .before .wide .ensures ∙ c .before .before .before .before .before .before .hold-of .ensures ∙ ap hold is) in
     let o = part-outputs (c .before .before .before .before .before .before .before .record-at .result .now) ∙ ap outputs is in
     let put = c .before .before .put-record .ensures ∙ ap₂ (λ (x : ℕ) (s : List ℕ). laid (l .plan) (l .k * 68) (encode 0 x (a .n) s)) h o in
     (omega arith, laying-next 64 (a .first .now) (a .unit) (a .records) (c .before .before .before .before .before .before .before .before .before .before .before .before .pre .1 .room) 0 (a .n) (a .plan .now) (l .plan) (l .k) (l .inv .1) (omega arith) _ put)
