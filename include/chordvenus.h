@@ -50,8 +50,8 @@ enum {
     CV_LINE = 3,        /* a line sums over 65,535; the first such line, inputs before outputs:
                            side says which, place is its number there */
     CV_LONGEST = 4,     /* quick cover only: T over 1,024; 0 */
-    CV_ROOM = 5,        /* the plan buffer holds fewer whole records than the plan has; records
-                           needed */
+    CV_ROOM = 5,        /* the plan buffer holds fewer whole records than the plan has, or the report
+                           fewer bytes; records needed */
     CV_NOT_FINITE = 6,  /* wish is a NaN or an infinity; record */
     CV_BELOW_ZERO = 7,  /* wish below zero; record */
     CV_ABOVE_MOST = 8,  /* wish above 65,535; record */
@@ -148,6 +148,30 @@ cv_answer cv_doubled_every_rotation(uint64_t n, const uint32_t *cells, size_t ce
 cv_answer cv_quick(uint64_t n, const uint32_t *cells, size_t cells_len, uint8_t *plan, size_t plan_len);
 
 /*
+ * The doubled plan for the grating fabric, on which input i reaches output j by wavelength
+ * (j - i) mod N. With u = T / N rounded up: the exact plan of the cells divided by u, each hold
+ * times u; then anti-rotations, k from 0 to N - 1: input i to output (k - i) mod N, held for the
+ * largest remainder (cell modulo u) among its pairs, left out where that is 0. Each of these uses
+ * a wavelength at most once when N is odd and at most twice when N is even; the records before them
+ * may use it more often, and cv_grating_report says so. At most 2 * N records, total hold at most
+ * 2 * T - 1; empty when T is 0.
+ * Codes:  1, 2, 3, 5.
+ * Writes: the plan's records, at the start of plan; no later byte. The demand is only read.
+ * Done:   records, total.
+ */
+cv_answer cv_grating_doubled(uint64_t n, const uint32_t *cells, size_t cells_len, uint8_t *plan, size_t plan_len);
+
+/*
+ * What the records of a plan from anywhere do on the grating fabric: for each record the most
+ * inputs that share one wavelength (j - i) mod N. Idle inputs are not counted; all idle is 0.
+ * Codes:  1, 9, 10, 11, then 5 where report has fewer bytes than the plan has records, place the
+ *         records.
+ * Writes: one byte for each record, in order, at the start of report; no later byte.
+ * Done:   records, total.
+ */
+cv_answer cv_grating_report(uint64_t n, const uint8_t *plan, size_t plan_len, uint8_t *report, size_t report_len);
+
+/*
  * Checks a plan from anywhere against a demand.
  * Codes:  1, 2, 3, 9, 10, 11, 13.
  * Writes: nothing.
@@ -164,6 +188,17 @@ cv_answer cv_check(uint64_t n, const uint32_t *cells, size_t cells_len, const ui
  * Done:   length, records, total.
  */
 cv_answer cv_length(uint64_t n, const uint8_t *plan, size_t plan_len, uint16_t d);
+
+/*
+ * Joins equal settings: the plan is written anew into a second buffer, settings in order of first
+ * appearance, each held for the sum of its holds; a sum above 65,535 is records of 65,535 followed
+ * by what is left, if any. Every pair is granted what it was granted, total hold is the same, and
+ * joining the joined plan gives it again. Never more records than were read.
+ * Codes:  1, 9, 10, 11, 5.
+ * Writes: the joined plan's records, at the start of joined; no later byte. The plan is only read.
+ * Done:   records and total of the joined plan.
+ */
+cv_answer cv_join(uint64_t n, const uint8_t *plan, size_t plan_len, uint8_t *joined, size_t joined_len);
 
 /*
  * Writes one record. All 64 outputs are given; those of inputs from N on are CV_IDLE.

@@ -39,10 +39,15 @@ def fitting(letter, name, n, cells, spare, more):
 def written(letter, title, n, cells, room, more, answer, buffer):
     """The steps and the lines of a call whose answer and buffer are known."""
     steps = tape.lay_cells(cells) + tape.step(letter, more, n, room, title.encode())
+    return steps, lines(title, n, answer, buffer)
+
+
+def lines(title, n, answer, buffer):
+    """What is printed of a call that writes a plan: its answer, a checksum of the lent buffer, and the plan's records where they are few."""
     text = f"{title}{tape.answer_text(answer)} sum {tape.checksum(buffer)}\n"
     if answer.records <= SHORT and not answer.code:
         text += "".join(ref.record_line(hold, outputs[:n]) + "\n" for hold, outputs in ref.read_plan(n, buffer[: answer.records * ref.RECORD])[1])
-    return steps, text
+    return text
 
 
 # ---- Demands

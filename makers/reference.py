@@ -439,6 +439,82 @@ def plan_length(n, plan, d):
     return Answer(records=len(records), total=total, length=total + d * moves)
 
 
+# ---- Joining
+
+
+def join_list(records):
+    """Settings in order of first appearance, holds summed, a sum above 65,535 as records of 65,535 followed by what is left."""
+    sums = {}
+    for hold, outputs in records:
+        sums[tuple(outputs)] = sums.get(tuple(outputs), 0) + hold
+    plan = []
+    for outputs, hold in sums.items():
+        while hold > 65_535:
+            plan.append((65_535, list(outputs)))
+            hold -= 65_535
+        plan.append((hold, list(outputs)))
+    return plan
+
+
+def join_plan(n, plan, buffer):
+    """Joins equal settings into the lent buffer: the answer, and the buffer afterwards."""
+    refused, records = read_plan(n, plan)
+    if refused:
+        return refused, buffer
+    joined = join_list(records)
+    if len(buffer) // RECORD < len(joined):
+        return Answer(5, len(joined)), buffer
+    written = b"".join(record_bytes(hold, n, outputs) for hold, outputs in joined)
+    return Answer(records=len(joined), total=total_hold(joined)), written + buffer[len(written) :]
+
+
+# ---- The grating fabric
+
+
+def most_shared(n, outputs):
+    """The most inputs that share one wavelength (j - i) mod N, idle inputs not counted, all idle being 0."""
+    used = [(j - i) % n for i, j in enumerate(outputs[:n]) if j != IDLE]
+    return max((used.count(w) for w in used), default=0)
+
+
+def grating_report(n, plan, report):
+    """One byte for each record of a plan, in order, at the start of the lent report."""
+    refused = refused_plan(n, plan)
+    if refused:
+        return refused, report
+    refused, records = read_plan(n, plan)
+    if refused:
+        return refused, report
+    if len(report) < len(records):
+        return Answer(5, len(records)), report
+    numbers = bytes(most_shared(n, outputs) for _, outputs in records)
+    return Answer(records=len(records), total=total_hold(records)), numbers + report[len(numbers) :]
+
+
+def grating_list(n, cells):
+    """The exact plan of the quotients, holds times u; then input i to output (k - i) mod N, k from 0 to N - 1, each held for
+    the largest remainder among its pairs and left out when that is 0."""
+    longest = longest_line(n, cells)
+    if longest == 0:
+        return []
+    u = -(-longest // n)
+    plan = [(hold * u, outputs) for hold, outputs in exact_list(n, [cell // u for cell in cells])]
+    for k in range(n):
+        outputs = [(k - i) % n for i in range(n)]
+        hold = max(cells[i * n + j] % u for i, j in enumerate(outputs))
+        plan += [(hold, outputs)] if hold else []
+    return plan
+
+
+def grating_doubled(n, cells, buffer):
+    """Refusals are the planner's; the answer has records and total of the plan it writes."""
+    refused = refused_demand(n, cells)
+    if refused:
+        return refused, buffer
+    answer, buffer = planned(n, cells, grating_list(n, cells), buffer)
+    return answer._replace(longest=0, empty=0), buffer
+
+
 # ---- The lister
 
 
@@ -581,8 +657,46 @@ def laws(n, cells):
         same("the tail", written[-5:], room[-5:])
         same("too little room", method(n, cells, room[: len(plan) * RECORD - 1]), (Answer(5, len(plan)), room[: len(plan) * RECORD - 1])) if plan else None
         same("read back", read_plan(n, written[:-5])[1], [(hold, outputs + [IDLE] * (PORTS - n)) for hold, outputs in plan])
-        runs = len(list(itertools.groupby(outputs for _, outputs in plan)))
-        same("length", plan_length(n, written[:-5], 7).length, total_hold(plan) + 7 * runs)
+        moved = sum(1 for k, (_, outputs) in enumerate(plan) if k == 0 or outputs != plan[k - 1][1])
+        same("length", plan_length(n, written[:-5], 7).length, total_hold(plan) + 7 * moved)
+
+
+def join_laws(rng, n):
+    """Ask 1's promises for a random plan of few settings."""
+    settings = [rng.sample(range(n), n) + [IDLE] * (PORTS - n) for _ in range(3)] + [[IDLE] * PORTS]
+    records = [(rng.choice([1, 7, 32_768, 65_535]), rng.choice(settings)) for _ in range(rng.randint(0, 30))]
+    joined = join_list(records)
+    same("joined grants", grants(n, joined), grants(n, records))
+    same("joined total", total_hold(joined), total_hold(records))
+    same("joined twice", join_list(joined), joined)
+    same("no longer", len(joined) <= len(records), True)
+    same("each setting once but for records of 65,535", all(hold == 65_535 for (hold, a), (_, b) in zip(joined, joined[1:]) if a == b), True)
+    same("first appearances", [list(o) for o in dict.fromkeys(tuple(o) for _, o in joined)], [list(o) for o in dict.fromkeys(tuple(o) for _, o in records)])
+    plan = b"".join(record_bytes(hold, n, outputs) for hold, outputs in records)
+    room = bytes([170] * (RECORD * len(joined) + 5))
+    answer, written = join_plan(n, plan, room)
+    same("the joined plan reads back", read_plan(n, written[:-5]), (None, joined))
+    same("the tail", written[-5:], room[-5:])
+    same("joined again", join_plan(n, written[:-5], room), (answer, written))
+
+
+def grating_laws(n, cells):
+    """What Ask 6 promises of one demand."""
+    longest, plan = longest_line(n, cells), grating_list(n, cells)
+    same("grating records", len(plan) <= 2 * n, True)
+    same("grating total", total_hold(plan) <= max(0, 2 * longest - 1), True)
+    same("grating covers", all(granted >= asked for granted, asked in zip(grants(n, plan), cells)), True)
+    answer, written = grating_doubled(n, cells, bytes([170] * (RECORD * 2 * n)))
+    written = written[: answer.records * RECORD]
+    same("grating empty slots", empty_slots(n, cells, plan), n * total_hold(plan) - sum(cells))
+    same("the checker", check_plan(n, cells, written), answer._replace(longest=longest, empty=empty_slots(n, cells, plan)))
+    counts, report = grating_report(n, written, bytes([170] * (2 * n + 3)))
+    same("the report's counts", counts, answer)
+    same("the report's tail", report[len(plan) :], bytes([170] * (2 * n + 3 - len(plan))))
+    first = len(exact_list(n, [cell // -(-longest // n) for cell in cells])) if longest else 0
+    same("the second part", all(number <= 2 - n % 2 for number in report[first : len(plan)]), True)
+    same("a rotation", most_shared(n, [(i + 1) % n for i in range(n)]), n)
+    same("all idle", most_shared(n, [IDLE] * n), 0)
 
 
 def random_demand(rng, n, most, share):
@@ -595,10 +709,16 @@ def selftest():
     rng = random.Random(68)
     for _ in range(400):
         n = rng.choice([1, 2, 2, 3, 3, 4, 4, 5, 6, 7])
-        laws(n, random_demand(rng, n, rng.choice([1, 2, 5, 40]), rng.choice([0.2, 0.5, 1.0])))
+        cells = random_demand(rng, n, rng.choice([1, 2, 5, 40]), rng.choice([0.2, 0.5, 1.0]))
+        laws(n, cells)
+        grating_laws(n, cells)
     for n in (12, 16):
-        laws(n, random_demand(rng, n, 9, 0.6))
-    print("the examples, the edges and the laws on 402 demands hold")
+        cells = random_demand(rng, n, 9, 0.6)
+        laws(n, cells)
+        grating_laws(n, cells)
+    for _ in range(400):
+        join_laws(rng, rng.choice([1, 2, 3, 5, 8, 64]))
+    print("the examples, the edges and the laws on 402 demands and 400 plans hold")
 
 
 if __name__ == "__main__":

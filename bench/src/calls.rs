@@ -2,7 +2,8 @@
 
 use crate::demands::{Demand, ROOM};
 use crate::timing::Pair;
-use reference::RECORD_SIZE;
+use cases::Rng;
+use reference::{MOST_RECORDS, RECORD_SIZE};
 use std::hint::black_box;
 
 #[cfg(feature = "proved")]
@@ -12,15 +13,18 @@ use chordvenus as proved;
 use reference as proved;
 
 /// The calls in the order of the header, with what one timed run does.
-pub const CALLS: [(&str, &str); 11] = [
+pub const CALLS: [(&str, &str); 14] = [
     ("wish", "one call for each pair with slots"),
     ("wishes", "a list of the pairs with slots"),
     ("exact", "one plan"),
     ("doubled", "one plan"),
     ("doubled_every_rotation", "one plan"),
     ("quick", "one plan, cells scaled so that T is at most 1,024"),
+    ("grating_doubled", "one plan"),
+    ("grating_report", "the exact plan"),
     ("check", "the exact plan against its demand"),
     ("length", "the exact plan"),
+    ("join", "8,192 records: the exact plan over and over"),
     ("write", "one record"),
     ("open", "the exact plan"),
     ("step_at", "one call for each record of the exact plan"),
@@ -56,6 +60,25 @@ macro_rules! planner {
     };
 }
 
+/// Joining a plan, with room for as many records as it has.
+fn join<'a>(n: u64, plan: Vec<u8>) -> Pair<'a> {
+    both!(library => {
+        let (plan, mut joined) = (plan.clone(), vec![0; plan.len()]);
+        move || run(library::join(n, black_box(&plan), &mut joined))
+    })
+}
+
+/// Joining 8,192 records, of which so many have a setting that none before them has.
+pub fn join_settings<'a>(n: usize, settings: usize) -> Pair<'a> {
+    let mut rng = Rng::new(1);
+    let mut plan = cases::plan(&mut rng, n, settings);
+    for k in settings..MOST_RECORDS {
+        let again = rng.below(k) * RECORD_SIZE;
+        plan.extend_from_within(again..again + RECORD_SIZE);
+    }
+    join(n as u64, plan)
+}
+
 pub fn pair<'a>(call: &str, demand: &'a Demand) -> Pair<'a> {
     let (n, cells, plan) = (demand.n as u64, &demand.cells, &demand.plan);
     match call {
@@ -63,8 +86,14 @@ pub fn pair<'a>(call: &str, demand: &'a Demand) -> Pair<'a> {
         "doubled" => planner!(doubled, n, cells.clone()),
         "doubled_every_rotation" => planner!(doubled_every_rotation, n, cells.clone()),
         "quick" => planner!(quick, n, demand.quick_cells()),
+        "grating_doubled" => planner!(grating_doubled, n, cells.clone()),
+        "grating_report" => both!(library => {
+            let mut report = vec![0; demand.records()];
+            move || run(library::grating_report(n, black_box(plan), &mut report))
+        }),
         "check" => both!(library => move || run(library::check(n, black_box(cells), plan))),
         "length" => both!(library => move || run(library::length(n, black_box(plan), 5))),
+        "join" => join(n, plan.iter().copied().cycle().take(MOST_RECORDS * RECORD_SIZE).collect()),
         "open" => both!(library => move || run(library::open(n, black_box(plan)))),
         "step_at" => both!(library => move || {
             for at in 0..demand.records() as u64 {

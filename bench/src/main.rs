@@ -29,6 +29,7 @@ fn main() -> io::Result<()> {
     report.say("Written by `bench/run`, which builds and times everything below in one run.\n");
     report.say(&conditions());
     each_call(&mut report);
+    joining(&mut report);
     exact_and_peers(&mut report, &work);
     growth(&mut report);
     gate_time(&mut report);
@@ -101,6 +102,21 @@ fn each_call(report: &mut Report) {
     report.table(&["call", "demand", "N = 16", "N = 32", "N = 64"], &rows);
     let runs = calls::CALLS.map(|(call, run)| format!("`{call}` {run}"));
     report.say(&format!("What one run is: {}.\n", runs.join("; ")));
+}
+
+fn joining(report: &mut Report) {
+    report.say("## Joining\n");
+    report.say(
+        "8,192 records at random, of which so many have a setting that none before them has; Rust finds \
+         settings by a `HashMap`. Proved time over Rust's, then both times.\n",
+    );
+    let row = |settings: usize| {
+        let mut row = vec![grouped(settings as u64)];
+        row.extend(SIZES.map(|n| compared(calls::join_settings(n, settings).time())));
+        row
+    };
+    let rows = [8_192, 8_000, 4_096, 100, 1].map(row);
+    report.table(&["settings", "N = 16", "N = 32", "N = 64"], &rows);
 }
 
 fn compared(times: Times) -> String {

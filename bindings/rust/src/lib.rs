@@ -63,6 +63,16 @@ pub fn quick(n: u64, cells: &[u32], plan: &mut [u8]) -> Answer {
     unsafe { sys::cv_quick(n, cells.as_ptr(), cells.len(), plan.as_mut_ptr(), plan.len()) }
 }
 
+/// The doubled plan of a demand for the grating fabric: anti-rotations in the place of rotations.
+pub fn grating_doubled(n: u64, cells: &[u32], plan: &mut [u8]) -> Answer {
+    unsafe { sys::cv_grating_doubled(n, cells.as_ptr(), cells.len(), plan.as_mut_ptr(), plan.len()) }
+}
+
+/// For each record of a plan the most inputs that share one wavelength of the grating fabric.
+pub fn grating_report(n: u64, plan: &[u8], report: &mut [u8]) -> Answer {
+    unsafe { sys::cv_grating_report(n, plan.as_ptr(), plan.len(), report.as_mut_ptr(), report.len()) }
+}
+
 /// Checks a plan from anywhere against a demand.
 pub fn check(n: u64, cells: &[u32], plan: &[u8]) -> Answer {
     unsafe { sys::cv_check(n, cells.as_ptr(), cells.len(), plan.as_ptr(), plan.len()) }
@@ -71,6 +81,11 @@ pub fn check(n: u64, cells: &[u32], plan: &[u8]) -> Answer {
 /// The length of a plan at a switching time of d slots.
 pub fn length(n: u64, plan: &[u8], d: u16) -> Answer {
     unsafe { sys::cv_length(n, plan.as_ptr(), plan.len(), d) }
+}
+
+/// Joins the equal settings of a plan, into a second buffer.
+pub fn join(n: u64, plan: &[u8], joined: &mut [u8]) -> Answer {
+    unsafe { sys::cv_join(n, plan.as_ptr(), plan.len(), joined.as_mut_ptr(), joined.len()) }
 }
 
 /// Writes one record at the start of a buffer.

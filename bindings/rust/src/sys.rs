@@ -37,8 +37,23 @@ extern "C" {
         plan_len: usize,
     ) -> Answer;
     pub fn cv_quick(n: u64, cells: *const u32, cells_len: usize, plan: *mut u8, plan_len: usize) -> Answer;
+    pub fn cv_grating_doubled(
+        n: u64,
+        cells: *const u32,
+        cells_len: usize,
+        plan: *mut u8,
+        plan_len: usize,
+    ) -> Answer;
+    pub fn cv_grating_report(
+        n: u64,
+        plan: *const u8,
+        plan_len: usize,
+        report: *mut u8,
+        report_len: usize,
+    ) -> Answer;
     pub fn cv_check(n: u64, cells: *const u32, cells_len: usize, plan: *const u8, plan_len: usize) -> Answer;
     pub fn cv_length(n: u64, plan: *const u8, plan_len: usize, d: u16) -> Answer;
+    pub fn cv_join(n: u64, plan: *const u8, plan_len: usize, joined: *mut u8, joined_len: usize) -> Answer;
     pub fn cv_write(hold: u16, n: u64, outputs: *const u8, plan: *mut u8, plan_len: usize) -> Answer;
     pub fn cv_open(n: u64, plan: *const u8, plan_len: usize) -> Answer;
     pub fn cv_step_at(n: u64, plan: *const u8, plan_len: usize, at: u64) -> RawStep;

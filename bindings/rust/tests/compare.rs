@@ -175,6 +175,47 @@ fn quick() {
 }
 
 #[test]
+fn grating_doubled() {
+    compare_planner(
+        14,
+        chordvenus::grating_doubled,
+        reference::grating_doubled,
+        MOST_LINE as usize,
+        &[0, 1, 2, 3, 5],
+    );
+}
+
+#[test]
+fn grating_report() {
+    let mut rng = Rng::new(15);
+    let mut met = Met::default();
+    let mut ample = vec![0; 2 * MOST_PORTS * RECORD_SIZE];
+    for case in 0..CASES {
+        let ports = cases::ports(&mut rng);
+        let plan = if rng.one_in(3) {
+            let cells = cases::demand(&mut rng, ports, 300);
+            let counts =
+                reference::grating_doubled(ports as u64, &cells, &mut ample).expect("a sound demand");
+            ample[..counts.records as usize * RECORD_SIZE].to_vec()
+        } else {
+            plan(&mut rng, ports)
+        };
+        let n = maybe_wild(&mut rng, ports);
+        let records = plan.len() / RECORD_SIZE;
+        let len = rng.pick(&[0, records.saturating_sub(1), records, records, records + 1, records + 9]);
+        let mut lent = Lent::<u8>::bytes(&mut rng, len);
+        let (mut wanted, before) = (lent.clone(), plan.clone());
+        let answer = chordvenus::grating_report(n, &plan, lent.middle());
+        let said = format!("case {case}: N = {n}, {len} bytes, {plan:?}");
+        assert_eq!(answer, expected(reference::grating_report(n, &plan, wanted.middle())), "{said}");
+        assert!(lent == wanted, "other bytes, {said}");
+        assert!(plan == before, "the plan has changed, {said}");
+        met.note(answer);
+    }
+    met.are(&[0, 1, 5, 9, 10, 11]);
+}
+
+#[test]
 fn check() {
     let mut rng = Rng::new(4);
     let mut met = Met::default();
@@ -236,6 +277,51 @@ fn length() {
         met.note(answer);
     }
     met.are(&[0, 1, 9, 10, 11]);
+}
+
+/// A plan in which settings repeat, or one of any kind, or one of the most records there may be.
+fn plan_to_join(rng: &mut Rng, n: usize) -> Vec<u8> {
+    match rng.below(200) {
+        0 => cases::repeating_plan(rng, n, MOST_RECORDS),
+        1 => cases::plan(rng, n, MOST_RECORDS),
+        2..=60 => plan(rng, n),
+        _ => {
+            let records = rng.between(0, 60);
+            let plan = cases::repeating_plan(rng, n, records);
+            if rng.one_in(4) {
+                spoiled(rng, n, plan)
+            } else {
+                plan
+            }
+        }
+    }
+}
+
+#[test]
+fn join() {
+    let mut rng = Rng::new(12);
+    let mut met = Met::default();
+    let mut ample = vec![0; MOST_RECORDS * RECORD_SIZE];
+    for case in 0..CASES {
+        let ports = cases::ports(&mut rng);
+        let (plan, n) = (plan_to_join(&mut rng, ports), maybe_wild(&mut rng, ports));
+        let records = reference::join(n, &plan, &mut ample).map_or(3, |counts| counts.records as usize);
+        let len = room(&mut rng, records);
+        let mut lent = Lent::<u8>::bytes(&mut rng, len);
+        let (mut wanted, before) = (lent.clone(), plan.clone());
+        let answer = chordvenus::join(n, &plan, lent.middle());
+        let said = || format!("case {case}: N = {n}, {len} bytes, {plan:?}");
+        assert_eq!(answer, expected(reference::join(n, &plan, wanted.middle())), "{}", said());
+        assert!(lent == wanted, "other bytes, {}", said());
+        assert!(plan == before, "the plan has changed, {}", said());
+        if answer.code == 0 {
+            let joined = lent.middle()[..answer.records as usize * RECORD_SIZE].to_vec();
+            assert_eq!(chordvenus::join(n, &joined, lent.middle()), answer, "joined again, {}", said());
+            assert!(lent == wanted, "other bytes once joined again, {}", said());
+        }
+        met.note(answer);
+    }
+    met.are(&[0, 1, 5, 9, 10, 11]);
 }
 
 #[test]
@@ -396,8 +482,11 @@ fn a_length_of_0_may_come_with_a_null_pointer() {
         assert_eq!(sys::cv_doubled_every_rotation(1, [5].as_ptr(), 1, plan.as_mut_ptr(), 68), code(5, 2));
         assert_eq!(sys::cv_quick(1, [1].as_ptr(), 1, null_mut(), 0), code(5, 1));
         assert_eq!(sys::cv_exact(1, [0].as_ptr(), 1, null_mut(), 0), code(0, 0));
+        assert_eq!(sys::cv_grating_doubled(1, [5].as_ptr(), 1, null_mut(), 0), code(5, 1));
+        assert_eq!(sys::cv_grating_report(1, null(), 0, null_mut(), 0), code(0, 0));
         assert_eq!(sys::cv_check(1, [1].as_ptr(), 1, null(), 0), code(13, 0));
         assert_eq!(sys::cv_length(1, null(), 0, 9), code(0, 0));
+        assert_eq!(sys::cv_join(1, null(), 0, null_mut(), 0), code(0, 0));
         assert_eq!(sys::cv_open(1, null(), 0), code(0, 0));
         assert_eq!(sys::cv_step_at(1, null(), 0, 0), raw(reference::Step::End));
         assert_eq!(sys::cv_write(1, 1, outputs.as_ptr(), null_mut(), 0), code(5, 1));

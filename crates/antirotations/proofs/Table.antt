@@ -1,25 +1,18 @@
 -- A table that lists the holds gives the same settings as the rule that it was made by.
-use mathlib.Core.Path.{_≡_, refl, sym, ap, ap₂, _∙_}
-use mathlib.Core.List.{List, _++_}
-use Prim.Native.Nat.{ℕ, zero, suc, _+_, _*_, _%_, _<_, _≤_}
+use mathlib.Core.Path.{_≡_, sym, ap, _∙_}
+use mathlib.Core.List.{List}
+use Prim.Native.Nat.{ℕ, _+_, _*_, _%_, _<_, _≤_}
 use native.Mathlib.Omega.{arith}
 use lib.ListN.{length, getD, set, take, drop, List·getD-append}
 use native.Mathlib.Nat.{suc-mul, mul-le-mul-right}
 use Rattle.switch.specs.Demand.{cell}
-use Rattle.switch.specs.Plan.{Record}
 use Rattle.rules.specs.Exact.{tab}
-use Rattle.rules.specs.Doubled.{held, turns}
+use Rattle.rules.specs.Doubled.{turns}
 use Rattle.rules.proofs.Peels.{length-tab, getD-tab}
 use Rattle.records.specs.Bytes.{laid}
 use Rattle.records.proofs.Laid.{copy-start-more}
+use Rattle.rotations.proofs.Turns.{turns-same}
 use Rattle.antirotations.specs.Opposite.{opposite, antiRotations}
-
-turns-cong : (W : ℕ) (τ : ℕ → ℕ → ℕ) (H H' : ℕ → ℕ) (n k : ℕ) → ((c : ℕ) → k ≤ c → c < k + n → H c ≡ H' c) → turns W τ H n k ≡ turns W τ H' n k
-unfolding turns
-turns-cong W τ H H' zero k h = refl
-turns-cong W τ H H' (suc n) k h =
-    ap₂ (λ (x : ℕ) (p : List Record). held W x (τ k) ++ p) (h k (omega arith) (omega arith))
-    (turns-cong W τ H H' n (suc k) (λ c a b. h c (omega arith) (omega arith)))
 
 -- a table with the rule's holds at its start
 module _ (N : ℕ) (H : ℕ → ℕ) (d : List ℕ) (room : N ≤ length d) where
@@ -30,7 +23,7 @@ module _ (N : ℕ) (H : ℕ → ℕ) (d : List ℕ) (room : N ≤ length d) wher
       there = getD-tab N 0 H k 0 l ∙ ap H (let z : 0 + k ≡ k = omega arith in z)
 
   pub table-turns : (W : ℕ) (holds : List ℕ) → holds ≡ laid d 0 (tab N 0 H) → antiRotations W N holds ≡ turns W (opposite N) H N 0
-  table-turns W holds e = turns-cong W (opposite N) (λ k. getD holds k 0) H N 0 (λ k _ l. same k (omega arith))
+  table-turns W holds e = turns-same W (opposite N) (λ k. getD holds k 0) H N 0 (λ k _ l. same k (omega arith))
     where
       same : (k : ℕ) → k < N → getD holds k 0 ≡ H k
       same k l = unfold laid in

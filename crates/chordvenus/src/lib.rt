@@ -15,6 +15,9 @@ ghost use Rattle.records.specs.Write.{written};
 ghost use Rattle.plans.specs.Read.{firstEdition, opening, stepAt};
 ghost use Rattle.audit.specs.Check.{checkPlan};
 ghost use Rattle.audit.specs.Length.{planLength};
+ghost use Rattle.joining.specs.Join.{joining};
+ghost use Rattle.wavelengths.specs.Report.{reported};
+ghost use Rattle.grating.specs.Grating.{gratingPlanned};
 ghost use Rattle.chordvenus.specs.Flat.{flat, flatStep, flatWish};
 
 // What every call answers; what does not apply is 0.
@@ -97,6 +100,22 @@ pub extern "C" fn cv_quick(n: usize, cells: &[u32], plan: &mut [u8]) -> CvAnswer
     flatten(quick::quick_plan(n, cells, plan))
 }
 
+// The doubled plan for the grating fabric.
+#[no_mangle]
+pub extern "C" fn cv_grating_doubled(n: usize, cells: &[u32], plan: &mut [u8]) -> CvAnswer
+    ensures { λ r. ⌜ (r ≡ flat (gratingPlanned 64 0 n (now (cells .entry)) (now (plan .entry)) .outcome)) × (now (plan .exit) ≡ gratingPlanned 64 0 n (now (cells .entry)) (now (plan .entry)) .bytes) ⌝ }
+{
+    flatten(grating::grating_doubled(n, cells, plan))
+}
+
+// What the records of a plan do on the grating fabric.
+#[no_mangle]
+pub extern "C" fn cv_grating_report(n: usize, plan: &[u8], report: &mut [u8]) -> CvAnswer
+    ensures { λ r. ⌜ (r ≡ flat (reported firstEdition n (now (plan .entry)) (now (report .entry)) .answer)) × (now (report .exit) ≡ reported firstEdition n (now (plan .entry)) (now (report .entry)) .bytes) ⌝ }
+{
+    flatten(wavelengths::grating_report(n, plan, report))
+}
+
 // A plan from anywhere against a demand.
 #[no_mangle]
 pub extern "C" fn cv_check(n: usize, cells: &[u32], plan: &[u8]) -> CvAnswer
@@ -111,6 +130,14 @@ pub extern "C" fn cv_length(n: usize, plan: &[u8], d: u16) -> CvAnswer
     ensures { λ r. ⌜ r ≡ flat (planLength firstEdition d n (now (plan .entry))) ⌝ }
 {
     flatten(audit::plan_length(n, plan, d))
+}
+
+// A plan with its equal settings joined, into a second buffer.
+#[no_mangle]
+pub extern "C" fn cv_join(n: usize, plan: &[u8], joined: &mut [u8]) -> CvAnswer
+    ensures { λ r. ⌜ (r ≡ flat (joining firstEdition n (now (plan .entry)) (now (joined .entry)) .outcome)) × (now (joined .exit) ≡ joining firstEdition n (now (plan .entry)) (now (joined .entry)) .bytes) ⌝ }
+{
+    flatten(joining::join_plan(n, plan, joined))
 }
 
 // One record written at the start of a lent buffer.

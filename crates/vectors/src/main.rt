@@ -3,6 +3,7 @@
 // shares nothing with the code that is run here; makers/tape.py says what each letter of a tape calls.
 // It promises that every case of any tape is run safely; that the answers are right is for the comparison.
 mod check;
+mod join;
 mod plan;
 mod record;
 
@@ -55,6 +56,7 @@ fn run(step: Step, laid: &[u8])
         b'x' | b'd' | b'e' | b'q' => plan::plan(step, laid),
         b'k' => check::check(step.first, laid, step.second),
         b'l' => check::length(step.first, laid, step.second as u16),
+        b'j' => join::join(step, laid),
         b'r' => record::read(step.first, laid, step.second),
         b'w' => record::write(step, laid),
         _ => show::text(b" no such call\n"),

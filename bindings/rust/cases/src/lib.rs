@@ -215,6 +215,12 @@ pub fn plan(rng: &mut Rng, n: usize, records: usize) -> Vec<u8> {
     (0..records).flat_map(|_| record(hold(rng), n, &setting(rng, n))).collect()
 }
 
+/// A plan of well-formed records of at most five settings, so that settings repeat.
+pub fn repeating_plan(rng: &mut Rng, n: usize, records: usize) -> Vec<u8> {
+    let settings: Vec<_> = (0..rng.between(1, 5)).map(|_| setting(rng, n)).collect();
+    (0..records).flat_map(|_| record(hold(rng), n, &rng.pick(&settings))).collect()
+}
+
 /// Spoils outputs so that they are no setting for N ports, or, seldom, still are one.
 pub fn spoil_outputs(rng: &mut Rng, n: usize, outputs: &mut [u8]) {
     let input = rng.below(n);

@@ -6,6 +6,8 @@
 //! same plans once more in the plainest words, to test the fast ones.
 
 mod exact;
+mod grating;
+mod join;
 mod more_plans;
 mod peel;
 mod plan;
@@ -13,6 +15,8 @@ pub mod slow;
 mod wishes;
 
 pub use exact::exact;
+pub use grating::{grating_doubled, grating_report};
+pub use join::join;
 pub use more_plans::{doubled, doubled_every_rotation, quick};
 pub use plan::{check, length, open, step_at, write, Reader, Record, Step};
 pub use wishes::{wish, wishes};

@@ -125,7 +125,7 @@ pub(crate) fn bytes(hold: u16, n: usize, outputs: &[u8; MOST_PORTS]) -> [u8; REC
 }
 
 /// Codes 1, 9 and 10, which open a plan.
-fn opened(n: u64, plan: &[u8]) -> Result<usize, Refusal> {
+pub(crate) fn opened(n: u64, plan: &[u8]) -> Result<usize, Refusal> {
     let n = ports(n)?;
     let records = plan.len() / RECORD_SIZE;
     if plan.len() % RECORD_SIZE != 0 {
@@ -149,7 +149,7 @@ fn step_from(n: usize, rest: &[u8], number: u64) -> Step {
 }
 
 /// Hands out each record of an opened plan and counts them; code 11 at the first that is not well formed.
-fn each_record<'a>(
+pub(crate) fn each_record<'a>(
     n: usize,
     plan: &'a [u8],
     mut take: impl FnMut(u16, &'a [u8; MOST_PORTS]),

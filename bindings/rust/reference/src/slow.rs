@@ -116,6 +116,27 @@ pub fn quick(demand: &Demand) -> Vec<Record> {
     plan
 }
 
+/// A plan with its equal settings joined: in order of first appearance, holds summed, a sum above
+/// 65,535 as records of 65,535 followed by what is left, if any.
+pub fn join(plan: &[Record]) -> Vec<Record> {
+    let mut sums: Vec<(u64, [u8; MOST_PORTS])> = Vec::new();
+    for record in plan {
+        match sums.iter_mut().find(|(_, outputs)| *outputs == record.outputs) {
+            Some((sum, _)) => *sum += u64::from(record.hold),
+            None => sums.push((u64::from(record.hold), record.outputs)),
+        }
+    }
+    let mut joined = Vec::new();
+    for (mut left, outputs) in sums {
+        while left > 65_535 {
+            joined.push(Record { hold: 65_535, outputs });
+            left -= 65_535;
+        }
+        joined.push(Record { hold: left as u16, outputs });
+    }
+    joined
+}
+
 /// The first setting by trying outputs in order and going back: for small N.
 pub fn first_by_going_back(rest: &Demand) -> Vec<usize> {
     fn go_on(rest: &Demand, chosen: &mut Vec<usize>) -> bool {

@@ -183,3 +183,53 @@ fn wishes_of_every_exponent() {
 fn wishes_of_every_pattern() {
     (0..=u32::MAX).for_each(same_wish);
 }
+
+/// The records of a plan that is sound.
+fn records(n: usize, plan: &[u8]) -> Vec<Record> {
+    let mut reader = Reader::open(n as u64, plan).1;
+    let mut records = Vec::new();
+    while let Step::Record(record) = reader.step() {
+        records.push(record);
+    }
+    records
+}
+
+/// What each pair is granted.
+fn grants(n: usize, plan: &[Record]) -> Vec<u64> {
+    let mut granted = vec![0; n * n];
+    for record in plan {
+        for (input, &output) in record.outputs[..n].iter().enumerate() {
+            if output != IDLE {
+                granted[input * n + usize::from(output)] += u64::from(record.hold);
+            }
+        }
+    }
+    granted
+}
+
+#[test]
+fn joining_says_what_the_plainest_words_say_and_keeps_its_promises() {
+    let mut rng = Rng::new(211);
+    for _ in 0..20_000 {
+        let n = cases::ports(&mut rng);
+        let count = rng.between(0, 40);
+        let plan = cases::repeating_plan(&mut rng, n, count);
+        let before = records(n, &plan);
+        let wanted = slow::join(&before);
+        let mut lent = rng.bytes(wanted.len() * RECORD_SIZE + 9);
+        let tail = lent[wanted.len() * RECORD_SIZE..].to_vec();
+        let counts = join(n as u64, &plan, &mut lent).unwrap();
+        let (joined, rest) = lent.split_at(wanted.len() * RECORD_SIZE);
+        assert_eq!(records(n, joined), wanted);
+        assert_eq!(rest, tail);
+        let total: u64 = before.iter().map(|record| u64::from(record.hold)).sum();
+        assert_eq!(counts, Counts { records: wanted.len() as u64, total, ..Counts::default() });
+        assert_eq!(grants(n, &wanted), grants(n, &before));
+        assert_eq!(slow::join(&wanted), wanted);
+        assert!(wanted.len() <= before.len());
+        if !wanted.is_empty() {
+            let short = &mut lent.clone()[..wanted.len() * RECORD_SIZE - 1];
+            assert_eq!(join(n as u64, &plan, short), Err(Refusal::Room(wanted.len())));
+        }
+    }
+}
