@@ -63,8 +63,8 @@ int main(void)
     if (answer.code != CV_DONE)
         return refused(answer);
     size_t used = (size_t)answer.records * CV_RECORD_SIZE;
-    printf("ports %d longest %" PRIu64 " records %" PRIu64 " total %" PRIu64 "\n", PORTS,
-           answer.longest, answer.records, answer.total);
+    printf("ports %d longest %" PRIu64 " records %" PRIu64 " total %" PRIu64
+           " empty %" PRIu64 "\n", PORTS, answer.longest, answer.records, answer.total, answer.empty);
 
     cv_step step;
     for (uint64_t at = 0; (step = cv_step_at(PORTS, plan, used, at)).kind == CV_STEP_RECORD; at++)

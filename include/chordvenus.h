@@ -16,10 +16,11 @@
  *           Well formed means: hold at least 1, the N of the call, the zero byte zero, each of the
  *           first N outputs below N or idle, no output below N twice, all later outputs idle.
  * Cover     a plan covers a demand if for every pair the holds of the settings that join it sum to
- *           at least its cell. Total hold is the sum of all holds.
+ *           at least its cell. Total hold is the sum of all holds. Empty slots are, over all pairs,
+ *           what a plan grants beyond what is asked, summed.
  *
  * Records, ports and cells are counted from 0. A refusal changes no lent byte and answers 0 for
- * records, longest, total and length. Success changes only what the call says it writes.
+ * records, longest, total, length and empty. Success changes only what the call says it writes.
  */
 #ifndef CHORDVENUS_H
 #define CHORDVENUS_H
@@ -77,6 +78,7 @@ typedef struct {
     uint64_t longest;  /* T of the demand */
     uint64_t total;    /* total hold of the plan */
     uint64_t length;   /* length of the plan */
+    uint64_t empty;    /* empty slots of the plan */
 } cv_answer;
 
 /* One step of reading a plan. */
@@ -112,7 +114,7 @@ cv_answer cv_wishes(uint64_t n, const uint8_t *list, size_t list_len, uint32_t *
  * N * N - N + 1 records.
  * Codes:  1, 2, 3, 5.
  * Writes: the plan's records, at the start of plan; no later byte. The demand is only read.
- * Done:   records, longest, total.
+ * Done:   records, longest, total, empty.
  */
 cv_answer cv_exact(uint64_t n, const uint32_t *cells, size_t cells_len, uint8_t *plan, size_t plan_len);
 
@@ -123,7 +125,7 @@ cv_answer cv_exact(uint64_t n, const uint32_t *cells, size_t cells_len, uint8_t 
  * left out when that is 0. At most 2 * N records, total hold at most 2 * T - 1; empty when T is 0.
  * Codes:  1, 2, 3, 5.
  * Writes: the plan's records, at the start of plan; no later byte. The demand is only read.
- * Done:   records, longest, total.
+ * Done:   records, longest, total, empty.
  */
 cv_answer cv_doubled(uint64_t n, const uint32_t *cells, size_t cells_len, uint8_t *plan, size_t plan_len);
 
@@ -141,7 +143,7 @@ cv_answer cv_doubled_every_rotation(uint64_t n, const uint32_t *cells, size_t ce
  * T to 2 * T - 1 records; none when T is 0.
  * Codes:  1, 2, 3, 4, 5.
  * Writes: the plan's records, at the start of plan; no later byte. The demand is only read.
- * Done:   records, longest, total.
+ * Done:   records, longest, total, empty.
  */
 cv_answer cv_quick(uint64_t n, const uint32_t *cells, size_t cells_len, uint8_t *plan, size_t plan_len);
 
@@ -173,7 +175,7 @@ cv_answer cv_grating_report(uint64_t n, const uint8_t *plan, size_t plan_len, ui
  * Checks a plan from anywhere against a demand.
  * Codes:  1, 2, 3, 9, 10, 11, 13.
  * Writes: nothing.
- * Done:   records, longest, total; the plan covers the demand.
+ * Done:   records, longest, total, empty; the plan covers the demand.
  */
 cv_answer cv_check(uint64_t n, const uint32_t *cells, size_t cells_len, const uint8_t *plan, size_t plan_len);
 

@@ -34,6 +34,7 @@ class Answer(NamedTuple):
     longest: int = 0
     total: int = 0
     length: int = 0
+    empty: int = 0
 
 
 # ---- Demand, line, cover
@@ -79,6 +80,16 @@ def grants(n, plan):
 
 def total_hold(plan):
     return sum(hold for hold, _ in plan)
+
+
+def empty_slots(n, cells, plan):
+    """Over all pairs, granted less asked, summed."""
+    return sum(granted - asked for granted, asked in zip(grants(n, plan), cells))
+
+
+def counted(n, cells, plan):
+    """What the planners and the checker answer of a plan that covers a demand."""
+    return Answer(records=len(plan), longest=longest_line(n, cells), total=total_hold(plan), empty=empty_slots(n, cells, plan))
 
 
 # ---- Wishes
@@ -373,8 +384,7 @@ def planned(n, cells, plan, buffer):
     if len(buffer) // RECORD < len(plan):
         return Answer(5, len(plan)), buffer
     written = b"".join(record_bytes(hold, n, outputs) for hold, outputs in plan)
-    answer = Answer(records=len(plan), longest=longest_line(n, cells), total=total_hold(plan))
-    return answer, written + buffer[len(written) :]
+    return counted(n, cells, plan), written + buffer[len(written) :]
 
 
 def exact_plan(n, cells, buffer):
@@ -414,7 +424,7 @@ def check_plan(n, cells, plan):
     for k, (granted, asked) in enumerate(zip(grants(n, records), cells)):
         if granted < asked:
             return Answer(13, k)
-    return Answer(records=len(records), longest=longest_line(n, cells), total=total_hold(records))
+    return counted(n, cells, records)
 
 
 def plan_length(n, plan, d):
@@ -502,7 +512,7 @@ def grating_doubled(n, cells, buffer):
     if refused:
         return refused, buffer
     answer, buffer = planned(n, cells, grating_list(n, cells), buffer)
-    return answer._replace(longest=0), buffer
+    return answer._replace(longest=0, empty=0), buffer
 
 
 # ---- The lister
@@ -522,7 +532,7 @@ def lister(stdin):
     if refused:
         return refusal_line(refused)
     plan = exact_list(n, cells)
-    lines = [f"ports {n} longest {longest_line(n, cells)} records {len(plan)} total {total_hold(plan)}"]
+    lines = [f"ports {n} longest {longest_line(n, cells)} records {len(plan)} total {total_hold(plan)} empty {empty_slots(n, cells, plan)}"]
     lines += [record_line(hold, outputs) for hold, outputs in plan]
     return "".join(line + "\n" for line in lines)
 
@@ -590,7 +600,7 @@ def examples():
     for bits, due in BITS:
         same(f"wish {bits:08X}", wish_slots(bits), due)
     two = [wish_record(0, 0, 0x40000000), wish_record(0, 1, 0x3F800000), wish_record(1, 0, 0x3F000000), wish_record(1, 1, 0x3FC00000)]
-    same("the lister's example", lister(b"".join(two)), "ports 2 longest 4 records 2 total 4\n2 0 1\n2 1 0\n")
+    same("the lister's example", lister(b"".join(two)), "ports 2 longest 4 records 2 total 4 empty 0\n2 0 1\n2 1 0\n")
 
 
 def edges():
@@ -628,12 +638,15 @@ def laws(n, cells):
     exact, doubled, every, quick = exact_list(n, cells), doubled_list(n, cells), doubled_list_every_rotation(n, cells), quick_list(n, cells)
     same("exact grants the filled demand", grants(n, exact), filled)
     same("exact total", total_hold(exact), longest)
+    same("exact empty slots", empty_slots(n, cells, exact), n * longest - asked)
     same("exact records", len(exact) <= min(longest, n * n - 2 * n + 2), True)
     for plan in (doubled, every):
         same("doubled records", len(plan) <= 2 * n, True)
         same("doubled total", total_hold(plan) <= max(0, 2 * longest - 1), True)
+        same("doubled empty slots", empty_slots(n, cells, plan), n * total_hold(plan) - asked)
     same("quick records", longest <= len(quick) <= max(0, 2 * longest - 1), True)
     same("quick grants", grants(n, quick), cells)
+    same("quick empty slots", empty_slots(n, cells, quick), 0)
     same("quick slots", sum(1 for _, outputs in quick for j in outputs if j != IDLE), asked)
     for method, plan in ((exact_plan, exact), (doubled_plan, doubled), (doubled_plan_every_rotation, every), (quick_plan, quick)):
         if method is quick_plan and longest > QUICK:
@@ -675,7 +688,8 @@ def grating_laws(n, cells):
     same("grating covers", all(granted >= asked for granted, asked in zip(grants(n, plan), cells)), True)
     answer, written = grating_doubled(n, cells, bytes([170] * (RECORD * 2 * n)))
     written = written[: answer.records * RECORD]
-    same("the checker", check_plan(n, cells, written), answer._replace(longest=longest))
+    same("grating empty slots", empty_slots(n, cells, plan), n * total_hold(plan) - sum(cells))
+    same("the checker", check_plan(n, cells, written), answer._replace(longest=longest, empty=empty_slots(n, cells, plan)))
     counts, report = grating_report(n, written, bytes([170] * (2 * n + 3)))
     same("the report's counts", counts, answer)
     same("the report's tail", report[len(plan) :], bytes([170] * (2 * n + 3 - len(plan))))

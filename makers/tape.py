@@ -77,7 +77,7 @@ def answer_text(answer):
     side = answer.side or "-"
     return (
         f" code {answer.code} place {answer.place} side {side} records {answer.records}"
-        f" longest {answer.longest} total {answer.total} length {answer.length}"
+        f" longest {answer.longest} total {answer.total} length {answer.length} empty {answer.empty}"
     )
 
 

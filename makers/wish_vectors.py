@@ -144,7 +144,7 @@ def files():
     for n, lent, data in lists():
         list_in += struct.pack("<HHH", n, lent, len(data)) + data
         answer, cells = wishes(n, data, [7] * lent)
-        list_out += " code %d place %d side - records %d longest 0 total 0 length 0\n" % answer + "".join(" %d" % c for c in cells) + "\n"
+        list_out += " code %d place %d side - records %d longest 0 total 0 length 0 empty 0\n" % answer + "".join(" %d" % c for c in cells) + "\n"
     return {
         "crates/wish_vectors/stdin": word_in, "crates/wish_vectors/stdout": word_out.encode(),
         "crates/wishes_vectors/stdin": list_in, "crates/wishes_vectors/stdout": list_out.encode(),

@@ -11,6 +11,7 @@ pub struct Answer {
     pub longest: u64,
     pub total: u64,
     pub length: u64,
+    pub empty: u64,
 }
 
 /// One step of reading a plan, as the archive gives it: kind 0 a record, 1 the end, 2 code 11.

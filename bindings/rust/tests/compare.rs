@@ -17,8 +17,8 @@ const ENOUGH: usize = 20;
 
 fn expected(outcome: Outcome) -> Answer {
     let Numbers { code, place, side, counts } = outcome.into();
-    let reference::Counts { records, longest, total, length } = counts;
-    Answer { code, place, side, records, longest, total, length }
+    let reference::Counts { records, longest, total, length, empty } = counts;
+    Answer { code, place, side, records, longest, total, length, empty }
 }
 
 /// The codes met.

@@ -2,7 +2,7 @@
 use mathlib.Core.Path.{_≡_, sym, ap, _∙_}
 use mathlib.Core.List.{List}
 use mathlib.Core.Logic.{dite}
-use Prim.Native.Nat.{ℕ, _*_, _<_, _≤_}
+use Prim.Native.Nat.{ℕ, _*_, _≤_}
 use native.Mathlib.Nat.{mul-le-mul}
 use native.Mathlib.Decide.{decLt}
 use native.Mathlib.Omega.{arith}
@@ -10,8 +10,6 @@ use lib.ListN.{length, replicate, length-replicate, getD-replicate, List·getD-e
 use Rattle.switch.specs.declared.Counts.{Counts}
 use Rattle.switch.specs.declared.Outcome.the-variants.{Done, Refused}
 use Rattle.switch.specs.declared.Refusal.{Refusal}
-use Rattle.switch.specs.declared.Refusal.the-variants.{Uncovered}
-use Rattle.switch.specs.Answer.{planCounts}
 use Rattle.switch.specs.Demand.{cell}
 use Rattle.switch.specs.Plan.{grant, total}
 use Rattle.demand.specs.declared.Checked.{Checked}
@@ -21,10 +19,11 @@ use Rattle.plans.specs.declared.Edition.{Edition}
 use Rattle.plans.specs.Read.{opening}
 use Rattle.records.specs.Bytes.{whole, planFrom, planOf}
 use Rattle.audit.specs.Reading.{reading, Passed}
-use Rattle.audit.specs.Check.{uncovered, covering, afterDemand, checkPlan, Blank, Grants}
+use Rattle.audit.specs.declared.Meeting.{Meeting}
+use Rattle.audit.specs.Check.{meeting, covering, afterDemand, checkPlan, Blank, Grants}
 use Rattle.audit.proofs.Reading.{reading-whole}
 use Rattle.plans.proofs.Plans.{length-plan}
-use Rattle.audit.proofs.Cover.{uncovered-cong, covering-short, covering-done}
+use Rattle.audit.proofs.Cover.{meeting-cong, answers, covering-meeting}
 
 -- codes 1, 2 and 3, and a demand that is fine
 module _ (E : Edition) (N : ℕ) (d plan : List ℕ) where
@@ -50,26 +49,19 @@ blank-asked most N T d g a b = record { room = omega (arith, a .size, b .room, m
 
 -- the pass came to the plan's end, and g is what its records grant
 module _ (E : Edition) (N T : ℕ) (d plan g : List ℕ) (c : Counts) (start : Done c ≡ opening E N plan)
-    (k t : ℕ) (passed : Passed E N plan k t) (end : whole (E .width) plan ≤ k) (grants : Grants N (planFrom (E .width) plan 0 k) g)
-    (u : ℕ) (is : u ≡ uncovered N (cell N d) (cell N g)) where
+    (k t : ℕ) (passed : Passed E N plan k t) (end : whole (E .width) plan ≤ k) (grants : Grants N (planFrom (E .width) plan 0 k) g) where
   all : k ≡ whole (E .width) plan
   all = omega (arith, passed .inside)
 
-  place : u ≡ uncovered N (cell N d) (grant (planOf (E .width) plan))
-  place = is ∙ uncovered-cong N (cell N d) (cell N g) (grant (planOf (E .width) plan)) (λ i j li lj. grants .is i j li lj ∙ ap (λ (m : ℕ). grant (planFrom (E .width) plan 0 m) i j) all)
+  holds : t ≡ total (planOf (E .width) plan)
+  holds = passed .holds ∙ ap (λ (i : ℕ). total (planFrom (E .width) plan 0 i)) all
 
-  -- code 13
-  pub check-uncovered : u < N * N → Refused (Uncovered u) ≡ reading E N plan (covering T N d)
-  check-uncovered l = covering-short T N d (planOf (E .width) plan) u place l ∙ reading-whole E N plan (covering T N d) start k (passed .records) end
-
-  pub check-covered : N * N ≤ u → (m : ℕ) → m ≡ whole (E .width) plan → Done (planCounts m T t) ≡ reading E N plan (covering T N d)
-  check-covered l m e = counts ∙ covering-done T N d (planOf (E .width) plan) u place l ∙ reading-whole E N plan (covering T N d) start k (passed .records) end
+  -- code 13, or what the plan counts and the slots that it grants beyond the demand
+  pub check-met : (x : Meeting) → x ≡ meeting N (cell N d) (cell N g) → (m : ℕ) → m ≡ whole (E .width) plan → answers m T t x ≡ reading E N plan (covering T N d)
+  check-met x is m e = (λ i. answers (records i) T (holds i) (met i)) ∙ covering-meeting T N d (planOf (E .width) plan) ∙ reading-whole E N plan (covering T N d) start k (passed .records) end
     where
       records : m ≡ length (planOf (E .width) plan)
       records = e ∙ sym (length-plan (E .width) plan 0 (whole (E .width) plan))
 
-      holds : t ≡ total (planOf (E .width) plan)
-      holds = passed .holds ∙ ap (λ (i : ℕ). total (planFrom (E .width) plan 0 i)) all
-
-      counts : Done (planCounts m T t) ≡ Done (planCounts (length (planOf (E .width) plan)) T (total (planOf (E .width) plan)))
-      counts = λ i. Done (planCounts (records i) T (holds i))
+      met : x ≡ meeting N (cell N d) (grant (planOf (E .width) plan))
+      met = is ∙ meeting-cong N (cell N d) (cell N g) (grant (planOf (E .width) plan)) (λ i j li lj. grants .is i j li lj ∙ ap (λ (m : ℕ). grant (planFrom (E .width) plan 0 m) i j) all)

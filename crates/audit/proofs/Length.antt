@@ -106,4 +106,4 @@ length-done E N d plan start c passed charged end =
     long = unfold lengthOf in omega (arith, charged .length, holds, ap (λ (m : ℕ). sum m (charge d (planOf (E .width) plan))) records)
 
     counts : c ≡ lengthCounts d (planOf (E .width) plan)
-    counts = λ i. record { records = records i; longest = charged .longest i; total = holds i; length = long i }
+    counts = λ i. record { records = records i; longest = charged .longest i; total = holds i; length = long i; empty = charged .empty i }

@@ -12,10 +12,11 @@ use Rattle.switch.specs.declared.Outcome.{Outcome}
 use Rattle.switch.specs.declared.Outcome.the-variants.{Done, Refused}
 use Rattle.switch.specs.declared.Refusal.{Refusal}
 use Rattle.switch.specs.declared.Refusal.the-variants.{Ports, Cells, Line, Torn, Records, Malformed, Uncovered}
-use Rattle.switch.specs.Answer.{refusalCode, planCounts}
+use Rattle.switch.specs.Answer.{refusalCode, planCounts, demandCounts}
 use Rattle.switch.specs.Check.{portsFine}
 use Rattle.switch.specs.Demand.{cell, longest}
 use Rattle.switch.specs.Plan.{Record, Plan, grant, total, Covers}
+use Rattle.switch.specs.Empty.{emptySlots}
 use Rattle.switch.proofs.Plan.{least-total}
 use Rattle.demand.specs.declared.Checked.{Checked}
 use Rattle.demand.specs.declared.Checked.the-variants.{Fine, Faulty}
@@ -116,13 +117,13 @@ module _ (E : Edition) (N : ℕ) (d plan : List ℕ) where
 
 -- ---- a plan that passes
 
--- its records are a plan that covers the demand, and the answer has its records, the demand's T and its total
+-- its records are a plan that covers the demand, and the answer has its records, the demand's T, its total and its empty slots
 pub record Passes (E : Edition) (N : ℕ) (d bytes : List ℕ) (c : Counts) : Type 0 where
   pub asked : Asked (E .ports) N (longest N (cell N d)) d
   pub sound : Each (Sound (E .width) N) (planOf (E .width) bytes)
   pub plan : Plan N (planOf (E .width) bytes)
   pub covers : Covers N (cell N d) (planOf (E .width) bytes)
-  pub counts : c ≡ planCounts (whole (E .width) bytes) (longest N (cell N d)) (total (planOf (E .width) bytes))
+  pub counts : c ≡ demandCounts (whole (E .width) bytes) (longest N (cell N d)) (total (planOf (E .width) bytes)) (emptySlots N (cell N d) (planOf (E .width) bytes))
 
 done-not-refused : {c : Counts} {r : Refusal} {A : Type 0} → Done c ≡ Refused r → A
 done-not-refused e = let z : _≡_ {A = ℕ} 0 1 = cc in absurd (let f : ⊥ = omega arith in f)
@@ -158,7 +159,7 @@ module _ (E : Edition) (N : ℕ) (d plan : List ℕ) where
             plan = each-plan (E .width) N s;
             covers = uncovered-none N (cell N d) (grant records) end;
             counts = same (R .answer ∙ sym (covering-done (R .longest) N d records place refl end))
-                ∙ (λ i. planCounts (length-plan (E .width) plan 0 (whole (E .width) plan) i) (a .longest-is i) (total records));
+                ∙ (λ i. demandCounts (length-plan (E .width) plan 0 (whole (E .width) plan) i) (a .longest-is i) (total records) (emptySlots N (cell N d) records));
           }
 
   -- no plan that passes has a total hold below T
@@ -191,10 +192,10 @@ module _ (E : Edition) (N : ℕ) (d plan : List ℕ) where
       let q = place-in N k (s .inside) in
       omega (arith, s .here, h (k / N) (k % N) (q .0) (q .1))
 
--- ---- every sound plan that covers its demand passes, with its own records, T and total
+-- ---- every sound plan that covers its demand passes, with its own records, T, total and empty slots
 
 pub sound-passes : (E : Edition) → Bounded E → (N T : ℕ) (d : List ℕ) → Fine T ≡ checkDemand (E .ports) N d → {p : List Record}
-    → length p ≤ E .records → Each (Sound (E .width) N) p → Covers N (cell N d) p → checkPlan E N d (bytes (E .byte) N p) ≡ Done (planCounts (length p) T (total p))
+    → length p ≤ E .records → Each (Sound (E .width) N) p → Covers N (cell N d) p → checkPlan E N d (bytes (E .byte) N p) ≡ Done (demandCounts (length p) T (total p) (emptySlots N (cell N d) p))
 sound-passes E bounds N T d f {p} most s h =
     let a = fine-asked (E .ports) N T d (sym f) in
     sym (check-fine E N d (bytes (E .byte) N p) f)

@@ -14,9 +14,10 @@ use borrow.Author.Tests.{eq-eqb, ne-eqb}
 use Rattle.counting.specs.Sum.{sum}
 use Rattle.counting.specs.Matrix.{row}
 use Rattle.switch.specs.declared.Outcome.the-variants.{Done}
-use Rattle.switch.specs.Answer.{planCounts}
+use Rattle.switch.specs.Answer.{demandCounts}
 use Rattle.switch.specs.Demand.{cell, longest}
 use Rattle.switch.specs.Plan.{Setting, Record, output, total, Covers}
+use Rattle.switch.specs.Empty.{emptySlots}
 use Rattle.switch.proofs.Plan.{full-setting}
 use Rattle.rules.specs.Search.{put}
 use Rattle.rules.specs.Peel as rule
@@ -179,10 +180,10 @@ Roomy E = E .ports * E .ports + 2048 ≤ E .records
 pub first-roomy : Roomy firstEdition
 first-roomy = omega arith
 
--- a plan of sound records whose bytes pass, with its own records, the demand's T and its own total
+-- a plan of sound records whose bytes pass, with its own records, the demand's T, its own total and its empty slots
 pub record PassesAs (E : Edition) (N T : ℕ) (d : List ℕ) (p : List Record) : Type 0 where
   pub sound : Each (Sound (E .width) N) p
-  pub passes : checkPlan E N d (bytes (E .byte) N p) ≡ Done (planCounts (length p) T (total p))
+  pub passes : checkPlan E N d (bytes (E .byte) N p) ≡ Done (demandCounts (length p) T (total p) (emptySlots N (cell N d) p))
 
 module _ (E : Edition) (bounds : Bounded E) (roomy : Roomy E) (N T : ℕ) (d : List ℕ) (fine : Fine T ≡ checkDemand (E .ports) N d) where
   asked : Asked (E .ports) N T d

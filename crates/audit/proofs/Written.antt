@@ -9,8 +9,10 @@ use lib.Seq.{take-at}
 use Rattle.switch.specs.declared.Counts.{Counts}
 use Rattle.switch.specs.declared.Outcome.the-variants.{Done}
 use Rattle.switch.specs.declared.Refusal.{Refusal}
-use Rattle.switch.specs.Answer.{planCounts}
+use Rattle.switch.specs.Answer.{demandCounts}
+use Rattle.switch.specs.Demand.{cell}
 use Rattle.switch.specs.Plan.{Record, total}
+use Rattle.switch.specs.Empty.{emptySlots}
 use Rattle.demand.specs.declared.Checked.{Checked}
 use Rattle.demand.specs.declared.Checked.the-variants.{Fine, Faulty}
 use Rattle.demand.specs.Check.{checkDemand}
@@ -30,7 +32,7 @@ use Rattle.audit.proofs.Planners.{Roomy, PassesAs, exact-passes, double
 -- a planner refuses, or writes the plan p of a demand whose longest line T is fine and as Q says
 data Wrote (W e N : ℕ) (d : List ℕ) (p : List Record) (buf : List ℕ) (Q : ℕ → Type 0) : Planned → Type 0 where
   refused : (r : Refusal) → Wrote W e N d p buf Q (refuses r buf)
-  wrote : (T : ℕ) → Fine T ≡ checkDemand W N d → Q T → Wrote W e N d p buf Q (writes e N T p buf)
+  wrote : (T : ℕ) → Fine T ≡ checkDemand W N d → Q T → Wrote W e N d p buf Q (writes e N T (emptySlots N (cell N d) p) p buf)
 
 module _ (W e N : ℕ) (d : List ℕ) (p : List Record) (buf : List ℕ) where
   planned-wrote : Wrote W e N d p buf (λ _. Unit {0}) (planned W e N d p buf)
@@ -74,10 +76,10 @@ module _ (E : Edition) (N : ℕ) (d buf : List ℕ) where
   rechecks {p} pass (wrote T f q) c e =
       e ∙ wrote-counts ∙ sym (pass T f q .passes) ∙ ap (checkPlan E N d) (sym (laid-front buf (bytes (E .byte) N p) (c .records * (E .width + 4)) size) ∙ ap (take (c .records * (E .width + 4))) wrote-bytes)
     where
-      wrote-counts : writes (E .byte) N T p buf .outcome ≡ Done (planCounts (length p) T (total p))
+      wrote-counts : writes (E .byte) N T (emptySlots N (cell N d) p) p buf .outcome ≡ Done (demandCounts (length p) T (total p) (emptySlots N (cell N d) p))
       wrote-counts = unfold writes in refl
 
-      wrote-bytes : laid buf 0 (bytes (E .byte) N p) ≡ writes (E .byte) N T p buf .bytes
+      wrote-bytes : laid buf 0 (bytes (E .byte) N p) ≡ writes (E .byte) N T (emptySlots N (cell N d) p) p buf .bytes
       wrote-bytes = unfold writes in refl
 
       same : {x y : Counts} → Done x ≡ Done y → x ≡ y

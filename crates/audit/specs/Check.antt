@@ -9,14 +9,17 @@ use Rattle.counting.specs.Count.{δ}
 use Rattle.switch.specs.declared.Outcome.{Outcome}
 use Rattle.switch.specs.declared.Outcome.the-variants.{Done, Refused}
 use Rattle.switch.specs.declared.Refusal.the-variants.{Uncovered}
-use Rattle.switch.specs.Answer.{planCounts}
+use Rattle.switch.specs.Answer.{demandCounts}
 use Rattle.switch.specs.Demand.{cell}
 use Rattle.switch.specs.Plan.{Record, output, grant, total}
+use Rattle.switch.specs.Empty.{beyond, emptySlots}
 use Rattle.demand.specs.declared.Checked.{Checked}
 use Rattle.demand.specs.declared.Checked.the-variants.{Fine, Faulty}
 use Rattle.demand.specs.Lines.{over}
 use Rattle.demand.specs.Check.{checkDemand}
 use Rattle.plans.specs.declared.Edition.{Edition}
+use Rattle.audit.specs.declared.Meeting.{Meeting}
+use Rattle.audit.specs.declared.Meeting.the-variants.{Misses, Meets}
 use Rattle.audit.specs.Reading.{reading}
 
 -- the slots of cell k that M asks and G does not grant
@@ -33,12 +36,16 @@ pub record Short (N : ℕ) (M G : ℕ → ℕ → ℕ) (k : ℕ) : Type 0 where
   pub here : G (k / N) (k % N) < M (k / N) (k % N)
   pub before : (j : ℕ) → j < k → M (j / N) (j % N) ≤ G (j / N) (j % N)
 
--- code 13: some pair not covered; else records, T and total
+-- how grants G meet what M asks: the first cell that falls short, or what is granted beyond all that is asked
+unfoldable pub meeting : ℕ → (ℕ → ℕ → ℕ) → (ℕ → ℕ → ℕ) → Meeting
+meeting N M G = cond (ltb (uncovered N M G) (N * N)) (Misses (uncovered N M G)) (Meets (beyond N M G))
+
+-- code 13: some pair not covered; else records, T, total and empty slots
 unfoldable pub covering : ℕ → ℕ → List ℕ → List Record → Outcome
 covering T N d p =
     cond (ltb (uncovered N (cell N d) (grant p)) (N * N))
     (Refused (Uncovered (uncovered N (cell N d) (grant p))))
-    (Done (planCounts (length p) T (total p)))
+    (Done (demandCounts (length p) T (total p) (emptySlots N (cell N d) p)))
 
 -- a demand that is refused by itself, and else what is done with its longest line
 abbrev pub afterDemand : Checked → (ℕ → Outcome) → Outcome

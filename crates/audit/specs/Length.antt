@@ -28,13 +28,14 @@ lengthOf d p = total p + sum (length p) (charge d p)
 
 -- length gives the length, records and total
 abbrev pub lengthCounts : ℕ → List Record → Counts
-lengthCounts d p = record { records = length p; longest = 0; total = total p; length = lengthOf d p }
+lengthCounts d p = record { records = length p; longest = 0; total = total p; length = lengthOf d p; empty = 0 }
 
 -- length 1, 9, 10, 11
 unfoldable pub planLength : Edition → ℕ → ℕ → List ℕ → Outcome
 planLength E d N plan = reading E N plan (λ p. Done (lengthCounts d p))
 
--- what a pass over plan p counted: the length of the records that it passed, and no T
+-- what a pass over plan p counted: the length of the records that it passed, no T and no empty slots
 pub record Charged (d : ℕ) (p : List Record) (c : Counts) : Type 0 where
   pub longest : c .longest ≡ 0
+  pub empty : c .empty ≡ 0
   pub length : c .length ≡ c .total + sum (c .records) (charge d p)

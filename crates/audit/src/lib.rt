@@ -18,13 +18,21 @@ ghost use Rattle.records.specs.Record.{decoded};
 ghost use Rattle.records.specs.Bytes.{whole, planOf, planFrom};
 ghost use Rattle.plans.specs.Read.{firstEdition, Bounded};
 ghost use Rattle.audit.specs.Reading.{reading, Readable, Passed};
-ghost use Rattle.audit.specs.Check.{uncovered, covering, checkPlan, Blank, Grants, Granting, Granted};
+ghost use Rattle.audit.specs.Check.{meeting, covering, checkPlan, Blank, Grants, Granting, Granted};
 ghost use Rattle.audit.specs.Length.{charge, planLength, Charged};
 
 // The pairs of a switch of 64 ports.
 const PAIRS: usize = 4096;
 
-// Checks a plan from anywhere against a demand: refusals 1, 2, 3, 9, 10, 11 and 13, else its records, T and its total.
+// How a plan's grants meet a demand.
+pub enum Meeting {
+    // The first cell that is granted less than asked.
+    Misses(usize),
+    // Every cell is granted what it asks; the slots granted beyond that.
+    Meets(u64),
+}
+
+// Checks a plan from anywhere against a demand: refusals 1, 2, 3, 9, 10, 11 and 13, else its records, T, its total and its empty slots.
 pub fn check_plan(n: usize, cells: &[u32], plan: &[u8]) -> Outcome
     ensures { λ r. ⌜ r ≡ checkPlan firstEdition n (now (cells .entry)) (now (plan .entry)) ⌝ }
 {
@@ -71,16 +79,16 @@ fn check_records(
     if granted.records < records {
         return Outcome::Refused(Refusal::Malformed(granted.records));
     }
-    let k = first_uncovered(n, cells, grants);
-    if k < cells.len() {
-        return Outcome::Refused(Refusal::Uncovered(k));
+    match meet(n, cells, grants) {
+        Meeting::Misses(k) => Outcome::Refused(Refusal::Uncovered(k)),
+        Meeting::Meets(empty) => Outcome::Done(Counts {
+            records,
+            longest,
+            total: granted.total,
+            length: 0,
+            empty,
+        }),
     }
-    Outcome::Done(Counts {
-        records,
-        longest,
-        total: granted.total,
-        length: 0,
-    })
 }
 
 // One pass over a plan, up to the first record that is not well formed: each hold goes to the total and to the pairs that the record joins.
@@ -115,17 +123,19 @@ fn grant_record(rec: &[u8], n: usize, hold: u32, grants: &mut [u32])
     }
 }
 
-// The first cell, in cell order, whose granted slots are fewer than asked, or the number of cells.
-fn first_uncovered(n: usize, cells: &[u32], grants: &[u32]) -> usize
-    requires { ⌜ (length (now cells) ≡ n * n) × (n * n ≤ length (now grants)) ⌝ }
-    ensures { λ r. ⌜ r ≡ uncovered n (cell n (now (cells .entry))) (cell n (now (grants .entry))) ⌝ }
+// One pass over the cells: the first, in cell order, whose granted slots are fewer than asked; or, over all, granted less asked.
+fn meet(n: usize, cells: &[u32], grants: &[u32]) -> Meeting
+    requires { ⌜ (n ≤ 128) × (length (now cells) ≡ n * n) × (n * n ≤ length (now grants)) ⌝ }
+    ensures { λ r. ⌜ r ≡ meeting n (cell n (now (cells .entry))) (cell n (now (grants .entry))) ⌝ }
 {
+    let mut empty: u64 = 0;
     for k in 0..cells.len() {
         if grants[k] < cells[k] {
-            return k;
+            return Meeting::Misses(k);
         }
+        empty += (grants[k] - cells[k]) as u64;
     }
-    cells.len()
+    Meeting::Meets(empty)
 }
 
 // The length of a plan of an edition.
@@ -183,13 +193,14 @@ fn charge_of(plan: &[u8], width: usize, k: usize, d: u16) -> u64
 
 // How far a pass over a plan came.
 fn counted(records: usize, total: u64, length: u64) -> Counts
-    ensures { λ r. ⌜ r ≡ record { records = records; longest = 0; total = total; length = length } ⌝ }
+    ensures { λ r. ⌜ r ≡ record { records = records; longest = 0; total = total; length = length; empty = 0 } ⌝ }
 {
     Counts {
         records,
         longest: 0,
         total,
         length,
+        empty: 0,
     }
 }
 

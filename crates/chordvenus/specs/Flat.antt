@@ -10,7 +10,7 @@ use Rattle.plans.specs.declared.Stepped.{Stepped}
 use Rattle.chordvenus.specs.declared.CvAnswer.{CvAnswer}
 use Rattle.chordvenus.specs.declared.CvStep.{CvStep}
 
--- code, place, side, records, T, total and length
+-- code, place, side, records, T, total, length and empty slots
 abbrev pub flat : Outcome → CvAnswer
 flat o =
     record {
@@ -21,11 +21,12 @@ flat o =
       longest = countsOf o .longest;
       total = countsOf o .total;
       length = countsOf o .length;
+      empty = countsOf o .empty;
     }
 
 -- one wish: its code, and its slots as total
 abbrev pub flatWish : Wish → CvAnswer
-flatWish w = record { code = wish.codeOf w; place = 0; side = 0; records = 0; longest = 0; total = wish.slotsOf w; length = 0 }
+flatWish w = record { code = wish.codeOf w; place = 0; side = 0; records = 0; longest = 0; total = wish.slotsOf w; length = 0; empty = 0 }
 
 -- 0 a record, 1 the end, 2 code 11
 abbrev pub kindOf : Step → ℕ

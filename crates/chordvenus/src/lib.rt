@@ -30,6 +30,7 @@ pub struct CvAnswer {
     pub longest: u64,
     pub total: u64,
     pub length: u64,
+    pub empty: u64,
 }
 
 // One step of reading a plan: kind 0 is a record, 1 the end, 2 code 11.
@@ -55,6 +56,7 @@ pub extern "C" fn cv_wish(bits: u32) -> CvAnswer
         longest: 0,
         total: wish::slots_of(asked) as u64,
         length: 0,
+        empty: 0,
     }
 }
 
@@ -198,5 +200,6 @@ fn flatten(o: Outcome) -> CvAnswer
         longest: counts.longest,
         total: counts.total,
         length: counts.length,
+        empty: counts.empty,
     }
 }

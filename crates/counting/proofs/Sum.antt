@@ -2,7 +2,7 @@
 use mathlib.Core.Path.{_≡_, refl, sym, ap₂}
 use mathlib.Core.Logic.{_≢_, _⊎_, inl, inr}
 use Prim.Native.Nat.{ℕ, zero, suc, _+_, _*_, _≤_, _<_}
-use native.Mathlib.Nat.{mul-zero, add-suc, add-zero, eq-zero-or-pos}
+use native.Mathlib.Nat.{mul-zero, zero-mul, suc-mul, add-suc, add-zero, eq-zero-or-pos}
 use native.Mathlib.Decide.{ℕ-discrete}
 use native.Mathlib.Omega.{arith}
 use native.Mathlib.Numerals.{add-one}
@@ -113,3 +113,9 @@ sum-most (suc n) c f h u = go (eq-zero-or-pos (f n)) (sum-most n c f (λ i l. h 
     go : (f n ≡ 0) ⊎ (0 < f n) → sum n f ≤ c → sum (suc n) f ≤ c
     go (inl e) r = omega arith
     go (inr p) r = omega (arith, sum-none n f (none p), h n (omega arith))
+
+-- n × m terms, m at a time
+pub sum-rows : (n m : ℕ) (f : ℕ → ℕ) → sum (n * m) f ≡ sum n (λ i. sum m (λ j. f (i * m + j)))
+unfolding sum
+sum-rows zero m f = rw (zero-mul m)
+sum-rows (suc n) m f = rw (suc-mul n m) (omega (arith, sum-split (n * m) m f, sum-rows n m f))

@@ -5,7 +5,7 @@ use Prim.Native.Nat.{ℕ, zero, suc, _+_, _*_, _-_, _≤_}
 use lib.ListN.{getD, length}
 use lib.Dec.{ltb}
 use Rattle.counting.specs.Sum.{sum}
-use Rattle.switch.specs.Demand.{line}
+use Rattle.switch.specs.Demand.{cell, line, longest}
 use Rattle.switch.specs.declared.Side.{Side}
 use Rattle.switch.specs.declared.Side.the-variants.{Input, Output}
 
@@ -30,3 +30,8 @@ strided d from step n = sum n (λ b. getD d (from + b * step) 0)
 pub record Sized (N : ℕ) (d : List ℕ) : Type 0 where
   pub few : N ≤ 128
   pub room : N * N ≤ length d
+
+-- the same, and no line sums over 65,535
+pub record Short (N : ℕ) (d : List ℕ) : Type 0 where
+  pub sized : Sized N d
+  pub lines : longest N (cell N d) ≤ 65535

@@ -1,16 +1,17 @@
 // The checks that every call on a demand shares: N (code 1), the cells lent (code 2), and the lines (code 3, with the line's side).
 // It promises each refusal exactly in document 01's case and order, and T where there is none. Cells are any 32-bit numbers, so a
-// line's sum is kept in 64 bits and cannot wrap. What a call then does with the demand is left to the crates above.
+// line's sum is kept in 64 bits and cannot wrap. It also counts the slots asked. What a call then does with the demand is left to the crates above.
 use switch::InputPort;
 use switch::LONGEST;
 use switch::OutputPort;
 use switch::Refusal;
 use switch::Side;
 ghost use mathlib.Core.Path.{_≡_};
-ghost use Prim.Native.Nat.{ℕ, _+_, _*_, _<_, _≤_};
+ghost use Prim.Native.Nat.{ℕ, _+_, _*_, _-_, _<_, _≤_};
 ghost use lib.ListN.{length};
 ghost use Rattle.switch.specs.Demand.{cell, line, longest};
-ghost use Rattle.demand.specs.Lines.{strided, over, lineOver, Sized};
+ghost use Rattle.switch.specs.Empty.{allSlots};
+ghost use Rattle.demand.specs.Lines.{strided, over, lineOver, Sized, Short};
 ghost use Rattle.demand.specs.Check.{checkDemand};
 
 // What the checks of a demand find: its longest line, or why it is refused.
@@ -105,6 +106,26 @@ fn sum_of(cells: &[u32], from: usize, step: usize, n: usize) -> u64
         at += step;
     }
     sum
+}
+
+// The empty slots of a plan whose settings join every input and that covers the demand: N × total less the sum of all cells.
+pub fn empty_slots(n: usize, cells: &[u32], total: u64) -> u64
+    requires { ⌜ Short n (now cells) × (longest n (cell n (now cells)) ≤ total) × (total ≤ 131070) ⌝ }
+    ensures { λ r. ⌜ r ≡ n * total - allSlots n (cell n (now (cells .entry))) ⌝ }
+{
+    n as u64 * total - asked_slots(n, cells)
+}
+
+// The sum of all cells.
+pub fn asked_slots(n: usize, cells: &[u32]) -> u64
+    requires { ⌜ Short n (now cells) ⌝ }
+    ensures { λ r. ⌜ r ≡ allSlots n (cell n (now (cells .entry))) ⌝ }
+{
+    let mut asked: u64 = 0;
+    for i in 0..n {
+        asked += line_sum(cells, n, i);
+    }
+    asked
 }
 
 fn wide(x: u32) -> u64

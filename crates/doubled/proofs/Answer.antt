@@ -1,21 +1,27 @@
 -- Each return of the planner is a case of what a planner answers: nothing asked for, no room for both parts, or both parts laid.
 use mathlib.Core.Path.{_≡_, sym, ap, _∙_}
 use mathlib.Core.List.{List, []}
-use Prim.Native.Nat.{ℕ, _+_, _*_, _≤_, _<_}
+use Prim.Native.Nat.{ℕ, _+_, _*_, _-_, _≤_, _<_}
 use native.Mathlib.Omega.{arith}
 use native.Mathlib.Nat.{div-mul-le-self, mul-le-mul-right}
-use lib.ListN.{length}
+use lib.ListN.{length, getD}
 use Rattle.switch.specs.declared.Refusal.the-variants.{Room}
 use Rattle.switch.specs.declared.Outcome.the-variants.{Done, Refused}
-use Rattle.switch.specs.Answer.{planCounts}
+use Rattle.switch.specs.Answer.{planCounts, demandCounts}
 use Rattle.switch.specs.Demand.{cell, longest}
-use Rattle.switch.specs.Plan.{Record, total}
+use Rattle.switch.specs.Plan.{Record, grant, total}
+use Rattle.switch.specs.Empty.{allSlots, emptySlots, AllFull}
+use Rattle.switch.proofs.Plan.{least-total}
+use Rattle.switch.proofs.Empty.{full-empty, empty-none}
 use Rattle.demand.specs.Check.{checkDemand}
+use Rattle.demand.specs.Lines.{Short}
 use Rattle.demand.specs.declared.Checked.the-variants.{Fine}
 use Rattle.demand.proofs.Check.{fine-asked}
 use Rattle.rules.specs.Exact.{exactPlan}
-use Rattle.rules.specs.Doubled.{rotate}
+use Rattle.rules.specs.Doubled.{rotate, Doubled}
+use Rattle.rules.proofs.Rotate.{rotate-joins}
 use Rattle.rules.proofs.Tight.{by-empty}
+use Rattle.rules.proofs.Empty.{parts-full}
 use Rattle.records.specs.Bytes.{whole, bytes, laid}
 use Rattle.records.proofs.Laid.{laid-none}
 use Rattle.records.proofs.Bytes.{bytes-none}
@@ -27,20 +33,23 @@ use Rattle.peel.specs.Standing.{Cells}
 use Rattle.exact.specs.Laying.{Place}
 use Rattle.doubled.specs.Parts.{parts, Divided, Needs}
 use Rattle.doubled.proofs.Both.{parts-records, parts-total}
-use Rattle.doubled.proofs.Divided.{asked, within, quotient-cells}
+use Rattle.doubled.proofs.Divided.{asked, sized, within, quotient-cells}
 
--- a plan of r records and total t that is laid is the answer
-laid-answer : (W e N T r t : ℕ) (d : List ℕ) (p : List Record) (plan plan' : List ℕ) → checkDemand W N d ≡ Fine T → length p ≤ whole W plan
-    → r ≡ length p → t ≡ total p → plan' ≡ laid plan 0 (bytes e N p)
-    → (Done (planCounts r T t) ≡ planned W e N d p plan .outcome) × (plan' ≡ planned W e N d p plan .bytes)
-laid-answer W e N T r t d p plan plan' fine fits a b c =
-    let s = sym (planned-done W e N d p plan T fine fits) in
-    (written-outcome e N T r t p plan a b ∙ ap (λ (x : Planned). x .outcome) s, c ∙ written-bytes e N T p plan ∙ ap (λ (x : Planned). x .bytes) s)
+-- a plan of r records, total t and x empty slots that is laid is the answer
+laid-answer : (W e N T r t x : ℕ) (d : List ℕ) (p : List Record) (plan plan' : List ℕ) → checkDemand W N d ≡ Fine T → length p ≤ whole W plan
+    → r ≡ length p → t ≡ total p → x ≡ emptySlots N (cell N d) p → plan' ≡ laid plan 0 (bytes e N p)
+    → (Done (demandCounts r T t x) ≡ planned W e N d p plan .outcome) × (plan' ≡ planned W e N d p plan .bytes)
+laid-answer W e N T r t x d p plan plan' fine fits a b f c =
+    let s = sym (planned-done W e N d p plan T fine fits) in (
+      written-outcome e N T (emptySlots N (cell N d) p) r t x p plan a b f ∙ ap (λ (y : Planned). y .outcome) s,
+      c ∙ written-bytes e N T (emptySlots N (cell N d) p) p plan ∙ ap (λ (y : Planned). y .bytes) s,
+    )
 
 -- T is 0
 pub empty-answer : (r : Rule) (W e N : ℕ) (d plan : List ℕ) → checkDemand W N d ≡ Fine 0
     → (Done (planCounts 0 0 0) ≡ planned W e N d (doubledRule r W N d) plan .outcome) × (plan ≡ planned W e N d (doubledRule r W N d) plan .bytes)
-empty-answer r W e N d plan fine = laid-answer W e N 0 0 0 d (doubledRule r W N d) plan plan fine (omega (arith, ap length none)) (sym (ap length none)) (unfold total in sym (ap total none))
+empty-answer r W e N d plan fine = laid-answer W e N 0 0 0 0 d (doubledRule r W N d) plan plan fine (omega (arith, ap length none)) (sym (ap length none)) (unfold total in sym (ap total none))
+    (sym (ap (emptySlots N (cell N d)) none ∙ empty-none N (cell N d) [] (λ i j _ _. unfold grant in omega arith)))
     (sym (laid-none plan 0) ∙ ap (laid plan 0) (sym (ap (bytes e N) none ∙ bytes-none e N)))
   where
     none : doubledRule r W N d ≡ []
@@ -75,10 +84,28 @@ module _ (W N T u : ℕ) (d q H : List ℕ) (v : Divided W N T u d q) (e : ℕ) 
             room = omega (arith, div-mul-le-self (length plan) (W + 4), mul-le-mul-right (W + 4) fits);
           }
 
-      -- both parts are laid
-      pub both-answer : (r : ℕ) (plan' : List ℕ) → r ≡ length (exactPlan W N q') → plan' ≡ laid plan 0 (bytes e N (parts W N u q' H))
-          → (Done (planCounts (r + turns) T (S * u + sum)) ≡ planned W e N d (parts W N u q H) plan .outcome) × (plan' ≡ planned W e N d (parts W N u q H) plan .bytes)
-      both-answer r plan' count put = laid-answer W e N T (r + turns) (S * u + sum) d (parts W N u q H) plan plan' (v .fine) fits
+      -- what both come to
+      pub both-total : S * u + sum ≡ total (parts W N u q H)
+      both-total = omega (arith, parts-total W N S u q H (quotient-cells W N T u d q v S longest-is) (asked W N T u d q v .few), m .held W)
+
+      -- T is no more than that, and twice T is
+      pub both-counted : Doubled N d (parts W N u q H) → Short N d × (longest N (cell N d) ≤ S * u + sum) × (S * u + sum ≤ 131070)
+      both-counted k =
+          let a = asked W N T u d q v in (
+            record { sized = record { few = omega (arith, a .few, v .narrow); room = omega (arith, a .size) }; lines = omega (arith, a .longest-is, a .small) },
+            omega (arith, both-total, least-total N (cell N d) (parts W N u q H) (k .plan) (k .covers)),
+            omega (arith, both-total, k .short, a .longest-is, a .small),
+          )
+
+      -- both parts are laid, and x slots of them are empty
+      pub both-answer : Doubled N d (parts W N u q H) → (r : ℕ) (plan' : List ℕ) → r ≡ length (exactPlan W N q') → plan' ≡ laid plan 0 (bytes e N (parts W N u q' H))
+          → (x : ℕ) → x ≡ N * (S * u + sum) - allSlots N (cell N d)
+          → (Done (demandCounts (r + turns) T (S * u + sum) x) ≡ planned W e N d (parts W N u q H) plan .outcome) × (plan' ≡ planned W e N d (parts W N u q H) plan .bytes)
+      both-answer k r plan' count put x f = laid-answer W e N T (r + turns) (S * u + sum) x d (parts W N u q H) plan plan' (v .fine) fits
           (omega (arith, count ∙ ap (λ (x : List ℕ). length (exactPlan W N x)) same, records))
-          (omega (arith, parts-total W N S u q H (quotient-cells W N T u d q v S longest-is) (asked W N T u d q v .few), m .held W))
+          both-total
+          (omega (arith, f, ap (λ (t : ℕ). N * t) both-total, full-empty N (cell N d) full (k .covers)))
           (put ∙ ap (λ (x : List ℕ). laid plan 0 (bytes e N (parts W N u x H))) same)
+        where
+          full : AllFull N (parts W N u q H)
+          full = parts-full W N (asked W N T u d q v .some) (asked W N T u d q v .few) q (sized W N T u d q v .room) (rotate N) (rotate-joins N (asked W N T u d q v .some)) u (λ i. getD H i 0)

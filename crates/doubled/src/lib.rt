@@ -5,6 +5,7 @@
 // demand is refused for is `demand`'s: this crate divides, counts what both parts need, and adds up.
 use demand::Checked;
 use demand::check_demand;
+use demand::empty_slots;
 use demand::longest_line;
 use records::EDITION;
 use records::HEAD;
@@ -20,7 +21,7 @@ ghost use lib.ListN.{length};
 ghost use Rattle.demand.specs.Check.{checkDemand};
 ghost use Rattle.demand.specs.declared.Checked.the-variants.{Fine};
 ghost use Rattle.rules.specs.Exact.{exactPlan};
-ghost use Rattle.rules.specs.Doubled.{unit, divide, doubledPlan, tightPlan};
+ghost use Rattle.rules.specs.Doubled.{unit, divide, doubledPlan, tightPlan, Doubled};
 ghost use Rattle.planner.specs.Planned.{planned};
 ghost use Rattle.records.specs.Bytes.{bytes, laid};
 ghost use Rattle.peel.specs.Standing.{Cells};
@@ -91,6 +92,7 @@ fn plan_fine(
             longest: 0,
             total: 0,
             length: 0,
+            empty: 0,
         });
     }
     let unit = unit_of(n, longest);
@@ -126,7 +128,7 @@ fn quotient(cell: u32, unit: u32) -> u32
     cell / unit
 }
 
-// The plan of quotients and holds that are made: both parts, once it is known that there is room for both.
+// The plan of quotients and of holds that meet the remainders: both parts, once it is known that there is room for both.
 fn plan_parts(
     n: usize,
     longest: u64,
@@ -138,7 +140,7 @@ fn plan_parts(
     edition: u8,
     plan: &mut [u8],
 ) -> Outcome
-    requires { ⌜ Divided width n longest unit (now cells) (now work) × Turning n (now holds) ⌝ }
+    requires { ⌜ Divided width n longest unit (now cells) (now work) × Turning n (now holds) × Doubled n (now cells) (parts width n unit (now work) (now holds)) ⌝ }
     ensures { λ r. ⌜ (r ≡ planned width edition n (now (cells .entry)) (parts width n unit (now (work .entry)) (now (holds .entry))) (now (plan .entry)) .outcome) × (now (plan .exit) ≡ planned width edition n (now (cells .entry)) (parts width n unit (now (work .entry)) (now (holds .entry))) (now (plan .entry)) .bytes) ⌝ }
 {
     let first = longest_line(work, n);
@@ -150,11 +152,13 @@ fn plan_parts(
         return Outcome::Refused(Refusal::Room(need));
     }
     let records = lay_parts(work, n, first, unit, holds, width, edition, plan);
+    let total = first * unit as u64 + second.total;
     Outcome::Done(Counts {
         records: records + turns,
         longest: longest,
-        total: first * unit as u64 + second.total,
+        total: total,
         length: 0,
+        empty: empty_slots(n, cells, total),
     })
 }
 

@@ -6,6 +6,8 @@ use native.Mathlib.Nat.{le-of-eq}
 use lib.ListN.{length, take}
 use lib.Seq.{take-at}
 use Rattle.switch.specs.declared.Outcome.{Outcome}
+use Rattle.switch.specs.Demand.{cell}
+use Rattle.switch.specs.Empty.{emptySlots}
 use Rattle.switch.proofs.Answer.{determined}
 use Rattle.demand.specs.declared.Checked.the-variants.{Fine}
 use Rattle.demand.specs.Check.{checkDemand, Asked}
@@ -37,7 +39,7 @@ module _ (W e N T : ℕ) (d buf : List ℕ) (fine : checkDemand W N d ≡ Fine T
   widths = subst (Each (OfWidth W)) (stretch-once (exactPlan W N d)) (stretched-width 1 (exact-peels W N (a .some) (a .few) d (le-of-eq (sym (a .size)))))
 
   written : planned W e N d (exactPlan W N d) buf .bytes ≡ laid buf 0 (bytes e N (exactPlan W N d))
-  written = ap (λ (x : Planned). x .bytes) (planned-done W e N d (exactPlan W N d) buf T fine room) ∙ sym (written-bytes e N T (exactPlan W N d) buf)
+  written = ap (λ (x : Planned). x .bytes) (planned-done W e N d (exactPlan W N d) buf T fine room) ∙ sym (written-bytes e N T (emptySlots N (cell N d) (exactPlan W N d)) (exactPlan W N d) buf)
 
   start : take (length (exactPlan W N d) * (W + 4)) (laid buf 0 (bytes e N (exactPlan W N d))) ≡ bytes e N (exactPlan W N d)
   unfolding laid

@@ -4,6 +4,7 @@
 // multiplied, so that a planner above needs nothing but their promises.
 use demand::Checked;
 use demand::check_demand;
+use demand::empty_slots;
 use matching::PLACES;
 use peel::start;
 use peel::take_off;
@@ -70,6 +71,7 @@ fn lay_or_refuse(
         longest: longest,
         total: longest,
         length: 0,
+        empty: empty_slots(n, cells, longest),
     })
 }
 

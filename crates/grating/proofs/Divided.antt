@@ -9,7 +9,8 @@ use lib.ListN.{length}
 use borrow.Author.Tests.{ne-eqb}
 use Rattle.switch.specs.declared.Counts.{Counts}
 use Rattle.switch.specs.declared.Outcome.{Outcome}
-use Rattle.switch.specs.Answer.{planCounts, countsOf}
+use Rattle.switch.specs.Answer.{demandCounts, countsOf}
+use Rattle.switch.specs.Empty.{emptySlots}
 use Rattle.switch.specs.Demand.{cell, longest}
 use Rattle.switch.specs.Plan.{Record, total}
 use Rattle.switch.proofs.Check.{some-ports}
@@ -76,17 +77,17 @@ module _ (W N T u : ℕ) (d q : List ℕ) (asks : checkDemand W N d ≡ Fine T) 
   few = unfold S in omega (arith, exact-records W N (asked .some) (asked .few) q (le-of-eq (sym size)), at-most-ports, asked .few)
 
   module _ (e : ℕ) (buf : List ℕ) (room : W ≤ whole W buf) where
-    written : planned W e N q plan buf ≡ writes e N S plan buf
+    written : planned W e N q plan buf ≡ writes e N S (emptySlots N (cell N q) plan) plan buf
     written = planned-done W e N q plan buf S (sym (unfold S in fine W N q (some-ports W N (asked .some) (asked .few)) size S-small)) (omega (arith, few, room))
 
     -- what the exact call leaves is the first part
     module _ (o : Outcome) (after : List ℕ) (c : Counts) (outcome-is : o ≡ planned W e N q plan buf .outcome) (bytes-are : after ≡ planned W e N q plan buf .bytes) (counts-are : c ≡ countsOf o) where
-      counts : c ≡ planCounts (length plan) S (total plan)
+      counts : c ≡ demandCounts (length plan) S (total plan) (emptySlots N (cell N q) plan)
       unfolding writes
       counts = counts-are ∙ ap countsOf (outcome-is ∙ ap (λ (x : Planned). x .outcome) written)
 
       left : after ≡ laid buf 0 (bytes e N plan)
-      left = bytes-are ∙ ap (λ (x : Planned). x .bytes) written ∙ sym (written-bytes e N S plan buf)
+      left = bytes-are ∙ ap (λ (x : Planned). x .bytes) written ∙ sym (written-bytes e N S (emptySlots N (cell N q) plan) plan buf)
 
       reads : planFrom W after 0 (c .records) ≡ plan
       reads =

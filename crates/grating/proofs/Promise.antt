@@ -14,7 +14,8 @@ use borrow.Author.Tests.{eq-eqb, ne-eqb}
 use Rattle.counting.proofs.Most.{most-le}
 use Rattle.switch.specs.declared.Outcome.{Outcome}
 use Rattle.switch.specs.declared.Outcome.the-variants.{Done}
-use Rattle.switch.specs.Answer.{planCounts}
+use Rattle.switch.specs.Answer.{planCounts, demandCounts}
+use Rattle.switch.specs.Empty.{emptySlots}
 use Rattle.switch.specs.Demand.{cell, longest}
 use Rattle.switch.specs.Plan.{Record, total}
 use Rattle.switch.proofs.Answer.{determined}
@@ -167,8 +168,8 @@ module _ (N T : ℕ) (d buf : List ℕ) (asks : checkDemand 64 N d ≡ Fine T) (
       ap (λ (x : Planned). take (length plan * 68) (x .bytes)) (sym (done 64 0 N plan buf room ∙ fine-answer 64 0 N d buf T asks))
       ∙ take-at (bytes 0 N plan) _ _ (bytes-size 0 N 64 (each-width 64 N sound))
 
-  -- they pass the checker, with the demand's T
-  pub grating-passes : checkPlan firstEdition N d written ≡ Done (planCounts (length plan) T (total plan))
+  -- they pass the checker, with the demand's T and the plan's empty slots
+  pub grating-passes : checkPlan firstEdition N d written ≡ Done (demandCounts (length plan) T (total plan) (emptySlots N (cell N d) plan))
   grating-passes =
       ap (checkPlan firstEdition N d) written-is
       ∙ sound-passes firstEdition first-bounded N T d (sym asks) few sound (grating-doubled 64 N (asked .some) (asked .few) d enough .covers)

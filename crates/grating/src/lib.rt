@@ -151,6 +151,7 @@ fn done(records: usize, total: u64) -> Outcome
         longest: 0,
         total: total,
         length: 0,
+        empty: 0,
     })
 }
 

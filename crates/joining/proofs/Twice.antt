@@ -65,7 +65,7 @@ module _ (E : Edition) (bounds : Bounded E) (N : ℕ) (plan : List ℕ) (byte : 
     pub joined-again : (buf : List ℕ) → joining E N (bytes (E .byte) N again) buf ≡ joining E N plan buf
     joined-again buf =
         sym (joining-room E N (bytes (E .byte) N again) buf (sym joined-passes))
-        ∙ ap (λ (p : List Record). roomFor W (E .byte) N 0 p buf) (ap joinPlan (planOf-bytes (E .byte) N W (each-width W N sound)) ∙ join-twice (positive (known .sound)))
+        ∙ ap (λ (p : List Record). roomFor W (E .byte) N 0 0 p buf) (ap joinPlan (planOf-bytes (E .byte) N W (each-width W N sound)) ∙ join-twice (positive (known .sound)))
         ∙ joining-room E N plan buf fine
 
   -- the records that a call wrote
@@ -90,10 +90,10 @@ module _ (E : Edition) (bounds : Bounded E) (N : ℕ) (plan : List ℕ) (byte : 
           same : {x y : Counts} → Done x ≡ Done y → x ≡ y
           same z = cc
 
-          counts : writes (E .byte) N 0 again buf .outcome ≡ Done (planCounts (length again) 0 (total again))
+          counts : writes (E .byte) N 0 0 again buf .outcome ≡ Done (planCounts (length again) 0 (total again))
           counts = unfold writes in refl
 
-          written : writes (E .byte) N 0 again buf .bytes ≡ laid buf 0 (bytes (E .byte) N again)
+          written : writes (E .byte) N 0 0 again buf .bytes ≡ laid buf 0 (bytes (E .byte) N again)
           written = unfold writes in refl
 
           laid-first : (s : List ℕ) (k : ℕ) → length s ≡ k → take k (laid buf 0 s) ≡ s

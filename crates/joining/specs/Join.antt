@@ -38,7 +38,7 @@ abbrev pub afterReading : Outcome → Planned → List ℕ → Planned
 afterReading (Done c) done buf = done
 afterReading (Refused r) done buf = refuses r buf
 
--- refusals 1, 9, 10, 11, 5; records and total of the plan that is written, and no T
+-- refusals 1, 9, 10, 11, 5; records and total of the plan that is written, no T and no empty slots
 unfoldable pub joining : Edition → ℕ → List ℕ → List ℕ → Planned
 joining E N plan buf =
-    afterReading (checking E N plan) (roomFor (E .width) (E .byte) N 0 (joinPlan (planOf (E .width) plan)) buf) buf
+    afterReading (checking E N plan) (roomFor (E .width) (E .byte) N 0 0 (joinPlan (planOf (E .width) plan)) buf) buf

@@ -68,6 +68,7 @@ pub fn join_for(
         longest: 0,
         total: counts.total,
         length: 0,
+        empty: 0,
     })
 }
 

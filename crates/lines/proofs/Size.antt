@@ -11,7 +11,7 @@ use Rattle.lines.specs.Decimal.{decimal}
 use Rattle.lines.specs.Line.{feed, spaced, line}
 use Rattle.lines.specs.Text.{firstLine, outputField, recordLine}
 use Rattle.lines.proofs.Decimal.{decimal-size}
-use Rattle.lines.proofs.Text.{after-ports, after-longest, after-records, first-pieces, joined-field}
+use Rattle.lines.proofs.Text.{after-ports, after-longest, after-records, after-total, first-pieces, joined-field}
 
 -- an output below 100 takes at most two bytes
 output-size : (o : ℕ) → o < 100 → length (outputField o) ≤ 2
@@ -32,7 +32,7 @@ record-size n r l h =
     let o = spaced (map outputField (take n (r .outputs))) in
     omega (arith, length-append (decimal (r .hold) ++ o) (feed ∷ []), length-append (decimal (r .hold)) o, decimal-size (r .hold) 4 (omega arith), outputs-size n (r .outputs) h)
 
--- the first line, of numbers below 100,000
-pub first-size : (n : ℕ) (c : Counts) → n < 100000 → c .longest < 100000 → c .records < 100000 → c .total < 100000 → length (firstLine n c) ≤ 64
-first-size n c a b d e =
-    omega (arith, ap length (first-pieces c n), length-append (decimal n) (after-ports c), length-append (decimal (c .longest)) (after-longest c), length-append (decimal (c .records)) (after-records c), length-append (decimal (c .total)) (ascii "\n"), decimal-size n 4 a, decimal-size (c .longest) 4 b, decimal-size (c .records) 4 d, decimal-size (c .total) 4 e)
+-- the first line, of numbers below 100,000 and empty slots below 10,000,000
+pub first-size : (n : ℕ) (c : Counts) → n < 100000 → c .longest < 100000 → c .records < 100000 → c .total < 100000 → c .empty < 10000000 → length (firstLine n c) ≤ 80
+first-size n c a b d e f =
+    omega (arith, ap length (first-pieces c n), length-append (decimal n) (after-ports c), length-append (decimal (c .longest)) (after-longest c), length-append (decimal (c .records)) (after-records c), length-append (decimal (c .total)) (after-total c), length-append (decimal (c .empty)) (ascii "\n"), decimal-size n 4 a, decimal-size (c .longest) 4 b, decimal-size (c .records) 4 d, decimal-size (c .total) 4 e, decimal-size (c .empty) 6 f)

@@ -22,10 +22,13 @@ use Rattle.lines.specs.Text.{firstLine, outputField, recordLine, recordL
 abbrev pub field : List ℕ → ℕ → List ℕ
 field w n = w ++ space ∷ decimal n
 
--- what follows the first field of the first line, the second, and the third
+-- what follows the fields of the first line, from the fourth to the first
 module _ (c : Counts) where
+  abbrev pub after-total : List ℕ
+  after-total = field (ascii " empty") (c .empty) ++ ascii "\n"
+
   abbrev pub after-records : List ℕ
-  after-records = field (ascii " total") (c .total) ++ ascii "\n"
+  after-records = field (ascii " total") (c .total) ++ after-total
 
   abbrev pub after-longest : List ℕ
   after-longest = field (ascii " records") (c .records) ++ after-records

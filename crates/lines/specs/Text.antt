@@ -12,11 +12,12 @@ use Rattle.lines.specs.Ascii.{ascii}
 use Rattle.lines.specs.Decimal.{decimal}
 use Rattle.lines.specs.Line.{line}
 
--- First line: the words ports, longest, records, total, each followed by its number (N, T, records, total hold).
+-- First line: the words ports, longest, records, total, each followed by its number (N, T, records, total hold); and last, after the word empty, the empty slots.
 unfoldable pub firstLine : ℕ → Counts → List ℕ
 firstLine N c =
     line (ascii "ports")
-    (decimal N ∷ ascii "longest" ∷ decimal (c .longest) ∷ ascii "records" ∷ decimal (c .records) ∷ ascii "total" ∷ decimal (c .total) ∷ [])
+    (decimal N ∷ ascii "longest" ∷ decimal (c .longest) ∷ ascii "records" ∷ decimal (c .records) ∷ ascii "total" ∷ decimal (c .total)
+    ∷ ascii "empty" ∷ decimal (c .empty) ∷ [])
 
 -- 255 printed as a dash
 unfoldable pub outputField : ℕ → List ℕ

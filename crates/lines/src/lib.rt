@@ -26,7 +26,7 @@ pub fn put_plan(text: &mut [u8], n: usize, counts: Counts, plan: &[u8]) -> usize
     put_record_lines(text, at, n, plan, counts.records)
 }
 
-// The words ports, longest, records, total, each followed by its number.
+// The words ports, longest, records, total, empty, each followed by its number.
 fn put_first_line(text: &mut [u8], n: usize, counts: Counts) -> usize
     requires { ⌜ length (firstLine n counts) ≤ length (now text) ⌝ }
     ensures { λ r. ⌜ Put (firstLine n counts) (now (text .entry)) 0 (now (text .exit)) r ⌝ }
@@ -35,7 +35,8 @@ fn put_first_line(text: &mut [u8], n: usize, counts: Counts) -> usize
     let longest = put_field(text, ports, b" longest", counts.longest);
     let records = put_field(text, longest, b" records", counts.records as u64);
     let total = put_field(text, records, b" total", counts.total);
-    put_bytes(text, total, b"\n")
+    let empty = put_field(text, total, b" empty", counts.empty);
+    put_bytes(text, empty, b"\n")
 }
 
 // A line for each of the first `count` records of a plan.

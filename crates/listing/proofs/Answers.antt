@@ -11,9 +11,11 @@ use Rattle.switch.specs.declared.Refusal.the-variants.{Ports}
 use Rattle.switch.specs.declared.Counts.{Counts}
 use Rattle.switch.specs.declared.Outcome.{Outcome}
 use Rattle.switch.specs.declared.Outcome.the-variants.{Done, Refused}
-use Rattle.switch.specs.Answer.{planCounts}
+use Rattle.switch.specs.Answer.{demandCounts}
+use Rattle.switch.specs.Demand.{cell}
 use Rattle.switch.specs.Check.{portsFine}
 use Rattle.switch.specs.Plan.{Record, total}
+use Rattle.switch.specs.Empty.{emptySlots}
 use Rattle.switch.proofs.Answer.{determined}
 use Rattle.switch.proofs.Check.{some-ports}
 use Rattle.demand.specs.declared.Checked.{Checked}
@@ -54,11 +56,11 @@ module _ (N : ℕ) (d buf : List ℕ) (small : N ≤ 16) (size : length buf ≡ 
     asked : Asked 64 N T d
     asked = fine-asked 64 N T d fine
 
-    text-is : demandText N d ≡ countedText N T plan
+    text-is : demandText N d ≡ countedText N T d plan
     unfolding demandText
     text-is = rw fine
 
-    done-is : answer ≡ writes 0 N T plan buf
+    done-is : answer ≡ writes 0 N T (emptySlots N (cell N d) plan) plan buf
     done-is = planned-done 64 0 N d plan buf T fine (omega (arith, exact-few N T d small asked))
 
     bytes-are : length (bytes 0 N plan) ≡ length plan * 68
@@ -70,7 +72,7 @@ module _ (N : ℕ) (d buf : List ℕ) (small : N ≤ 16) (size : length buf ≡ 
     part = take-at (bytes 0 N plan) (drop (0 + length (bytes 0 N plan)) buf) (length plan * 68) bytes-are
 
     abbrev counts : Counts
-    counts = planCounts (length plan) T (total plan)
+    counts = demandCounts (length plan) T (total plan) (emptySlots N (cell N d) plan)
 
     written : Written N d counts (laid buf 0 (bytes 0 N plan))
     written = record {

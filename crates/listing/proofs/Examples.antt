@@ -9,7 +9,8 @@ use Rattle.counting.specs.Count.{ind, δ}
 use Rattle.counting.specs.Matrix.{row, col}
 use Rattle.switch.specs.Check.{portsFine}
 use Rattle.switch.specs.Demand.{cell, longest, line}
-use Rattle.switch.specs.Plan.{total}
+use Rattle.switch.specs.Plan.{output, grant, total}
+use Rattle.switch.specs.Empty.{beyond, emptySlots}
 use Rattle.demand.specs.Lines.{over, lineSide, lineOver}
 use Rattle.demand.specs.Check.{checkDemand}
 use Rattle.rules.specs.Fill.{fill, fillTo, fillCell, lack}
@@ -43,7 +44,7 @@ largest i j = wish i j 255 127 71
 abbrev examples : List (List ℕ × String)
 examples =
     -- document 01's case as Ask 7 has it: pairs (0,0) 2.0, (0,1) 1.0, (1,0) 0.5, (1,1) 1.5 are the demand 2 2 / 2 2
-    (wish 0 0 0 0 64 ++ one 0 1 ++ wish 1 0 0 0 63 ++ wish 1 1 0 192 63, "ports 2 longest 4 records 2 total 4\n2 0 1\n2 1 0\n")
+    (wish 0 0 0 0 64 ++ one 0 1 ++ wish 1 0 0 0 63 ++ wish 1 1 0 192 63, "ports 2 longest 4 records 2 total 4 empty 0\n2 0 1\n2 1 0\n")
     -- nothing, and ports that are too many
     ∷ ([], "refused 1 0\n")
     ∷ (one 0 0 ++ one 16 0, "refused 1 0\n")
@@ -58,5 +59,5 @@ pub examples-listed : map (λ (e : List ℕ × String). listingOf (e .0)) exampl
 unfolding listingOf wishText demandText portsIn recordAt word outcome portsFine firstFault faultAt faultOf wellFormed named samePair
     wishBits ofBits wishOf finite worth ceil demandOf wishes.put checkDemand lineOver lineSide over line
     exactPlan exactFrom peels recordOf least tab firstSetting complete free pick put peel fill fillTo fillCell lack longest most row col cell sum δ ind
-    total planText firstLine recordLines recordLine refusedLine outputField lines.line spaced decimal digitsIn
+    total output grant beyond emptySlots planText firstLine recordLines recordLine refusedLine outputField lines.line spaced decimal digitsIn
 examples-listed = refl

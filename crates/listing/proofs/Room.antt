@@ -1,17 +1,20 @@
 -- The exact plan for at most 16 ports has at most 226 records, each line of it at most 54 bytes; so the text fits.
-use mathlib.Core.Path.{sym}
+use mathlib.Core.Path.{sym, ap}
 use mathlib.Core.List.{List}
 use Prim.Native.Nat.{ℕ, zero, suc, _+_, _*_, _<_, _≤_}
 use native.Mathlib.Nat.{suc-mul, mul-suc, mul-le-mul, le-of-eq}
 use native.Mathlib.Omega.{arith}
 use lib.ListN.{length, length-append}
-use Rattle.switch.specs.Answer.{planCounts}
+use Rattle.switch.specs.Answer.{demandCounts}
+use Rattle.switch.specs.Demand.{cell}
 use Rattle.switch.specs.Plan.{Record, total}
+use Rattle.switch.specs.Empty.{emptySlots}
 use Rattle.demand.specs.Check.{Asked}
 use Rattle.records.specs.Bytes.{Each, OfWidth}
 use Rattle.rules.specs.Peel.{Peels, none, more}
 use Rattle.rules.specs.Exact.{exactPlan}
 use Rattle.rules.proofs.Exact.{exact-peels, exact-total, exact-records}
+use Rattle.rules.proofs.Empty.{exact-empty-slots}
 use Rattle.lines.specs.Text.{firstLine, recordLine, recordLines, planText}
 use Rattle.lines.proofs.Size.{record-size, first-size}
 use Rattle.listing.specs.Listing.{countedText}
@@ -42,10 +45,14 @@ module _ (N T : ℕ) (d : List ℕ) (small : N ≤ 16) (asked : Asked 64 N T d) 
   pub exact-width : Each (OfWidth 64) (exactPlan 64 N d)
   exact-width = widths (exact-peels 64 N (asked .some) (asked .few) d cells)
 
-  pub text-fits : length (countedText N T (exactPlan 64 N d)) ≤ 16384
+  -- at most 16 × 65,535 slots are empty
+  few-empty : emptySlots N (cell N d) (exactPlan 64 N d) ≤ 1048560
+  few-empty = omega (arith, exact-empty-slots 64 N (asked .some) (asked .few) d cells, asked .longest-is, mul-le-mul small (asked .small), ap (λ (t : ℕ). N * t) (asked .longest-is))
+
+  pub text-fits : length (countedText N T d (exactPlan 64 N d)) ≤ 16384
   unfolding planText
   text-fits =
       let p = exactPlan 64 N d in
-      let c = planCounts (length p) T (total p) in
+      let c = demandCounts (length p) T (total p) (emptySlots N (cell N d) p) in
       let t : total p ≤ 65535 = omega (arith, exact-total 64 N (asked .some) (asked .few) d cells, asked .longest-is, asked .small) in
-      omega (arith, length-append (firstLine N c) (recordLines N p), exact-few, asked .small, lines-size (exact-peels 64 N (asked .some) (asked .few) d cells) small t, first-size N c (omega arith) (omega (arith, asked .small)) (omega (arith, exact-few)) (omega arith))
+      omega (arith, length-append (firstLine N c) (recordLines N p), exact-few, asked .small, lines-size (exact-peels 64 N (asked .some) (asked .few) d cells) small t, first-size N c (omega arith) (omega (arith, asked .small)) (omega (arith, exact-few)) (omega arith) (omega (arith, few-empty)))

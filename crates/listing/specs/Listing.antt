@@ -6,8 +6,10 @@ use Prim.Native.Nat.{ℕ, zero, suc, _+_, _*_, _/_, _<_, max}
 use lib.ListN.{length, take}
 use Rattle.switch.specs.declared.Outcome.{Outcome}
 use Rattle.switch.specs.declared.Outcome.the-variants.{Done, Refused}
-use Rattle.switch.specs.Answer.{planCounts}
+use Rattle.switch.specs.Answer.{demandCounts}
+use Rattle.switch.specs.Demand.{cell}
 use Rattle.switch.specs.Plan.{Record, total}
+use Rattle.switch.specs.Empty.{emptySlots}
 use Rattle.demand.specs.declared.Checked.{Checked}
 use Rattle.demand.specs.declared.Checked.the-variants.{Fine, Faulty}
 use Rattle.demand.specs.Check.{checkDemand}
@@ -31,13 +33,13 @@ pub record PortsIn (s : List ℕ) (m N : ℕ) : Type 0 where
 abbrev pub portsOf : List ℕ → ℕ
 portsOf s = portsIn s (length s / 8)
 
--- a plan with what its planner counts: records, T and total
-abbrev pub countedText : ℕ → ℕ → List Record → List ℕ
-countedText N T p = planText N (planCounts (length p) T (total p)) p
+-- a plan with what its planner counts: records, T, total and empty slots
+abbrev pub countedText : ℕ → ℕ → List ℕ → List Record → List ℕ
+countedText N T d p = planText N (demandCounts (length p) T (total p) (emptySlots N (cell N d) p)) p
 
 -- It prints the exact plan, or what the planner refuses
 abbrev pub checkedText : ℕ → List ℕ → Checked → List ℕ
-checkedText N d (Fine T) = countedText N T (exactPlan 64 N d)
+checkedText N d (Fine T) = countedText N T d (exactPlan 64 N d)
 checkedText N d (Faulty r) = refusedLine r
 
 -- of a demand

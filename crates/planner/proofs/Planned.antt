@@ -10,20 +10,22 @@ use Rattle.switch.specs.declared.Refusal.{Refusal}
 use Rattle.switch.specs.declared.Refusal.the-variants.{Longest, Room}
 use Rattle.switch.specs.declared.Outcome.{Outcome}
 use Rattle.switch.specs.declared.Outcome.the-variants.{Done}
-use Rattle.switch.specs.Answer.{planCounts}
+use Rattle.switch.specs.Answer.{demandCounts}
+use Rattle.switch.specs.Demand.{cell}
 use Rattle.switch.specs.Plan.{Record, total}
+use Rattle.switch.specs.Empty.{emptySlots}
 use Rattle.switch.proofs.Answer.{determined}
 use Rattle.demand.specs.declared.Checked.the-variants.{Fine, Faulty}
 use Rattle.demand.specs.Check.{checkDemand}
 use Rattle.records.specs.Bytes.{whole, bytes, laid}
 use Rattle.planner.specs.Planned.{Planned, refuses, writes, roomFor, planned, plannedUpTo, Gives, shortage}
 
-module _ (W e N T : ℕ) (p : List Record) (buf : List ℕ) where
-  pub no-room : whole W buf < length p → roomFor W e N T p buf ≡ refuses (Room (length p)) buf
+module _ (W e N T empty : ℕ) (p : List Record) (buf : List ℕ) where
+  pub no-room : whole W buf < length p → roomFor W e N T empty p buf ≡ refuses (Room (length p)) buf
   unfolding roomFor
   no-room l = rw (lt-ltb _ _ l)
 
-  pub room : length p ≤ whole W buf → roomFor W e N T p buf ≡ writes e N T p buf
+  pub room : length p ≤ whole W buf → roomFor W e N T empty p buf ≡ writes e N T empty p buf
   unfolding roomFor
   room l = rw (le-ltb _ _ l)
 
@@ -37,11 +39,11 @@ module _ (W e N : ℕ) (d : List ℕ) (p : List Record) (buf : List ℕ) where
     -- code 5
     pub planned-short : whole W buf < length p → planned W e N d p buf ≡ refuses (Room (length p)) buf
     unfolding planned
-    planned-short l = rw fine (no-room W e N T p buf l)
+    planned-short l = rw fine (no-room W e N T (emptySlots N (cell N d) p) p buf l)
 
-    pub planned-done : length p ≤ whole W buf → planned W e N d p buf ≡ writes e N T p buf
+    pub planned-done : length p ≤ whole W buf → planned W e N d p buf ≡ writes e N T (emptySlots N (cell N d) p) p buf
     unfolding planned
-    planned-done l = rw fine (room W e N T p buf l)
+    planned-done l = rw fine (room W e N T (emptySlots N (cell N d) p) p buf l)
 
 module _ (limit W e N : ℕ) (d : List ℕ) (p : List Record) (buf : List ℕ) where
   pub limited-faulty : (r : Refusal) → checkDemand W N d ≡ Faulty r → plannedUpTo limit W e N d p buf ≡ refuses r buf
@@ -56,20 +58,20 @@ module _ (limit W e N : ℕ) (d : List ℕ) (p : List Record) (buf : List ℕ) w
 
     pub limited-short : T ≤ limit → whole W buf < length p → plannedUpTo limit W e N d p buf ≡ refuses (Room (length p)) buf
     unfolding plannedUpTo
-    limited-short h l = rw (fine, le-ltb _ _ h) (no-room W e N T p buf l)
+    limited-short h l = rw (fine, le-ltb _ _ h) (no-room W e N T (emptySlots N (cell N d) p) p buf l)
 
-    pub limited-done : T ≤ limit → length p ≤ whole W buf → plannedUpTo limit W e N d p buf ≡ writes e N T p buf
+    pub limited-done : T ≤ limit → length p ≤ whole W buf → plannedUpTo limit W e N d p buf ≡ writes e N T (emptySlots N (cell N d) p) p buf
     unfolding plannedUpTo
-    limited-done h l = rw (fine, le-ltb _ _ h) (room W e N T p buf l)
+    limited-done h l = rw (fine, le-ltb _ _ h) (room W e N T (emptySlots N (cell N d) p) p buf l)
 
 -- what is written: the counts and the bytes
-pub written-outcome : (e N T r t : ℕ) (p : List Record) (buf : List ℕ) → r ≡ length p → t ≡ total p → Done (planCounts r T t) ≡ writes e N T p buf .outcome
+pub written-outcome : (e N T empty r t x : ℕ) (p : List Record) (buf : List ℕ) → r ≡ length p → t ≡ total p → x ≡ empty → Done (demandCounts r T t x) ≡ writes e N T empty p buf .outcome
 unfolding writes
-written-outcome e N T r t p buf a b = λ i. Done (planCounts (a i) T (b i))
+written-outcome e N T empty r t x p buf a b c = λ i. Done (demandCounts (a i) T (b i) (c i))
 
-pub written-bytes : (e N T : ℕ) (p : List Record) (buf : List ℕ) → laid buf 0 (bytes e N p) ≡ writes e N T p buf .bytes
+pub written-bytes : (e N T empty : ℕ) (p : List Record) (buf : List ℕ) → laid buf 0 (bytes e N p) ≡ writes e N T empty p buf .bytes
 unfolding writes
-written-bytes e N T p buf = refl
+written-bytes e N T empty p buf = refl
 
 -- ---- a call's result
 

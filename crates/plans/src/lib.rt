@@ -108,6 +108,7 @@ pub fn open(n: usize, plan: &[u8], e: Edition) -> Outcome
         longest: 0,
         total: 0,
         length: 0,
+        empty: 0,
     })
 }
 
@@ -160,6 +161,7 @@ pub fn check_plan(n: usize, plan: &[u8], e: Edition) -> Outcome
         longest: 0,
         total: total_hold(plan, e.width, records),
         length: 0,
+        empty: 0,
     })
 }
 

@@ -7,6 +7,7 @@ use Rattle.counting.specs.Matrix.{row}
 use Rattle.counting.proofs.Sum.{sum-cong}
 use Rattle.counting.proofs.Matrix.{row-cong}
 use Rattle.switch.specs.Demand.{cell}
+use Rattle.switch.specs.Empty.{allSlots}
 use Rattle.switch.proofs.Demand.{cell-append}
 use Rattle.rules.specs.Quick.{quickPlan}
 use Rattle.rules.proofs.QuickFrom.{quick-cong}
@@ -16,14 +17,14 @@ use Rattle.slot.specs.Filled.{leftIn, leftover}
 use Rattle.quick.specs.Lent.{Small, Loaded}
 
 module _ (N : ℕ) (d w : List ℕ) (m : Small N d) where
-  pub loaded : (w' lows' highs' : List ℕ) (left : ℕ) → w' ≡ d ++ w → Sized N w' → Labelled N w' lows' highs' → left ≡ leftIn N d → Loaded N d w' lows' highs' left
+  pub loaded : (w' lows' highs' : List ℕ) (left : ℕ) → w' ≡ d ++ w → Sized N w' → Labelled N w' lows' highs' → left ≡ allSlots N (cell N d) → Loaded N d w' lows' highs' left
   loaded w' lows' highs' left e s l a = record { copy = record { sized = s; labels = l; all = a ∙ all }; same = same }
     where
       same : (i j : ℕ) → i < N → j < N → cell N w' i j ≡ cell N d i j
       same = subst (λ (x : List ℕ). (i j : ℕ) → i < N → j < N → cell N x i j ≡ cell N d i j) (sym e) (cell-append N d w (m .size))
 
-      all : leftIn N d ≡ leftIn N w'
-      all = unfold leftIn in sum-cong N (row N (cell N d)) (row N (cell N w')) (row-cong N (cell N d) (cell N w') (λ i j li lj. sym (same i j li lj)))
+      all : allSlots N (cell N d) ≡ leftIn N w'
+      all = unfold leftIn allSlots in sum-cong N (row N (cell N d)) (row N (cell N w')) (row-cong N (cell N d) (cell N w') (λ i j li lj. sym (same i j li lj)))
 
 pub loaded-plan : (W N : ℕ) (d w lows highs : List ℕ) (left : ℕ) → Loaded N d w lows highs left → leftover W N 0 w ≡ quickPlan W N d
 unfolding leftover quickPlan

@@ -17,6 +17,7 @@ use Rattle.switch.specs.declared.Outcome.the-variants.{Done, Refused}
 use Rattle.switch.specs.Answer.{planCounts}
 use Rattle.switch.specs.Demand.{cell}
 use Rattle.switch.specs.Plan.{Record}
+use Rattle.switch.specs.Empty.{emptySlots}
 use Rattle.demand.specs.declared.Checked.the-variants.{Fine, Faulty}
 use Rattle.demand.specs.Check.{checkDemand, Asked}
 use Rattle.demand.proofs.Check.{fine-asked}
@@ -27,6 +28,7 @@ use Rattle.rules.specs.Exact.{tab}
 use Rattle.rules.specs.Quick.{slot, slots, quickFrom, quickPlan}
 use Rattle.rules.proofs.Peels.{length-tab}
 use Rattle.rules.proofs.Quick.{quick-total, quick-at-most}
+use Rattle.rules.proofs.Empty.{quick-empty-slots}
 use Rattle.planner.specs.Planned.{Planned, plannedUpTo, Gives, shortage}
 use Rattle.planner.proofs.Planned.{limited-faulty, limited-long, limited-short, limited-done, written-outcome, written-bytes, gives, gives-one, shortage-none, shortage-some}
 use Rattle.quick.specs.Lent.{Lent, Space}
@@ -79,14 +81,15 @@ module _ (W e N : ℕ) (d buf : List ℕ) where
       pub enough-room : need ≡ 0 → length (quickPlan W N d) ≤ whole W buf
       enough-room z = shortage-none _ _ (sym short ∙ z)
 
-      -- as many records as the plan has, each held for one slot
+      -- as many records as the plan has, each held for one slot, and no slot empty
       pub gives-plan : W ≤ 128 → need ≡ 0 → (r : ℕ) (after : List ℕ) → r ≡ length (quickPlan W N d) → after ≡ laid buf 0 (bytes e N (quickPlan W N d))
           → Gives answer (Done (planCounts r T r)) after
       gives-plan w z r after q b =
           let k = fine-asked W N T d fine in
           gives answer _ (limited-done 1024 W e N d (quickPlan W N d) buf T fine small (enough-room z)) _ _
-          (written-outcome e N T r r (quickPlan W N d) buf q (q ∙ sym (quick-total W N (k .some) (k .few) (omega (arith, k .few)) d)))
-          (b ∙ written-bytes e N T (quickPlan W N d) buf)
+          (written-outcome e N T (emptySlots N (cell N d) (quickPlan W N d)) r r 0 (quickPlan W N d) buf q (q ∙ sym (quick-total W N (k .some) (k .few) (omega (arith, k .few)) d))
+          (sym (quick-empty-slots W N (k .some) (k .few) (omega (arith, k .few)) d)))
+          (b ∙ written-bytes e N T (emptySlots N (cell N d) (quickPlan W N d)) (quickPlan W N d) buf)
 
 -- any two results of the call are one
 pub one-result : (N : ℕ) (d buf : List ℕ) (r s : Outcome) (after later : List ℕ) → Gives (answer 64 0 N d buf) r after → Gives (answer 64 0 N d buf) s later → (r ≡ s) × (after ≡ later)

@@ -3,8 +3,8 @@
 // before the first byte is written, and else the plan. The lent demand is only read: what is counted down is a working copy.
 // What a demand is refused for, how one slot is filled and the layout of a record are left to the crates below.
 use demand::Checked;
+use demand::asked_slots;
 use demand::check_demand;
-use demand::line_sum;
 use records::EDITION;
 use records::HEAD;
 use records::IDLE;
@@ -25,7 +25,7 @@ ghost use Rattle.records.specs.Bytes.{bytes, laid};
 ghost use Rattle.rules.specs.Quick.{quickPlan};
 ghost use Rattle.planner.specs.Planned.{plannedUpTo, Gives, shortage};
 ghost use Rattle.work.specs.Level.{Sized};
-ghost use Rattle.slot.specs.Filled.{leftIn, leftover, Copy, Seats};
+ghost use Rattle.slot.specs.Filled.{leftover, Copy, Seats};
 ghost use Rattle.quick.specs.Lent.{Space, Lent, Small, Loaded};
 
 // T is at most 1,024 here.
@@ -117,6 +117,7 @@ fn plan_checked(
         longest: longest,
         total: records as u64,
         length: 0,
+        empty: 0,
     })
 }
 
@@ -211,17 +212,5 @@ fn load(n: usize, cells: &[u32], work: &mut [u32], lows: &mut [u64], highs: &mut
 {
     copy(cells, work);
     label_rows(work, n, lows, highs);
-    all_slots(n, cells)
-}
-
-// The sum of all cells.
-fn all_slots(n: usize, cells: &[u32]) -> u64
-    requires { ⌜ Small n (now cells) ⌝ }
-    ensures { λ r. ⌜ r ≡ leftIn n (now (cells .entry)) ⌝ }
-{
-    let mut all: u64 = 0;
-    for i in 0..n {
-        all += line_sum(cells, n, i);
-    }
-    all
+    asked_slots(n, cells)
 }

@@ -52,6 +52,7 @@ pub fn write_record(hold: u16, n: usize, outputs: &[u8; 64], plan: &mut [u8]) ->
         longest: 0,
         total: hold as u64,
         length: 0,
+        empty: 0,
     })
 }
 

@@ -109,7 +109,7 @@ module _ (W : ℕ) (τ : ℕ → ℕ → ℕ) (H : ℕ → ℕ) where
   total-turns v (suc n) k b = omega (arith, total-append (held W (H k) (τ k)) (turns W τ H n (suc k)), total-held (H k) (τ k), b k, total-turns v n (suc k) b)
 
   module _ (N : ℕ) (top : N ≤ W) where
-    held-output : (h : ℕ) (o : ℕ → ℕ) (i : ℕ) → i < N → output (record { hold = h; outputs = tab W 0 o }) i ≡ o i
+    pub held-output : (h : ℕ) (o : ℕ → ℕ) (i : ℕ) → i < N → output (record { hold = h; outputs = tab W 0 o }) i ≡ o i
     unfolding output
     held-output h o i l = getD-tab W 0 o i 255 (omega arith) ∙ ap o (omega arith)
 

@@ -16,3 +16,4 @@ pub mod Tight
 pub mod Slot
 pub mod Quick
 pub mod QuickFrom
+pub mod Empty

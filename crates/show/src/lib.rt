@@ -31,6 +31,7 @@ pub fn answer(o: Outcome) {
     field(b" longest ", counts.longest);
     field(b" total ", counts.total);
     field(b" length ", counts.length);
+    field(b" empty ", counts.empty);
 }
 
 // A side's word, a dash where there is none.

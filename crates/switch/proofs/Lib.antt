@@ -2,3 +2,4 @@ pub mod Answer
 pub mod Demand
 pub mod Check
 pub mod Plan
+pub mod Empty

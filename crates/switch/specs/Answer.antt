@@ -1,4 +1,4 @@
--- Document 01's numbers for each case of an answer: code, place, side, records, T, total and length. Definitions only.
+-- Document 01's numbers for each case of an answer: code, place, side, records, T, total, length and empty slots. Definitions only.
 use Prim.Native.Nat.{ℕ}
 use Rattle.switch.specs.declared.Side.{Side}
 use Rattle.switch.specs.declared.Side.the-variants.{Input, Output}
@@ -79,15 +79,15 @@ abbrev pub sideOf : Outcome → ℕ
 sideOf (Done c) = 0
 sideOf (Refused r) = refusalSide r
 
--- a refusal gives 0 for records, T, total and length
+-- a refusal gives 0 for records, T, total, length and empty slots
 abbrev pub noCounts : Counts
-noCounts = record { records = 0; longest = 0; total = 0; length = 0 }
+noCounts = record { records = 0; longest = 0; total = 0; length = 0; empty = 0 }
 
 abbrev pub countsOf : Outcome → Counts
 countsOf (Done c) = c
 countsOf (Refused r) = noCounts
 
--- a call answers code, place, records, T and total; what does not apply is 0
+-- a call answers code, place, records, T, total and empty slots; what does not apply is 0
 pub record Answer : Type 0 where
   pub code : ℕ
   pub place : ℕ
@@ -97,6 +97,10 @@ pub record Answer : Type 0 where
 abbrev pub answerOf : Outcome → Answer
 answerOf o = record { code = codeOf o; place = placeOf o; side = sideOf o; counts = countsOf o }
 
--- what the planners and the checker count: records, T and total
+-- what the planners and the checker count: records, T, total and empty slots
+abbrev pub demandCounts : ℕ → ℕ → ℕ → ℕ → Counts
+demandCounts records longest total empty = record { records = records; longest = longest; total = total; length = 0; empty = empty }
+
+-- what a call counts that sets no plan against a demand: no empty slots
 abbrev pub planCounts : ℕ → ℕ → ℕ → Counts
-planCounts records longest total = record { records = records; longest = longest; total = total; length = 0 }
+planCounts records longest total = demandCounts records longest total 0

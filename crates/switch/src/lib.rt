@@ -1,6 +1,6 @@
 // The model: ports, sides, refusals and the outcome of a call, with document 01's numbers for each of its cases.
-// What a demand, a line, T, a setting, a plan, its grants and its cover are stands in specs/, over any number of ports, and in proofs/
-// that no plan that covers a demand is held for less than T. Checking a demand and planning it are left to the crates above.
+// What a demand, a line, T, a setting, a plan, its grants, its cover and its empty slots are stands in specs/, over any number of ports, and
+// in proofs/ that no plan that covers a demand is held for less than T. Checking a demand and planning it are left to the crates above.
 ghost use mathlib.Core.Path.{_≡_};
 ghost use Rattle.switch.specs.Answer.{codeOf, placeOf, sideOf, countsOf};
 
@@ -57,6 +57,8 @@ pub struct Counts {
     pub longest: u64,
     pub total: u64,
     pub length: u64,
+    // Slots granted beyond what was asked; it may need more than 32 bits.
+    pub empty: u64,
 }
 
 // What a call answers.
@@ -154,6 +156,7 @@ pub fn counts_of(o: Outcome) -> Counts
             longest: 0,
             total: 0,
             length: 0,
+            empty: 0,
         },
     }
 }

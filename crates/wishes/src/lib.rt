@@ -90,6 +90,7 @@ fn list_to_demand(
                 longest: 0,
                 total: 0,
                 length: 0,
+                empty: 0,
             })
         }
     }

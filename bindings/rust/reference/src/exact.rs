@@ -2,14 +2,14 @@
 
 use crate::peel::Peel;
 use crate::plan::bytes;
-use crate::{demand, Counts, Outcome, Refusal, MOST_PORTS, RECORD_SIZE};
+use crate::{demand, Counts, Outcome, Refusal, IDLE, MOST_PORTS, RECORD_SIZE};
 
 /// The exact plan of a demand: total hold T, and no covering plan has less.
 pub fn exact(n: u64, cells: &[u32], plan: &mut [u8]) -> Outcome {
     let (n, longest) = demand(n, cells)?;
     let mut written = Writer::default();
     peel(n, cells, 1, &mut written);
-    written.lend(longest, plan)
+    written.lend(cells, longest, plan)
 }
 
 /// Writes the exact plan of a demand, each hold multiplied by `factor`.
@@ -50,21 +50,26 @@ fn fill(n: usize, cells: &[u32], filled: &mut [u32]) -> u32 {
 pub(crate) struct Writer {
     plan: Vec<u8>,
     total: u64,
+    /// The slots that the settings join, however many are asked.
+    joined: u64,
 }
 
 impl Writer {
     pub(crate) fn push(&mut self, hold: u16, n: usize, outputs: &[u8; MOST_PORTS]) {
         self.plan.extend_from_slice(&bytes(hold, n, outputs));
         self.total += u64::from(hold);
+        self.joined += u64::from(hold) * outputs.iter().filter(|&&output| output != IDLE).count() as u64;
     }
 
-    /// Code 5, or the plan written to the lent buffer and a planner's answer.
-    pub(crate) fn lend(self, longest: u64, plan: &mut [u8]) -> Outcome {
+    /// Code 5, or the plan written to the lent buffer and a planner's answer. The plan covers, so the
+    /// slots joined are those asked and the empty ones.
+    pub(crate) fn lend(self, cells: &[u32], longest: u64, plan: &mut [u8]) -> Outcome {
         let records = self.plan.len() / RECORD_SIZE;
         if plan.len() / RECORD_SIZE < records {
             return Err(Refusal::Room(records));
         }
         plan[..self.plan.len()].copy_from_slice(&self.plan);
-        Ok(Counts { records: records as u64, longest, total: self.total, length: 0 })
+        let asked: u64 = cells.iter().map(|&cell| u64::from(cell)).sum();
+        Ok(Counts { records: records as u64, longest, total: self.total, length: 0, empty: self.joined - asked })
     }
 }

@@ -46,7 +46,7 @@ pub fn grating_doubled(n: u64, cells: &[u32], plan: &mut [u8]) -> Outcome {
             }
         }
     }
-    written.lend(0, plan)
+    written.lend(cells, 0, plan).map(|counts| Counts { empty: 0, ..counts })
 }
 
 /// The largest remainder of setting k at k: the pair (i, j) is joined in setting (i + j) mod N.

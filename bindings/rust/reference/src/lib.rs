@@ -68,6 +68,7 @@ pub struct Counts {
     pub longest: u64,
     pub total: u64,
     pub length: u64,
+    pub empty: u64,
 }
 
 pub type Outcome = Result<Counts, Refusal>;

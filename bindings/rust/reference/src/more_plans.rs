@@ -29,7 +29,7 @@ fn doubled_by(n: u64, cells: &[u32], plan: &mut [u8], holds: Holds) -> Outcome {
         peel(n, &quotients[..n * n], unit, &mut written);
         rotations(n, &holds(n, cells, unit), &mut written);
     }
-    written.lend(longest, plan)
+    written.lend(cells, longest, plan)
 }
 
 /// For each rotation the largest remainder among its pairs.
@@ -71,7 +71,7 @@ pub fn quick(n: u64, cells: &[u32], plan: &mut [u8]) -> Outcome {
         }
         written.push(1, n, &cover.setting(slot % n));
     }
-    written.lend(longest, plan)
+    written.lend(cells, longest, plan)
 }
 
 /// What the quick cover has left to serve.

@@ -88,7 +88,7 @@ pub fn length(n: u64, plan: &[u8], d: u16) -> Outcome {
         moves += u64::from(before != Some(outputs));
         before = Some(outputs);
     })?;
-    Ok(Counts { records, total, length: total + u64::from(d) * moves, longest: 0 })
+    Ok(Counts { records, total, length: total + u64::from(d) * moves, ..Counts::default() })
 }
 
 /// Checks a plan from anywhere against a demand.
@@ -108,7 +108,10 @@ pub fn check(n: u64, cells: &[u32], plan: &[u8]) -> Outcome {
     })?;
     match cells.iter().zip(&granted).position(|(asked, granted)| granted < asked) {
         Some(cell) => Err(Refusal::Uncovered(cell)),
-        None => Ok(Counts { records, longest, total, length: 0 }),
+        None => {
+            let empty = cells.iter().zip(&granted).map(|(asked, granted)| u64::from(granted - asked)).sum();
+            Ok(Counts { records, longest, total, length: 0, empty })
+        }
     }
 }
 

@@ -47,7 +47,8 @@ fn the_plan_covers_within_its_bounds_and_spreads_the_wavelengths() {
         let counts = grating_doubled(n as u64, &cells, &mut plan).expect("2N records are enough");
         plan.truncate(counts.records as usize * RECORD_SIZE);
         let checked = check(n as u64, &cells, &plan).expect("it covers");
-        assert_eq!(checked, Counts { longest, ..counts });
+        let asked: u64 = cells.iter().map(|&cell| u64::from(cell)).sum();
+        assert_eq!(checked, Counts { longest, empty: n as u64 * counts.total - asked, ..counts });
         assert!(counts.total < 2 * longest || counts.total == 0, "total {} for T = {longest}", counts.total);
         let mut exact_part = vec![0; n * RECORD_SIZE];
         let unit = longest.div_ceil(n as u64).max(1) as u32;

@@ -23,6 +23,7 @@ fn planned(planner: Planner, n: usize, cells: &[u32], room: usize) -> (Counts, V
     assert_eq!(plan.len() as u64, counts.records, "a written record is not well formed");
     assert_eq!(plan.iter().map(|record| u64::from(record.hold)).sum::<u64>(), counts.total);
     assert_eq!(counts.longest, slow::longest(&slow::rows(n, cells)));
+    assert_eq!(check(n as u64, cells, written), Ok(counts), "the checker counts the same");
     (counts, plan)
 }
 
@@ -48,9 +49,11 @@ fn covers(granted: &Demand, asked: &Demand) -> bool {
 fn try_demand(n: usize, cells: &[u32], first: Option<First>) {
     let asked = slow::rows(n, cells);
     let longest = slow::longest(&asked);
+    let slots: u64 = asked.iter().flatten().sum();
 
     let (counts, plan) = planned(exact, n, cells, n * n);
     assert_eq!(counts.total, longest, "total hold is T");
+    assert_eq!(counts.empty, n as u64 * longest - slots, "N × T less the sum of all cells");
     assert!(plan.len() <= n * n + 2 - 2 * n, "{} records for N = {n}", plan.len());
     assert_eq!(granted(n, &plan), slow::filled(&asked), "granted is the filled demand");
     assert!(covers(&granted(n, &plan), &asked));
@@ -66,6 +69,7 @@ fn try_demand(n: usize, cells: &[u32], first: Option<First>) {
         let (counts, plan) = planned(planner, n, cells, 2 * n);
         assert!(plan.len() <= 2 * n);
         assert!(counts.total <= (2 * longest).saturating_sub(1));
+        assert_eq!(counts.empty, n as u64 * counts.total - slots, "every setting is full");
         assert!(covers(&granted(n, &plan), &asked));
         if let Some(first) = first {
             assert_eq!(plan, slow(&asked, first), "N = {n}, {cells:?}");
@@ -76,6 +80,7 @@ fn try_demand(n: usize, cells: &[u32], first: Option<First>) {
         let (counts, plan) = planned(quick, n, cells, 2 * MOST_QUICK as usize);
         assert!(longest <= counts.records && counts.records <= (2 * longest).saturating_sub(1));
         assert!(granted(n, &plan) == asked, "a slot is served only where it is asked");
+        assert_eq!(counts.empty, 0, "and so none is empty");
         assert_eq!(plan, slow::quick(&asked), "N = {n}, {cells:?}");
     } else {
         assert_eq!(quick(n as u64, cells, &mut []), Err(Refusal::Longest));

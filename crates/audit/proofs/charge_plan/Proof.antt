@@ -35,7 +35,7 @@ counted-requires c κs = search needs
 returns : tie.Need-returns Inv-loop μ-loop
 returns c =
     let l = c .before .before .before .before .before .loop in
-    rw (c .counted .ensures) (pass-stop _ _ _ _ (c .before .before .before .before .before .before .before .pre) _ _ (omega arith) _ (c .before .before .before .record-at .ensures) (l .inv .0) _ (c .before .before .record-fine .ensures) (c .before .if1 .taken), record { longest = refl; length = l .inv .1 })
+    rw (c .counted .ensures) (pass-stop _ _ _ _ (c .before .before .before .before .before .before .before .pre) _ _ (omega arith) _ (c .before .before .before .record-at .ensures) (l .inv .0) _ (c .before .before .record-fine .ensures) (c .before .if1 .taken), record { longest = refl; empty = refl; length = l .inv .1 })
 
 hold-of-requires : tie.Need-hold-of-requires Inv-loop μ-loop
 hold-of-requires c κs = omega (arith, read-size _ _ _ _ (c .before .before .before .before .before .before .pre) _ 0 (omega arith) _ (c .before .before .record-at .ensures))
@@ -77,7 +77,7 @@ returns-2 : tie.Need-returns-2 Inv-loop μ-loop
 returns-2 c =
     let l = c .before .before .loop in
     let e : l .k ≡ c .before .before .before .before .args .count = omega (arith, l .inv .0 .inside) in
-    rw (c .counted2 .ensures) (pass-end _ _ _ _ (c .before .before .before .before .pre) (l .k) _ (omega arith) (l .inv .0), record { longest = refl; length = rw e at (l .inv .1) })
+    rw (c .counted2 .ensures) (pass-end _ _ _ _ (c .before .before .before .before .pre) (l .k) _ (omega arith) (l .inv .0), record { longest = refl; empty = refl; length = rw e at (l .inv .1) })
 
 pub charge-plan-spec : {M : Type 1} → statement M
 charge-plan-spec =

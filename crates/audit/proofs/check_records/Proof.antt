@@ -3,7 +3,7 @@ use mathlib.Core.Path.{sym, _∙_}
 use native.Mathlib.Omega.{arith}
 use Rattle.plans.proofs.Read.{opened-records}
 use Rattle.audit.proofs.Reading.{reading-refused, reading-malformed, readable}
-use Rattle.audit.proofs.Check.{check-uncovered, check-covered}
+use Rattle.audit.proofs.Check.{check-met}
 use borrow.Author.Needs.{needs}
 use Rattle.audit.proofs.check_records.Statement.{statement}
 use Rattle.audit.proofs.check_records.Tie as tie
@@ -31,26 +31,35 @@ returns-2 c =
     let o = sym (c .before .before .before .before .before .before .before .opened .given .1) ∙ c .before .before .before .before .before .before .before .before .before .«open» .ensures in
     reading-malformed _ _ _ _ o _ (c .before .before .before .before .grant-plan .ensures .0 .records) (omega (arith, opened-records _ _ _ _ o))
 
-first-uncovered-requires : tie.Need-first-uncovered-requires
-first-uncovered-requires c κs = search needs
+meet-requires : tie.Need-meet-requires
+meet-requires c κs =
+    let s = c .before .before .before .before .before .before .before .before .before .before .before .before .before .before in
+    let r = readable _ _ _ _ (s .pre .0) (sym (c .before .before .before .before .before .before .before .before .opened .given .1) ∙ c .before .before .before .before .before .before .before .before .before .before .«open» .ensures) in
+    (omega (arith, r .few, s .pre .0 .ports, s .pre .0 .width), s .pre .1, c .before .before .before .before .before .grant-plan .ensures .1 .room)
+
+enum-known-k : tie.Need-enum-known-k
+enum-known-k c = search needs
+
+enum-known-empty : tie.Need-enum-known-empty
+enum-known-empty c = search needs
 
 same-length-2 : tie.Need-same-length-2
 same-length-2 c = search needs
 
 returns-3 : tie.Need-returns-3
 returns-3 c =
-    let o = sym (c .before .before .before .before .before .before .before .before .before .before .opened .given .1) ∙ c .before .before .before .before .before .before .before .before .before .before .before .before .«open» .ensures in
-    let p = c .before .before .before .before .before .before .before .grant-plan .ensures in
-    check-uncovered _ _ _ _ _ _ _ o _ _ (p .0) (omega (arith, c .before .before .before .if1 .left, opened-records _ _ _ _ o)) (p .1) _ (c .before .first-uncovered .ensures) (omega (arith, c .before .before .before .before .before .before .before .before .before .before .before .before .before .before .before .before .pre .1))
+    let o = sym (c .before .before .before .before .before .before .before .before .before .before .before .before .opened .given .1) ∙ c .before .before .before .before .before .before .before .before .before .before .before .before .before .before .«open» .ensures in
+    let p = c .before .before .before .before .before .before .before .before .before .grant-plan .ensures in
+    check-met _ _ _ _ _ _ _ o _ _ (p .0) (omega (arith, c .before .before .before .before .before .if1 .left, opened-records _ _ _ _ o)) (p .1) _ (sym (c .before .k .given .1) ∙ c .before .before .before .meet .ensures) _ (opened-records _ _ _ _ o)
 
 same-length-3 : tie.Need-same-length-3
 same-length-3 c = search needs
 
 returns-4 : tie.Need-returns-4
 returns-4 c =
-    let o = sym (c .before .before .before .before .before .before .before .before .before .before .opened .given .1) ∙ c .before .before .before .before .before .before .before .before .before .before .before .before .«open» .ensures in
-    let p = c .before .before .before .before .before .before .before .grant-plan .ensures in
-    check-covered _ _ _ _ _ _ _ o _ _ (p .0) (omega (arith, c .before .before .before .if1 .left, opened-records _ _ _ _ o)) (p .1) _ (c .before .first-uncovered .ensures) (omega (arith, c .before .before .before .before .before .before .before .before .before .before .before .before .before .before .before .before .pre .1)) _ (opened-records _ _ _ _ o)
+    let o = sym (c .before .before .before .before .before .before .before .before .before .before .before .before .opened .given .1) ∙ c .before .before .before .before .before .before .before .before .before .before .before .before .before .before .«open» .ensures in
+    let p = c .before .before .before .before .before .before .before .before .before .grant-plan .ensures in
+    check-met _ _ _ _ _ _ _ o _ _ (p .0) (omega (arith, c .before .before .before .before .before .if1 .left, opened-records _ _ _ _ o)) (p .1) _ (sym (c .before .empty .given .1) ∙ c .before .before .before .meet .ensures) _ (opened-records _ _ _ _ o)
 
 pub check-records-spec : {M : Type 1} → statement M
 check-records-spec =
@@ -63,7 +72,9 @@ check-records-spec =
     grant-plan-requires
     same-length
     returns-2
-    first-uncovered-requires
+    meet-requires
+    enum-known-k
+    enum-known-empty
     same-length-2
     returns-3
     same-length-3

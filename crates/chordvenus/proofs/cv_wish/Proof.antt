@@ -31,6 +31,7 @@ returns c =
       longest = 0;
       total = (c .slots-of .ensures ∙ ap slotsOf w) i;
       length = 0;
+      empty = 0;
     }
 
 pub cv-wish-spec : {M : Type 1} → statement M

@@ -26,6 +26,7 @@ returns c =
       longest = k i .longest;
       total = k i .total;
       length = k i .length;
+      empty = k i .empty;
     }
 
 pub flatten-spec : {M : Type 1} → statement M

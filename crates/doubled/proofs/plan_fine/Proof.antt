@@ -1,17 +1,18 @@
 -- Nothing asked for is the empty plan; else there is a u of at least 1 to divide by, and the rotations' holds by the rule make its second part.
-use mathlib.Core.Path.{_≡_, ap, _∙_}
+use mathlib.Core.Path.{_≡_, ap, _∙_, subst}
 use mathlib.Core.List.{List}
 use Prim.Native.Nat.{ℕ, _≤_, _<_}
 use native.Mathlib.Omega.{arith}
 use lib.ListN.{length}
 use Rattle.rules.proofs.Peels.{length-tab}
-use Rattle.rules.specs.Doubled.{unit, divide}
+use Rattle.rules.specs.Doubled.{unit, divide, Doubled}
 use Rattle.demand.specs.declared.Checked.the-variants.{Fine}
 use Rattle.demand.proofs.Check.{fine-asked}
 use Rattle.demand.specs.Check.{checkDemand}
 use Rattle.doubled.specs.Parts.{Divided}
 use Rattle.doubled.proofs.Dividing.{unit-some}
-use Rattle.doubled.proofs.Divided.{holding, rule-parts}
+use Rattle.doubled.proofs.Divided.{asked, holding, rule-parts}
+use Rattle.doubled.proofs.Promise.{either-rule}
 use Rattle.doubled.proofs.Answer.{empty-answer}
 use borrow.Author.Needs.{needs}
 use Rattle.doubled.proofs.plan_fine.Statement.{statement}
@@ -46,7 +47,9 @@ plan-parts-requires c κs =
     let p = c .before .before .before .before .before .before .before .before .before .before .before .before .before .before .before .before .before .pre in
     let v = divided _ _ _ _ _ _ (p .0) (p .1) (c .before .before .before .before .before .before .before .before .before .before .before .before .if1 .left) (c .before .before .before .before .before .before .before .before .before .before .before .unit-of .ensures) (c .before .before .before .before .before .before .before .before .before .quotients .ensures) in
     let h = holding _ _ _ _ _ _ v in
-    (v, record { some = h .some; few = h .few; size = ap length (c .before .before .before .before .before .fill-holds .ensures) ∙ length-tab _ _ _ })
+    let s = c .before .before .before .before .before .before .before .before .before .before .before .before .before .before .before .before .before in
+    let e = c .before .before .before .before .before .fill-holds .ensures in
+    (v, record { some = h .some; few = h .few; size = ap length e ∙ length-tab _ _ _ }, subst (Doubled (s .args .n) (s .args .cells .now)) (rule-parts _ _ _ _ _ _ v (s .args .rule) _ e) (either-rule (s .args .rule) (s .args .width) (s .args .n) (asked _ _ _ _ _ _ v .some) (asked _ _ _ _ _ _ v .few) (s .args .cells .now) (h .room)))
 
 same-length : tie.Need-same-length
 same-length c = search needs

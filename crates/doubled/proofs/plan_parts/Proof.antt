@@ -2,7 +2,7 @@
 use native.Mathlib.Omega.{arith}
 use Rattle.doubled.proofs.Both.{first-few}
 use Rattle.doubled.proofs.Divided.{asked, holding, sized, within, quotient-cells}
-use Rattle.doubled.proofs.Answer.{short-answer, ready, both-answer}
+use Rattle.doubled.proofs.Answer.{short-answer, ready, both-counted, both-answer}
 use borrow.Author.Needs.{needs}
 use Rattle.doubled.proofs.plan_parts.Statement.{statement}
 use Rattle.doubled.proofs.plan_parts.Tie as tie
@@ -41,25 +41,32 @@ lay-parts-requires c κs =
     let r = ready _ _ _ _ _ _ _ v (a .edition) (a .plan .now) _ _ (c .before .before .before .before .before .before .before .measure .ensures) _ (n .1 (a .width) (asked _ _ _ _ _ _ v .few) (v .narrow)) (c .before .before .if1 .left) _ (c .before .before .before .before .before .before .before .before .longest-line .ensures) _ (n .0) in
     (r .0, c .before .before .before .before .before .before .before .before .before .before .before .before .before .before .pre .1, r .1)
 
-add-t18 : tie.Need-add-t18
-add-t18 c =
-    let a = c .before .before .before .before .before .before .before .before .before .before .before .before .before .before .before .before .before .before .before .args in
-    let v = c .before .before .before .before .before .before .before .before .before .before .before .before .before .before .before .before .before .before .before .pre .0 in
-    let n = c .before .before .before .before .before .before .before .before .before .before .needed .ensures in
-    let q = quotient-cells _ _ _ _ _ _ v _ (c .before .before .before .before .before .before .before .before .before .before .before .before .before .longest-line .ensures) in
-    let r = ready _ _ _ _ _ _ _ v (a .edition) (a .plan .now) _ _ (c .before .before .before .before .before .before .before .before .before .before .before .before .measure .ensures) _ (n .1 (a .width) (asked _ _ _ _ _ _ v .few) (v .narrow)) (c .before .before .before .before .before .before .before .if1 .left) _ (c .before .before .before .before .before .before .before .before .before .before .before .before .before .longest-line .ensures) _ (n .0) in
-    omega (arith, c .before .before .before .before .lay-parts .ensures .0, first-few _ _ _ _ (r .0) (asked _ _ _ _ _ _ v .few), q .small, c .before .before .before .before .before .before .before .before .before .before .before .before .measure .ensures .few, q .few)
-
-mul-t29 : tie.Need-mul-t29
-mul-t29 c =
+mul-total : tie.Need-mul-total
+mul-total c =
     let v = c .before .before .before .before .before .before .before .before .before .before .before .before .before .before .before .before .before .before .before .pre .0 in
     omega (arith, within _ _ _ _ _ _ v _ (c .before .before .before .before .before .before .before .before .before .before .before .before .before .longest-line .ensures), asked _ _ _ _ _ _ v .small)
 
-add-t30 : tie.Need-add-t30
-add-t30 c =
+add-total : tie.Need-add-total
+add-total c =
     let v = c .before .before .before .before .before .before .before .before .before .before .before .before .before .before .before .before .before .before .before .before .pre .0 in
     let m = c .before .before .before .before .before .before .before .before .before .before .before .before .before .measure .ensures in
     omega (arith, within _ _ _ _ _ _ v _ (c .before .before .before .before .before .before .before .before .before .before .before .before .before .before .longest-line .ensures), asked _ _ _ _ _ _ v .small, m .small, holding _ _ _ _ _ _ v .few)
+
+add-t19 : tie.Need-add-t19
+add-t19 c =
+    let a = c .before .before .before .before .before .before .before .before .before .before .before .before .before .before .before .before .before .before .before .before .args in
+    let v = c .before .before .before .before .before .before .before .before .before .before .before .before .before .before .before .before .before .before .before .before .pre .0 in
+    let n = c .before .before .before .before .before .before .before .before .before .before .before .needed .ensures in
+    let q = quotient-cells _ _ _ _ _ _ v _ (c .before .before .before .before .before .before .before .before .before .before .before .before .before .before .longest-line .ensures) in
+    let r = ready _ _ _ _ _ _ _ v (a .edition) (a .plan .now) _ _ (c .before .before .before .before .before .before .before .before .before .before .before .before .before .measure .ensures) _ (n .1 (a .width) (asked _ _ _ _ _ _ v .few) (v .narrow)) (c .before .before .before .before .before .before .before .before .if1 .left) _ (c .before .before .before .before .before .before .before .before .before .before .before .before .before .before .longest-line .ensures) _ (n .0) in
+    omega (arith, c .before .before .before .before .before .lay-parts .ensures .0, first-few _ _ _ _ (r .0) (asked _ _ _ _ _ _ v .few), q .small, c .before .before .before .before .before .before .before .before .before .before .before .before .before .measure .ensures .few, q .few)
+
+empty-slots-requires : tie.Need-empty-slots-requires
+empty-slots-requires c κs =
+    let a = c .before .before .before .before .before .before .before .before .before .before .before .before .before .before .before .before .before .before .before .before .args in
+    let v = c .before .before .before .before .before .before .before .before .before .before .before .before .before .before .before .before .before .before .before .before .pre .0 in
+    let n = c .before .before .before .before .before .before .before .before .before .before .before .needed .ensures in
+    both-counted _ _ _ _ _ _ _ v (a .edition) (a .plan .now) _ _ (c .before .before .before .before .before .before .before .before .before .before .before .before .before .measure .ensures) _ (n .1 (a .width) (asked _ _ _ _ _ _ v .few) (v .narrow)) (c .before .before .before .before .before .before .before .before .if1 .left) _ (c .before .before .before .before .before .before .before .before .before .before .before .before .before .before .longest-line .ensures) _ (n .0) (c .before .before .before .before .before .before .before .before .before .before .before .before .before .before .before .before .before .before .before .before .pre .2)
 
 same-length-2 : tie.Need-same-length-2
 same-length-2 c = search needs
@@ -69,11 +76,11 @@ same-length-3 c = search needs
 
 returns-2 : tie.Need-returns-2
 returns-2 c =
-    let a = c .before .before .before .before .before .before .before .before .before .before .before .before .before .before .before .before .before .before .before .before .args in
-    let v = c .before .before .before .before .before .before .before .before .before .before .before .before .before .before .before .before .before .before .before .before .pre .0 in
-    let n = c .before .before .before .before .before .before .before .before .before .before .before .needed .ensures in
-    let l = c .before .before .before .before .before .lay-parts .ensures in
-    both-answer _ _ _ _ _ _ _ v (a .edition) (a .plan .now) _ _ (c .before .before .before .before .before .before .before .before .before .before .before .before .before .measure .ensures) _ (n .1 (a .width) (asked _ _ _ _ _ _ v .few) (v .narrow)) (c .before .before .before .before .before .before .before .before .if1 .left) _ (c .before .before .before .before .before .before .before .before .before .before .before .before .before .before .longest-line .ensures) _ (n .0) _ _ (l .0) (l .1)
+    let a = c .before .before .before .before .before .before .before .before .before .before .before .before .before .before .before .before .before .before .before .before .before .args in
+    let v = c .before .before .before .before .before .before .before .before .before .before .before .before .before .before .before .before .before .before .before .before .before .pre .0 in
+    let n = c .before .before .before .before .before .before .before .before .before .before .before .before .needed .ensures in
+    let l = c .before .before .before .before .before .before .lay-parts .ensures in
+    both-answer _ _ _ _ _ _ _ v (a .edition) (a .plan .now) _ _ (c .before .before .before .before .before .before .before .before .before .before .before .before .before .before .measure .ensures) _ (n .1 (a .width) (asked _ _ _ _ _ _ v .few) (v .narrow)) (c .before .before .before .before .before .before .before .before .before .if1 .left) _ (c .before .before .before .before .before .before .before .before .before .before .before .before .before .before .before .longest-line .ensures) _ (n .0) (c .before .before .before .before .before .before .before .before .before .before .before .before .before .before .before .before .before .before .before .before .before .pre .2) _ _ (l .0) (l .1) _ (c .empty-slots .ensures)
 
 pub plan-parts-spec : {M : Type 1} → statement M
 plan-parts-spec =
@@ -87,9 +94,10 @@ plan-parts-spec =
     same-length
     returns
     lay-parts-requires
-    add-t18
-    mul-t29
-    add-t30
+    mul-total
+    add-total
+    add-t19
+    empty-slots-requires
     same-length-2
     same-length-3
     returns-2)

@@ -1,7 +1,9 @@
 -- The room is known before the first byte is written: a shortage is code 5, and else the plan is laid.
+use mathlib.Core.Path.{sym}
+use native.Mathlib.Nat.{le-of-eq}
 use native.Mathlib.Omega.{arith}
 use Rattle.exact.proofs.Fitting.{copied-cells, place}
-use Rattle.exact.proofs.Outcome.{asked, enough, refuses-room, writes-plan}
+use Rattle.exact.proofs.Outcome.{asked, short, enough, refuses-room, writes-plan}
 use borrow.Author.Needs.{needs}
 use Rattle.exact.proofs.lay_or_refuse.Statement.{statement}
 use Rattle.exact.proofs.lay_or_refuse.Tie as tie
@@ -35,6 +37,11 @@ lay-requires c κs =
     let e = enough _ 0 _ _ _ b (p .1) (p .0) _ _ (c .before .before .before .before .before .before .before .before .before .before .before .before .before .copy .ensures) _ (c .before .before .before .before .before .before .before .before .before .short-of .ensures) (c .before .before .before .before .before .before .if1 .left) in
     (copied-cells _ _ _ _ _ (p .1) a _ (c .before .before .before .before .copy2 .ensures), place _ _ _ _ _ (p .1) a _ (c .before .before .before .before .copy2 .ensures) b e)
 
+empty-slots-requires : tie.Need-empty-slots-requires
+empty-slots-requires c κs =
+    let s = c .before .before .before .before .before .before .before .before .before .before .before .before .before .before .before .before .before .before .before .before .before .before .before in
+    (short _ 0 _ _ _ (s .args .plan .now) (s .pre .1) (s .pre .0), le-of-eq (sym (asked _ 0 _ _ _ (s .args .plan .now) (s .pre .1) (s .pre .0) .longest-is)), omega (arith, asked _ 0 _ _ _ (s .args .plan .now) (s .pre .1) (s .pre .0) .small))
+
 same-length-2 : tie.Need-same-length-2
 same-length-2 c = search needs
 
@@ -43,9 +50,9 @@ same-length-3 c = search needs
 
 returns-2 : tie.Need-returns-2
 returns-2 c =
-    let p = c .before .before .before .before .before .before .before .before .before .before .before .before .before .before .before .before .before .before .before .before .before .before .before .pre in
-    let l = c .before .before .before .before .lay .ensures in
-    let r = writes-plan _ _ _ _ _ _ (p .1) (p .0) _ _ (c .before .before .before .before .before .before .before .before .before .before .before .before .before .before .before .before .before .before .copy .ensures) _ (c .before .before .before .before .before .before .before .before .before .before .before .before .before .before .short-of .ensures) (c .before .before .before .before .before .before .before .before .before .before .before .if1 .left) _ _ (c .before .before .before .before .before .before .before .before .before .copy2 .ensures) _ (l .0) _ (l .1) in
+    let p = c .before .before .before .before .before .before .before .before .before .before .before .before .before .before .before .before .before .before .before .before .before .before .before .before .pre in
+    let l = c .before .before .before .before .before .lay .ensures in
+    let r = writes-plan _ _ _ _ _ _ (p .1) (p .0) _ _ (c .before .before .before .before .before .before .before .before .before .before .before .before .before .before .before .before .before .before .before .copy .ensures) _ (c .before .before .before .before .before .before .before .before .before .before .before .before .before .before .before .short-of .ensures) (c .before .before .before .before .before .before .before .before .before .before .before .before .if1 .left) _ _ (c .before .before .before .before .before .before .before .before .before .before .copy2 .ensures) _ (l .0) _ (l .1) _ (c .empty-slots .ensures) in
     (r .outcome, r .bytes)
 
 pub lay-or-refuse-spec : {M : Type 1} → statement M
@@ -60,6 +67,7 @@ lay-or-refuse-spec =
     returns
     copy-requires-2
     lay-requires
+    empty-slots-requires
     same-length-2
     same-length-3
     returns-2)

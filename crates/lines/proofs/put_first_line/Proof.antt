@@ -1,11 +1,11 @@
--- The four fields in turn, and the line feed behind them.
+-- The five fields in turn, and the line feed behind them.
 use mathlib.Core.List.{List, _++_}
 use Prim.Native.Nat.{ℕ}
 use native.Mathlib.Omega.{arith}
 use Rattle.lines.specs.Ascii.{ascii}
 use Rattle.lines.specs.Text.{firstLine}
 use Rattle.lines.proofs.Put.{Left, all-left, left-as, room, put-next, put-last}
-use Rattle.lines.proofs.Text.{field, after-ports, after-longest, after-records, first-pieces}
+use Rattle.lines.proofs.Text.{field, after-ports, after-longest, after-records, after-total, first-pieces}
 use borrow.Author.Needs.{needs}
 use Rattle.lines.proofs.put_first_line.Statement.{statement}
 use Rattle.lines.proofs.put_first_line.Tie as tie
@@ -26,8 +26,11 @@ left-longest c = let s = c .before .before .before .before .before .before .befo
 left-records : (c : tie.After-put-field3) → (let s = c .before .before .before .before .before .before .before .before .before .before .before .before .before .before in Goes s (c .put-field3 .last .0) (c .put-field3 .result) (after-records (s .args .counts)))
 left-records c = let s = c .before .before .before .before .before .before .before .before .before .before .before .before .before .before in put-next _ _ _ _ _ (field (ascii " records") (s .args .counts .records)) (after-records (s .args .counts)) _ _ (left-longest (c .before .before .before .before .before)) (c .put-field3 .ensures)
 
-left-total : (c : tie.After-put-field4) → (let s = c .before .before .before .before .before .before .before .before .before .before .before .before .before .before .before .before .before .before .before in Goes s (c .put-field4 .last .0) (c .put-field4 .result) (ascii "\n"))
-left-total c = let s = c .before .before .before .before .before .before .before .before .before .before .before .before .before .before .before .before .before .before .before in put-next _ _ _ _ _ (field (ascii " total") (s .args .counts .total)) (ascii "\n") _ _ (left-records (c .before .before .before .before .before)) (c .put-field4 .ensures)
+left-total : (c : tie.After-put-field4) → (let s = c .before .before .before .before .before .before .before .before .before .before .before .before .before .before .before .before .before .before .before in Goes s (c .put-field4 .last .0) (c .put-field4 .result) (after-total (s .args .counts)))
+left-total c = let s = c .before .before .before .before .before .before .before .before .before .before .before .before .before .before .before .before .before .before .before in put-next _ _ _ _ _ (field (ascii " total") (s .args .counts .total)) (after-total (s .args .counts)) _ _ (left-records (c .before .before .before .before .before)) (c .put-field4 .ensures)
+
+left-empty : (c : tie.After-put-field5) → (let s = c .before .before .before .before .before .before .before .before .before .before .before .before .before .before .before .before .before .before .before .before .before .before .before .before in Goes s (c .put-field5 .last .0) (c .put-field5 .result) (ascii "\n"))
+left-empty c = let s = c .before .before .before .before .before .before .before .before .before .before .before .before .before .before .before .before .before .before .before .before .before .before .before .before in put-next _ _ _ _ _ (field (ascii " empty") (s .args .counts .empty)) (ascii "\n") _ _ (left-total (c .before .before .before .before .before)) (c .put-field5 .ensures)
 
 slice-aggregate-put-field : tie.Need-slice-aggregate-put-field
 slice-aggregate-put-field c = search needs
@@ -51,19 +54,25 @@ slice-aggregate-put-field-4 : tie.Need-slice-aggregate-put-field-4
 slice-aggregate-put-field-4 c = search needs
 
 put-field-requires-4 : tie.Need-put-field-requires-4
-put-field-requires-4 c κs = let s = c .before .before .before .before .before .before .before .before .before .before .before .before .before .before .before .before .before .before in room _ _ _ _ _ (field (ascii " total") (s .args .counts .total)) (ascii "\n") (left-records (c .before .before .before .before))
+put-field-requires-4 c κs = let s = c .before .before .before .before .before .before .before .before .before .before .before .before .before .before .before .before .before .before in room _ _ _ _ _ (field (ascii " total") (s .args .counts .total)) (after-total (s .args .counts)) (left-records (c .before .before .before .before))
+
+slice-aggregate-put-field-5 : tie.Need-slice-aggregate-put-field-5
+slice-aggregate-put-field-5 c = search needs
+
+put-field-requires-5 : tie.Need-put-field-requires-5
+put-field-requires-5 c κs = let s = c .before .before .before .before .before .before .before .before .before .before .before .before .before .before .before .before .before .before .before .before .before .before .before in room _ _ _ _ _ (field (ascii " empty") (s .args .counts .empty)) (ascii "\n") (left-total (c .before .before .before .before))
 
 slice-aggregate-put-bytes : tie.Need-slice-aggregate-put-bytes
 slice-aggregate-put-bytes c = search needs
 
 put-bytes-requires : tie.Need-put-bytes-requires
-put-bytes-requires c κs = left-total (c .before .before .before .before) .fits
+put-bytes-requires c κs = left-empty (c .before .before .before .before) .fits
 
 same-length : tie.Need-same-length
 same-length c = search needs
 
 returns : tie.Need-returns
-returns c = put-last _ _ _ _ _ (ascii "\n") _ _ (left-total (c .before .before .before .before .before .before .before)) (c .before .before .put-bytes .ensures)
+returns c = put-last _ _ _ _ _ (ascii "\n") _ _ (left-empty (c .before .before .before .before .before .before .before)) (c .before .before .put-bytes .ensures)
 
 pub put-first-line-spec : {M : Type 1} → statement M
 put-first-line-spec =
@@ -77,6 +86,8 @@ put-first-line-spec =
     put-field-requires-3
     slice-aggregate-put-field-4
     put-field-requires-4
+    slice-aggregate-put-field-5
+    put-field-requires-5
     slice-aggregate-put-bytes
     put-bytes-requires
     same-length

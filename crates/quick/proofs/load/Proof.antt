@@ -1,4 +1,6 @@
 -- The demand is copied in, its rows labelled, and its cells summed.
+use mathlib.Core.Path.{sym}
+use native.Mathlib.Nat.{le-of-eq}
 use lib.ListN.{length, drop}
 use Rattle.work.proofs.Cells.{sized-as}
 use Rattle.quick.proofs.Loading.{loaded}
@@ -15,8 +17,10 @@ label-rows-requires c κs =
     let k = c .before .before .before .before .before .copy in
     (sized-as (s .args .n) (s .args .work .now) (k .last .1 .0) (k .kept .1 .0) (s .pre .1), s .pre .2, s .pre .3)
 
-all-slots-requires : tie.Need-all-slots-requires
-all-slots-requires c κs = c .before .before .before .before .before .before .before .before .before .before .before .before .before .before .before .before .pre .0
+asked-slots-requires : tie.Need-asked-slots-requires
+asked-slots-requires c κs =
+    let m = c .before .before .before .before .before .before .before .before .before .before .before .before .before .before .before .before .pre .0 in
+    record { sized = record { few = m .few; room = le-of-eq (sym (m .size)) }; lines = m .lines }
 
 same-length : tie.Need-same-length
 same-length c = search needs
@@ -33,8 +37,8 @@ returns c =
     let k = c .before .before .before .before .before .before .before .before .before .before .before .copy in
     let r = c .before .before .before .before .before .label-rows in
     let a = s .args in
-    loaded (a .n) (a .cells .now) (drop (length (a .cells .now)) (a .work .now)) (s .pre .0) (k .last .1 .0) (r .last .1 .1 .0) (r .last .1 .1 .1 .0) (c .all-slots .result)
-    (k .ensures) (sized-as (a .n) (a .work .now) (k .last .1 .0) (k .kept .1 .0) (s .pre .1)) (r .ensures) (c .all-slots .ensures)
+    loaded (a .n) (a .cells .now) (drop (length (a .cells .now)) (a .work .now)) (s .pre .0) (k .last .1 .0) (r .last .1 .1 .0) (r .last .1 .1 .1 .0) (c .asked-slots .result)
+    (k .ensures) (sized-as (a .n) (a .work .now) (k .last .1 .0) (k .kept .1 .0) (s .pre .1)) (r .ensures) (c .asked-slots .ensures)
 
 pub load-spec : {M : Type 1} → statement M
 load-spec =
@@ -42,7 +46,7 @@ load-spec =
     (tie.spec
     copy-requires
     label-rows-requires
-    all-slots-requires
+    asked-slots-requires
     same-length
     same-length-2
     same-length-3

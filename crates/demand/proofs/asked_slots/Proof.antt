@@ -7,16 +7,16 @@ use Rattle.counting.specs.Matrix.{row}
 use Rattle.counting.proofs.Sum.{sum-zero, sum-next}
 use Rattle.switch.specs.Demand.{cell}
 use Rattle.switch.proofs.Demand.{line-row, row-le-longest}
-use Rattle.slot.specs.Filled.{leftIn}
+use Rattle.switch.specs.Empty.{allSlots}
 use borrow.Author.Needs.{needs}
-use Rattle.quick.proofs.all_slots.Statement.{statement}
-use Rattle.quick.proofs.all_slots.Tie as tie
+use Rattle.demand.proofs.asked_slots.Statement.{statement}
+use Rattle.demand.proofs.asked_slots.Tie as tie
 
 abbrev Inv-loop : tie.InvT-loop
-Inv-loop n cells all₀ i₀ all i = (i ≤ n) × (all ≡ sum i (row n (cell n cells))) × (all ≤ i * 65535)
+Inv-loop n cells asked₀ i₀ asked i = (i ≤ n) × (asked ≡ sum i (row n (cell n cells))) × (asked ≤ i * 65535)
 
 abbrev μ-loop : tie.MeasureT-loop
-μ-loop n cells all₀ i₀ all i = n - i
+μ-loop n cells asked₀ i₀ asked i = n - i
 
 loop-holds : tie.Need-loop-holds Inv-loop μ-loop
 loop-holds c = (omega arith, sym (sum-zero (row (c .before .args .n) (cell (c .before .args .n) (c .before .args .cells .now)))), omega arith)
@@ -24,7 +24,7 @@ loop-holds c = (omega arith, sym (sum-zero (row (c .before .args .n) (cell (c .b
 line-sum-requires : tie.Need-line-sum-requires Inv-loop μ-loop
 line-sum-requires c κs =
     let s = c .before .before .before in
-    (record { few = s .pre .few; room = omega (arith, s .pre .size) }, omega arith)
+    (s .pre .sized, omega arith)
 
 -- the line that is added
 abbrev start : tie.After-line-sum Inv-loop μ-loop → tie.Start Inv-loop μ-loop
@@ -41,8 +41,8 @@ short c = omega (
   row-le-longest (start c .args .n) (cell (start c .args .n) (start c .args .cells .now)) (c .before .before .loop .i) (c .before .loop-test .taken),
 )
 
-add-all : tie.Need-add-all Inv-loop μ-loop
-add-all c = omega (arith, short c, start c .pre .few)
+add-asked : tie.Need-add-asked Inv-loop μ-loop
+add-asked c = omega (arith, short c, start c .pre .sized .few)
 
 add-i : tie.Need-add-i Inv-loop μ-loop
 add-i c = search needs
@@ -56,22 +56,22 @@ loop-again c =
     (omega arith, omega (arith, is-row c, l .inv .1, sum-next (l .i) (row (start c .args .n) (cell (start c .args .n) (start c .args .cells .now)))), omega (arith, short c))
 
 returns : tie.Need-returns Inv-loop μ-loop
-unfolding leftIn
+unfolding allSlots
 returns c =
     let l = c .before .loop in
     let n = c .before .before .before .args .n in
     let e : l .i ≡ n = omega arith in
     l .inv .1 ∙ ap (λ (k : ℕ). sum k (row n (cell n (c .before .before .before .args .cells .now)))) e
 
-pub all-slots-spec : {M : Type 1} → statement M
-all-slots-spec =
+pub asked-slots-spec : {M : Type 1} → statement M
+asked-slots-spec =
     tie.close
     (tie.spec
     Inv-loop
     μ-loop
     loop-holds
     line-sum-requires
-    add-all
+    add-asked
     add-i
     loop-less
     loop-again
