@@ -13,13 +13,15 @@ use chordvenus as proved;
 use reference as proved;
 
 /// The calls in the order of the header, with what one timed run does.
-pub const CALLS: [(&str, &str); 11] = [
+pub const CALLS: [(&str, &str); 14] = [
     ("wish", "one call for each pair with slots"),
     ("wishes", "a list of the pairs with slots"),
     ("exact", "one plan"),
     ("doubled", "one plan"),
     ("doubled_every_rotation", "one plan"),
     ("quick", "one plan, cells scaled so that T is at most 1,024"),
+    ("grating_doubled", "one plan"),
+    ("grating_report", "the exact plan"),
     ("check", "the exact plan against its demand"),
     ("length", "the exact plan"),
     ("join", "8,192 records: the exact plan over and over"),
@@ -84,6 +86,11 @@ pub fn pair<'a>(call: &str, demand: &'a Demand) -> Pair<'a> {
         "doubled" => planner!(doubled, n, cells.clone()),
         "doubled_every_rotation" => planner!(doubled_every_rotation, n, cells.clone()),
         "quick" => planner!(quick, n, demand.quick_cells()),
+        "grating_doubled" => planner!(grating_doubled, n, cells.clone()),
+        "grating_report" => both!(library => {
+            let mut report = vec![0; demand.records()];
+            move || run(library::grating_report(n, black_box(plan), &mut report))
+        }),
         "check" => both!(library => move || run(library::check(n, black_box(cells), plan))),
         "length" => both!(library => move || run(library::length(n, black_box(plan), 5))),
         "join" => join(n, plan.iter().copied().cycle().take(MOST_RECORDS * RECORD_SIZE).collect()),
