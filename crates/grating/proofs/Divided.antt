@@ -22,7 +22,6 @@ use Rattle.rules.specs.Doubled.{unit, divide, stretch, turns, tight, doubledBy}
 use Rattle.rules.proofs.Exact.{exact-total, exact-records}
 use Rattle.rules.proofs.Doubled.{length-divide, longest-divide, unit-above}
 use Rattle.records.specs.Bytes.{planFrom, whole, bytes, laid}
-use Rattle.records.proofs.Part.{whole-fits}
 use Rattle.records.proofs.Sound.{each-width}
 use Rattle.planner.specs.Planned.{Planned, planned, writes}
 use Rattle.planner.proofs.Planned.{planned-done, written-bytes}

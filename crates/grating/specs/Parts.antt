@@ -1,7 +1,7 @@
 -- What the code is told of the first part, which stands as a plan of its own in a buffer. Definitions only.
 use mathlib.Core.Path.{_≡_}
 use mathlib.Core.List.{List, _++_, map}
-use Prim.Native.Nat.{ℕ, _+_, _*_, _≤_, _<_}
+use Prim.Native.Nat.{ℕ, _*_, _≤_, _<_}
 use lib.ListN.{length}
 use Rattle.switch.specs.Plan.{Record, total}
 use Rattle.rules.specs.Doubled.{stretch, turns, tight}

@@ -8,7 +8,7 @@ use lib.ListN.{length}
 use Rattle.records.specs.Record.{hold, outputs}
 use Rattle.records.specs.Bytes.{laid, encode}
 use Rattle.wavelengths.proofs.Report.{read-size}
-use Rattle.grating.proofs.First.{hold-small, part-outputs, longer, longer-size, Laying, laying-none, laying-room, laying-next, laying-all}
+use Rattle.grating.proofs.First.{hold-small, part-outputs, longer, Laying, laying-none, laying-room, laying-next, laying-all}
 use borrow.Author.Needs.{needs}
 use Rattle.grating.proofs.lay_first.Statement.{statement}
 use Rattle.grating.proofs.lay_first.Tie as tie

@@ -1,6 +1,5 @@
 -- Each return is the case of the definition whose tests led there; what is written is the report of the records that the check has passed.
 use mathlib.Core.Path.{sym, ap, _∙_}
-use Prim.Native.Nat.{_*_}
 use native.Mathlib.Omega.{arith}
 use Rattle.switch.specs.declared.Counts.{Counts}
 use Rattle.records.specs.Bytes.{planFrom, laid}
