@@ -20,7 +20,7 @@ def panel(x, title, below, outputs):
         w = (j - i) % N
         y1, y2 = TOP + STEP * i, TOP + STEP * j
         rows.append(f'<line x1="{x + LEFT}" y1="{y1}" x2="{x + RIGHT}" y2="{y2}" stroke="{COLOURS[w]}"/>')
-        at = 0.22
+        at = 0.12
         cx, cy = LEFT + (RIGHT - LEFT) * at, y1 + (y2 - y1) * at
         rows.append(f'<circle cx="{x + cx:.1f}" cy="{cy:.1f}" r="9" fill="{COLOURS[w]}"/>')
         rows.append(f'<text x="{x + cx:.1f}" y="{cy + 4:.1f}" class="wave">{w}</text>')
