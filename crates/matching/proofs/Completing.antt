@@ -12,7 +12,7 @@ use Rattle.labels.specs.Label.{In, Marked}
 use Rattle.labels.proofs.Digits.{same-or}
 use Rattle.rules.specs.First.{Fits}
 use Rattle.matching.specs.Tables.{Held, Holds, joined, Matching}
-use Rattle.matching.specs.Search.{Shut, Closed, Around, Blocked, InPre, InPost}
+use Rattle.matching.specs.Search.{Shut, Closed, Spare, Around, Blocked, InPre, InPost}
 use Rattle.matching.specs.Chosen.{Fixed, Keeps, CompletePre, CompletePost, HoldsPost}
 use Rattle.matching.proofs.Tables.{held-in}
 use Rattle.matching.proofs.Closed.{not-there}
@@ -104,9 +104,9 @@ module _ (w n : ℕ) (E : ℕ → ℕ → Type 0) (by out : List ℕ) (fixed : �
         none = λ _. stuck (b .seen) (b .closed) (λ k e. b .all k (s k e));
       }
 
-      -- it asks, where every output may be held
-      pub seat-asks : (held : ℕ) → ((k : ℕ) → k < w → In held k) → InPre w n E by out held fixed i
-      seat-asks held f = record { good = p .good; spare = λ k l h. absurd (h (f k l)); here = here; idle = idle }
+      -- it asks, where it is known what can be had at once
+      pub seat-asks : (held : ℕ) → Spare w by fixed held → InPre w n E by out held fixed i
+      seat-asks held f = record { good = p .good; spare = f; here = here; idle = idle }
 
       pub seat-asked : (by' out' : List ℕ) (b : Bool) (u : ℕ) → InPost w n E by out fixed i by' out' b u → CompletePost w n E by out fixed (i + 1) by' out' b
       seat-asked by' out' b u a = record { good = a .good; around = around b refl; all = λ e. all (a .found e .gained .around .kept) (joined out' i, a .found e .gained .holds); none = λ e. stuck u (a .stuck e .0 .closed) (a .stuck e .1) }

@@ -14,7 +14,7 @@ ghost use lib.ListN.{length, set};
 ghost use Rattle.labels.specs.Label.{In, Marked, Lowest};
 ghost use Rattle.labels.specs.Wide.{outputsOf};
 ghost use Rattle.matching.specs.Tables.{triedOf, rowOf, Allowed, Rows, joined};
-ghost use Rattle.matching.specs.Search.{Ports, Led, Blocked, InPre, InPost, OutPre, OutPost};
+ghost use Rattle.matching.specs.Search.{Ports, Led, Blocked, Spare, InPre, InPost, OutPre, OutPost};
 ghost use Rattle.matching.specs.Chosen.{Fixed, CompletePre, CompletePost, SettledPost, SettledAll, Settled, Ready, Chosen, HoldsPost};
 
 // Both tables have a place for each port of the largest switch.
@@ -146,8 +146,24 @@ fn seat(
     if blocked(lows, highs, by, fixed, row_of(lows, highs, i)) {
         return false;
     }
-    let a = ask_input(lows, highs, by, out, Wide::every(), fixed, i);
+    let held = held_outputs(by, fixed, lows.len());
+    let a = ask_input(lows, highs, by, out, held, fixed, i);
     a.moved
+}
+
+// Every output but those of the n that nobody holds and that may be had at once. Inputs look for one of these before they ask on, so that
+// few ask twice.
+fn held_outputs(by: &[u8], fixed: Tried, n: usize) -> Wide
+    requires { ⌜ (length (now by) ≡ 128) × (n ≤ 128) ⌝ }
+    ensures { λ r. ⌜ Spare 128 (now (by .entry)) (triedOf fixed) (outputsOf r) ⌝ }
+{
+    let mut held = Wide::every();
+    for k in 0..n {
+        if by[k] == FREE {
+            held = held.without(OutputPort(k));
+        }
+    }
+    held.with(fixed.outputs)
 }
 
 // Does input i hold an output?

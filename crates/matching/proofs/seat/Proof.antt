@@ -14,9 +14,9 @@ use Rattle.matching.proofs.seat.Statement.{statement}
 use Rattle.matching.proofs.seat.Tie as tie
 use Rattle.matching.proofs.seat.Reads as reads
 use Rattle.matching.proofs.seat.Lts as lts
-use Rattle.labels.proofs.Wide.every.Reads as every-reads
 use Rattle.matching.proofs.ask_input.Reads as ask-input-reads
 use Rattle.matching.proofs.blocked.Reads as blocked-reads
+use Rattle.matching.proofs.held_outputs.Reads as held-outputs-reads
 use Rattle.matching.proofs.holds.Reads as holds-reads
 use Rattle.matching.proofs.row_of.Reads as row-of-reads
 
@@ -55,28 +55,28 @@ returns-2 c =
     let idle = holds-none 128 (length (a .lows .now)) (Allowed (a .lows .now) (a .highs .now)) (a .by .now) (a .out .now) (a .i .0) (s .pre .2 .good) (c .before .before .before .before .before .holds .ensures .idle (c .before .before .before .before .if1 .left)) in
     seat-blocked 128 (length (a .lows .now)) (Allowed (a .lows .now) (a .highs .now)) (a .by .now) (a .out .now) (triedOf (a .fixed)) (a .i .0) (s .pre .1) (s .pre .2) idle (outputsOf (r .result)) (λ k e. subst (λ (q : ℕ). In q k) (sym (r .ensures)) e) (c .before .blocked .ensures (c .if2 .taken))
 
-every-requires : tie.Need-every-requires
-every-requires c κs = search needs
+held-outputs-requires : tie.Need-held-outputs-requires
+held-outputs-requires c κs = search needs
 
 ask-input-requires : tie.Need-ask-input-requires
 ask-input-requires c κs =
-    let s = c .before .before .before .before .before .before .before .before .before .before .before .before .before .before .before in
+    let s = c .before .before .before .before .before .before .before .before .before .before .before .before .before .before .before .before in
     let a = s .args in
-    let idle = holds-none 128 (length (a .lows .now)) (Allowed (a .lows .now) (a .highs .now)) (a .by .now) (a .out .now) (a .i .0) (s .pre .2 .good) (c .before .before .before .before .before .before .before .before .holds .ensures .idle (c .before .before .before .before .before .before .before .if1 .left)) in
-    (s .pre .0, seat-asks 128 (length (a .lows .now)) (Allowed (a .lows .now) (a .highs .now)) (a .by .now) (a .out .now) (triedOf (a .fixed)) (a .i .0) (s .pre .1) (s .pre .2) idle (outputsOf (c .every .result)) (c .every .ensures))
+    let idle = holds-none 128 (length (a .lows .now)) (Allowed (a .lows .now) (a .highs .now)) (a .by .now) (a .out .now) (a .i .0) (s .pre .2 .good) (c .before .before .before .before .before .before .before .before .before .holds .ensures .idle (c .before .before .before .before .before .before .before .before .if1 .left)) in
+    (s .pre .0, seat-asks 128 (length (a .lows .now)) (Allowed (a .lows .now) (a .highs .now)) (a .by .now) (a .out .now) (triedOf (a .fixed)) (a .i .0) (s .pre .1) (s .pre .2) idle (outputsOf (c .before .before .held-outputs .result)) (c .before .before .held-outputs .ensures))
 
 same-length-5 : tie.Need-same-length-5
-same-length-5 c = c .before .before .before .before .ask-input .ensures .good .holders ∙ sym (c .before .before .before .before .before .before .before .before .before .before .before .before .before .before .before .before .before .before .before .before .pre .2 .good .holders)
+same-length-5 c = c .before .before .before .before .ask-input .ensures .good .holders ∙ sym (c .before .before .before .before .before .before .before .before .before .before .before .before .before .before .before .before .before .before .before .before .before .pre .2 .good .holders)
 
 same-length-6 : tie.Need-same-length-6
-same-length-6 c = c .before .before .before .before .ask-input .ensures .good .outputs ∙ sym (c .before .before .before .before .before .before .before .before .before .before .before .before .before .before .before .before .before .before .before .before .pre .2 .good .outputs)
+same-length-6 c = c .before .before .before .before .ask-input .ensures .good .outputs ∙ sym (c .before .before .before .before .before .before .before .before .before .before .before .before .before .before .before .before .before .before .before .before .before .pre .2 .good .outputs)
 
 returns-3 : tie.Need-returns-3
 returns-3 c =
-    let s = c .before .before .before .before .before .before .before .before .before .before .before .before .before .before .before .before .before .before .before .before in
+    let s = c .before .before .before .before .before .before .before .before .before .before .before .before .before .before .before .before .before .before .before .before .before in
     let a = s .args in
     let q = c .before .before .before .before .ask-input in
-    let idle = holds-none 128 (length (a .lows .now)) (Allowed (a .lows .now) (a .highs .now)) (a .by .now) (a .out .now) (a .i .0) (s .pre .2 .good) (c .before .before .before .before .before .before .before .before .before .before .before .before .before .holds .ensures .idle (c .before .before .before .before .before .before .before .before .before .before .before .before .if1 .left)) in
+    let idle = holds-none 128 (length (a .lows .now)) (Allowed (a .lows .now) (a .highs .now)) (a .by .now) (a .out .now) (a .i .0) (s .pre .2 .good) (c .before .before .before .before .before .before .before .before .before .before .before .before .before .before .holds .ensures .idle (c .before .before .before .before .before .before .before .before .before .before .before .before .before .if1 .left)) in
     seat-asked 128 (length (a .lows .now)) (Allowed (a .lows .now) (a .highs .now)) (a .by .now) (a .out .now) (triedOf (a .fixed)) (a .i .0) (s .pre .1) (s .pre .2) idle (q .last .1 .1 .0) (q .last .1 .1 .1 .0) (q .result .moved) (triedOf (q .result .tried)) (q .ensures)
 
 pub seat-spec : {M : Type 1} → statement M
@@ -92,7 +92,7 @@ seat-spec =
     same-length-3
     same-length-4
     returns-2
-    every-requires
+    held-outputs-requires
     ask-input-requires
     same-length-5
     same-length-6

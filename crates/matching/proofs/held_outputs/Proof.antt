@@ -1,0 +1,66 @@
+-- An output is taken out of the set of all where nobody holds it.
+use mathlib.Core.Logic.{⊎-elim}
+use Prim.Native.Nat.{_-_, _≤_}
+use native.Mathlib.Omega.{arith}
+use Rattle.labels.specs.Wide.{outputsOf}
+use Rattle.matching.specs.Tables.{triedOf}
+use Rattle.matching.proofs.Spare.{OnlyFree, free-none, free-one, free-spare}
+use borrow.Author.Needs.{needs}
+use Rattle.matching.proofs.held_outputs.Statement.{statement}
+use Rattle.matching.proofs.held_outputs.Tie as tie
+use Rattle.matching.proofs.held_outputs.Reads as reads
+use Rattle.matching.proofs.held_outputs.Lts as lts
+use Rattle.labels.proofs.Wide.every.Reads as every-reads
+use Rattle.labels.proofs.Wide.with.Reads as with-reads
+use Rattle.labels.proofs.Wide.without.Reads as without-reads
+
+abbrev Inv-loop : tie.InvT-loop
+Inv-loop by fixed n held₀ k₀ held k = OnlyFree by (outputsOf held)
+
+abbrev μ-loop : tie.MeasureT-loop
+μ-loop by fixed n held₀ k₀ held k = n - k
+
+every-requires : tie.Need-every-requires Inv-loop μ-loop
+every-requires c κs = search needs
+
+loop-holds : tie.Need-loop-holds Inv-loop μ-loop
+loop-holds c = free-none (c .before .before .args .by .now) (outputsOf (c .every .result)) (c .every .ensures)
+
+shared-slice-read-if1 : tie.Need-shared-slice-read-if1 Inv-loop μ-loop
+shared-slice-read-if1 c = omega (arith, c .before .before .before .before .before .pre)
+
+without-requires : tie.Need-without-requires Inv-loop μ-loop
+without-requires c κs = omega (arith, c .before .before .before .before .before .before .pre)
+
+add-k : tie.Need-add-k Inv-loop μ-loop
+add-k c = search needs
+
+loop-less : tie.Need-loop-less Inv-loop μ-loop
+loop-less c = search needs
+
+loop-again : tie.Need-loop-again Inv-loop μ-loop
+loop-again c =
+    let l = c .before .before .before .loop in
+    ⊎-elim (λ w. rw (w .2) (free-one (c .before .before .before .before .before .before .args .by .now) (outputsOf (l .held)) (l .k) (outputsOf (w .1 .result)) (l .inv) (w .0 .taken) (w .1 .ensures))) (λ w. rw (w .1) (l .inv)) (c .if1 .came)
+
+with-requires : tie.Need-with-requires Inv-loop μ-loop
+with-requires c κs = search needs
+
+returns : tie.Need-returns Inv-loop μ-loop
+returns c = let a = c .before .before .before .before .before .args in free-spare (a .by .now) (outputsOf (c .before .before .loop .held)) (triedOf (a .fixed)) (outputsOf (c .with .result)) (c .before .before .loop .inv) (c .with .ensures)
+
+pub held-outputs-spec : {M : Type 1} → statement M
+held-outputs-spec =
+    tie.close
+    (tie.spec
+    Inv-loop
+    μ-loop
+    every-requires
+    loop-holds
+    shared-slice-read-if1
+    without-requires
+    add-k
+    loop-less
+    loop-again
+    with-requires
+    returns)
