@@ -79,6 +79,20 @@ pub fn join_settings<'a>(n: usize, settings: usize) -> Pair<'a> {
     join(n as u64, plan)
 }
 
+/// A planner beside the same search in plain Rust, once both have made the same plan.
+pub fn same<'a>(call: &str, demand: &'a Demand) -> Pair<'a> {
+    let (n, cells) = (demand.n, &demand.cells);
+    let mut pair = pair(call, demand);
+    let planner = if call == "exact" { crate::same::exact } else { crate::same::doubled };
+    let made = if call == "exact" { reference::exact } else { reference::doubled };
+    let (mut plan, mut wanted) = (vec![0; ROOM * RECORD_SIZE], vec![0; ROOM * RECORD_SIZE]);
+    planner(n, cells, &mut plan);
+    made(n as u64, cells, &mut wanted).expect("a sound demand");
+    assert!(plan == wanted, "the same search makes the same plan");
+    pair.reference = Box::new(move || run(planner(n, black_box(cells), &mut plan)));
+    pair
+}
+
 pub fn pair<'a>(call: &str, demand: &'a Demand) -> Pair<'a> {
     let (n, cells, plan) = (demand.n as u64, &demand.cells, &demand.plan);
     match call {

@@ -8,6 +8,7 @@ mod calls;
 mod demands;
 mod gate;
 mod peers;
+mod same;
 mod timing;
 
 use demands::Demand;
@@ -30,6 +31,7 @@ fn main() -> io::Result<()> {
     report.say(&conditions());
     each_call(&mut report);
     joining(&mut report);
+    same_search(&mut report);
     exact_and_peers(&mut report, &work);
     growth(&mut report);
     gate_time(&mut report);
@@ -117,6 +119,26 @@ fn joining(report: &mut Report) {
     };
     let rows = [8_192, 8_000, 4_096, 100, 1].map(row);
     report.table(&["settings", "N = 16", "N = 32", "N = 64"], &rows);
+}
+
+fn same_search(report: &mut Report) {
+    report.say("## The same search in Rust\n");
+    report.say(
+        "The reference finds settings by another algorithm than the proved planner, whose search has \
+         document 01's form: an input asks its outputs, and a held output asks its holder to move. Here \
+         that search, written in plain Rust with labels of one word (`bench/src/same.rs`), is the peer; it \
+         checks nothing. Proved time over its time, then both times.\n",
+    );
+    let demands = demands();
+    let mut rows = Vec::new();
+    for call in ["exact", "doubled"] {
+        for of_kind in demands.chunks(SIZES.len()) {
+            let mut row = vec![call.to_string(), of_kind[0].kind.to_string()];
+            row.extend(of_kind.iter().map(|demand| compared(calls::same(call, demand).time())));
+            rows.push(row);
+        }
+    }
+    report.table(&["call", "demand", "N = 16", "N = 32", "N = 64"], &rows);
 }
 
 fn compared(times: Times) -> String {
