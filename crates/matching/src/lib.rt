@@ -20,6 +20,9 @@ ghost use Rattle.matching.specs.Chosen.{Fixed, CompletePre, CompletePost
 // Both tables have a place for each port of the largest switch.
 pub const PLACES: usize = 128;
 
+// No output of a switch that has fewer ports.
+const NOWHERE: OutputPort = OutputPort(127);
+
 // What the holders have where nobody holds an output; input i stands there as i + 1.
 const FREE: u8 = 0;
 
@@ -143,7 +146,7 @@ fn seat(
     if holds(by, out, i) {
         return true;
     }
-    if blocked(lows, highs, by, fixed, row_of(lows, highs, i)) {
+    if blocked(lows, highs, by, fixed, row_of(lows, highs, i), NOWHERE) {
         return false;
     }
     let held = held_outputs(by, fixed, lows.len());
@@ -214,7 +217,7 @@ fn settle(
     let own = output_of(out, i);
     let row = row_of(lows, highs, i);
     release(by, own);
-    if blocked(lows, highs, by, fixed, row.below(own)) {
+    if blocked(lows, highs, by, fixed, row.below(own), own) {
         join(by, out, i, own);
         return fixed.mark(own);
     }
@@ -222,9 +225,17 @@ fn settle(
     fixed.mark(output_of(out, i))
 }
 
-// Does asking these outputs lead to none that is free? What they lead to is seen wave by wave, without moving anybody.
-fn blocked(lows: &[u64], highs: &[u64], by: &[u8], fixed: Tried, outputs: Wide) -> bool
-    requires { ⌜ Rows 128 (now lows) (now highs) × Ports 128 (length (now lows)) (now by) ⌝ }
+// Does asking these outputs lead to none that is free? What they lead to is seen wave by wave, without moving anybody. Where it leads
+// to `spare`, which the caller has just given up, that is seen a wave sooner.
+fn blocked(
+    lows: &[u64],
+    highs: &[u64],
+    by: &[u8],
+    fixed: Tried,
+    outputs: Wide,
+    spare: OutputPort,
+) -> bool
+    requires { ⌜ Rows 128 (now lows) (now highs) × Ports 128 (length (now lows)) (now by) × (spare .0 < 128) ⌝ }
     ensures { λ r. ⌜ (r ≡ true → Blocked (Allowed (now (lows .entry)) (now (highs .entry))) (now (by .entry)) (triedOf fixed) (outputsOf outputs)) ⌝ }
 {
     let mut asked = fixed.outputs;
@@ -240,8 +251,12 @@ fn blocked(lows: &[u64], highs: &[u64], by: &[u8], fixed: Tried, outputs: Wide) 
                 if w.free {
                     return false;
                 }
+                let further = w.outputs;
+                if further.has(spare) {
+                    return false;
+                }
                 asked = seen;
-                seen = seen.with(w.outputs);
+                seen = seen.with(further);
             }
         }
     }

@@ -39,7 +39,7 @@ row-of-requires : tie.Need-row-of-requires
 row-of-requires c κs = search needs
 
 blocked-requires : tie.Need-blocked-requires
-blocked-requires c κs = let s = c .before .before .before .before .before .before .before .before .before .before in let a = s .args in (s .pre .0, ports-of 128 (length (a .lows .now)) (Allowed (a .lows .now) (a .highs .now)) (a .by .now) (a .out .now) (s .pre .2 .good))
+blocked-requires c κs = let s = c .before .before .before .before .before .before .before .before .before .before in let a = s .args in (s .pre .0, ports-of 128 (length (a .lows .now)) (Allowed (a .lows .now) (a .highs .now)) (a .by .now) (a .out .now) (s .pre .2 .good), omega arith)
 
 same-length-3 : tie.Need-same-length-3
 same-length-3 c = search needs

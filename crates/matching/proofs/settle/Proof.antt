@@ -51,7 +51,7 @@ blocked-requires c κs =
     let a = s .args in
     let o = c .before .before .before .before .before .before .before .output-of in
     let r = c .before .before .before .before .release in
-    (s .pre .0, ports-of 128 (length (a .lows .now)) (Allowed (a .lows .now) (a .highs .now)) (r .last .0) (a .out .now) (freed-matching 128 (length (a .lows .now)) (Allowed (a .lows .now) (a .highs .now)) (a .by .now) (a .out .now) (triedOf (a .fixed)) (a .i .0) (s .pre .2) (s .pre .1) (o .result .0) (r .last .0) (o .ensures) (r .ensures)))
+    (s .pre .0, ports-of 128 (length (a .lows .now)) (Allowed (a .lows .now) (a .highs .now)) (r .last .0) (a .out .now) (freed-matching 128 (length (a .lows .now)) (Allowed (a .lows .now) (a .highs .now)) (a .by .now) (a .out .now) (triedOf (a .fixed)) (a .i .0) (s .pre .2) (s .pre .1) (o .result .0) (r .last .0) (o .ensures) (r .ensures)), own-in 128 (length (a .lows .now)) (Allowed (a .lows .now) (a .highs .now)) (a .by .now) (a .out .now) (triedOf (a .fixed)) (a .i .0) (s .pre .2) (s .pre .1) (o .result .0) (set (a .by .now) (o .result .0) 0) (o .ensures) refl)
 
 join-requires : tie.Need-join-requires
 join-requires c κs =
