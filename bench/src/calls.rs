@@ -1,6 +1,7 @@
 //! Each call of the library, on one demand.
 
 use crate::demands::{Demand, ROOM};
+use crate::same;
 use crate::timing::Pair;
 use cases::Rng;
 use reference::{MOST_RECORDS, RECORD_SIZE};
@@ -80,15 +81,20 @@ pub fn join_settings<'a>(n: usize, settings: usize) -> Pair<'a> {
 }
 
 /// A planner beside the same search in plain Rust, once both have made the same plan.
-pub fn same<'a>(call: &str, demand: &'a Demand) -> Pair<'a> {
+pub fn same<'a>(call: &str, words: usize, demand: &'a Demand) -> Pair<'a> {
     let (n, cells) = (demand.n, &demand.cells);
-    let mut pair = pair(call, demand);
-    let planner = if call == "exact" { crate::same::exact } else { crate::same::doubled };
+    let planner = match (call, words) {
+        ("exact", 1) => same::one_word::exact,
+        ("exact", _) => same::two_words::exact,
+        (_, 1) => same::one_word::doubled,
+        _ => same::two_words::doubled,
+    };
     let made = if call == "exact" { reference::exact } else { reference::doubled };
     let (mut plan, mut wanted) = (vec![0; ROOM * RECORD_SIZE], vec![0; ROOM * RECORD_SIZE]);
     planner(n, cells, &mut plan);
     made(n as u64, cells, &mut wanted).expect("a sound demand");
     assert!(plan == wanted, "the same search makes the same plan");
+    let mut pair = pair(call, demand);
     pair.reference = Box::new(move || run(planner(n, black_box(cells), &mut plan)));
     pair
 }

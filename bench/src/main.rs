@@ -126,19 +126,20 @@ fn same_search(report: &mut Report) {
     report.say(
         "The reference finds settings by another algorithm than the proved planner, whose search has \
          document 01's form: an input asks its outputs, and a held output asks its holder to move. Here \
-         that search, written in plain Rust with labels of one word (`bench/src/same.rs`), is the peer; it \
-         checks nothing. Proved time over its time, then both times.\n",
+         that search, written in plain Rust (`bench/src/search.rs`), is the peer; it checks nothing. The \
+         proved labels have two words, for switches of 128 ports; the peer is timed with two and with one. \
+         Proved time over its time, then both times.\n",
     );
     let demands = demands();
     let mut rows = Vec::new();
-    for call in ["exact", "doubled"] {
+    for (call, words) in [("exact", 2), ("doubled", 2), ("exact", 1), ("doubled", 1)] {
         for of_kind in demands.chunks(SIZES.len()) {
-            let mut row = vec![call.to_string(), of_kind[0].kind.to_string()];
-            row.extend(of_kind.iter().map(|demand| compared(calls::same(call, demand).time())));
+            let mut row = vec![call.to_string(), words.to_string(), of_kind[0].kind.to_string()];
+            row.extend(of_kind.iter().map(|demand| compared(calls::same(call, words, demand).time())));
             rows.push(row);
         }
     }
-    report.table(&["call", "demand", "N = 16", "N = 32", "N = 64"], &rows);
+    report.table(&["call", "words", "demand", "N = 16", "N = 32", "N = 64"], &rows);
 }
 
 fn compared(times: Times) -> String {
