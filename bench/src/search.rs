@@ -137,7 +137,7 @@ impl Search {
         if told != IDLE && usize::from(self.by[usize::from(told)]) == i + 1 {
             return true;
         }
-        if self.blocked(fixed, self.rows[i]) {
+        if self.blocked(fixed, self.rows[i], 0) {
             return false;
         }
         let held = (0..self.n).fold(!0, |held, j| held & !(Label::from(self.by[j] == 0) << j)) | fixed;
@@ -147,7 +147,7 @@ impl Search {
     fn settle(&mut self, fixed: Label, i: usize) -> Label {
         let own = self.out[i];
         self.by[usize::from(own)] = 0;
-        if self.blocked(fixed, self.rows[i] & ((1 << own) - 1)) {
+        if self.blocked(fixed, self.rows[i] & ((1 << own) - 1), 1 << own) {
             self.join(i, usize::from(own));
             return fixed | 1 << own;
         }
@@ -156,18 +156,23 @@ impl Search {
         fixed | 1 << self.out[i]
     }
 
-    fn blocked(&self, fixed: Label, outputs: Label) -> bool {
+    /// An output that the caller has just given up, `spare`, is seen a wave sooner.
+    fn blocked(&self, fixed: Label, outputs: Label, spare: Label) -> bool {
         let (mut asked, mut seen) = (fixed, fixed | outputs);
         while seen & !asked != 0 {
-            let mut wave = seen & !asked;
-            asked = seen;
+            let (mut wave, mut further) = (seen & !asked, 0);
             while wave != 0 {
                 match self.by[wave.trailing_zeros() as usize] {
                     0 => return false,
-                    holder => seen |= self.rows[usize::from(holder) - 1],
+                    holder => further |= self.rows[usize::from(holder) - 1],
                 }
                 wave &= wave - 1;
             }
+            if further & spare != 0 {
+                return false;
+            }
+            asked = seen;
+            seen |= further;
         }
         true
     }
