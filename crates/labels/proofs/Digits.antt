@@ -4,13 +4,13 @@ use mathlib.Core.Logic.{_⊎_, inl, inr, ⊎-elim}
 use Prim.Native.Nat.{ℕ, zero, suc, _+_, _-_, _*_, _/_, _%_, _^_, _≤_, _<_, min, max, zero-le, suc-le-suc}
 use native.Mathlib.Nat.{mod-lt, zero-lt-suc, not-suc-le-zero, le-of-suc-le-suc, div-add-mod', pow-suc, mul-mod-left, div-one, zero-div, one-mul, lt-of-le-of-lt}
 use native.Mathlib.Numerals.{add-one, one-add}
-use native.Mathlib.Decide.{ℕ-discrete}
+use native.Mathlib.Decide.{ℕ-discrete, decLt}
 use native.Mathlib.Omega.{arith}
 use lib.Arith.{digits-mod, lt-one}
 use lib.Pow.{shr-shr, shr-lt, high, shl-exact, pow-pos}
-use lib.Bits.{bitAnd, bitOr, bitXor, differ, and-step, or-step, xor-step, and-shr, or-shr, xor-shr, xor-lt, and-le-l, and-mask, block-half, block-odd, shifted-half}
+use lib.Bits.{bitAnd, bitOr, bitXor, differ, and-step, or-step, xor-step, and-shr, or-shr, xor-shr, xor-lt, and-le-l, and-le-r, and-mask, block-half, block-odd, shifted-half}
 use lib.Count.{trailingZeros, under, trailing-le}
-use Rattle.labels.specs.Label.{digit, In, Sub, Marked, Cleared, Union, Below, LowestAt, absent}
+use Rattle.labels.specs.Label.{digit, In, Sub, Marked, Cleared, Union, But, Below, LowestAt, absent}
 
 two-pos : zero < 2
 two-pos = zero-lt-suc 1
@@ -122,6 +122,13 @@ union l m = record {
   only = λ k h. ⊎-elim (λ e. inl e) (λ f. inr (omega (arith, or-digit l m k, digit-lt l k, f))) (same-or (digit l k) 1);
 }
 
+pub but : (l m : ℕ) → But l m (bitXor l (bitAnd l m))
+but l m = record {
+  less = λ k h. omega (arith, less-digit l m k, digit-lt l k);
+  gone = λ k h g. omega (arith, less-digit l m k, digit-lt l k);
+  kept = λ k h d. omega (arith, less-digit l m k, digit-lt m k, d);
+}
+
 pub has-digit : (l j : ℕ) → bitAnd (l / 2 ^ j) 1 ≡ digit l j
 unfolding digit
 has-digit l j = and-mask (l / 2 ^ j) 1
@@ -183,6 +190,53 @@ module _ (row tried : ℕ) where
         new = λ e. omega (arith, less-digit row tried (trailingZeros 64 left), trailing 64 left .1 t, digit-lt row (trailingZeros 64 left));
         past = λ k l e. omega (arith, less-digit row tried k, trailing 64 left .0 k l, digit-lt tried k);
       }
+
+-- one less: the lowest digit that is 1 becomes 0, and those above it stay
+pred-digit : (j m : ℕ) → ((i : ℕ) → i < j → digit m i ≡ 0) → digit m j ≡ 1 → (digit (m - 1) j ≡ 0) × ((k : ℕ) → j < k → digit (m - 1) k ≡ digit m k)
+pred-digit zero m low at = (digit-zero (m - 1) ∙ omega (arith, digit-zero m, at, div-add-mod' m 2), above)
+  where
+    above : (k : ℕ) → 0 < k → digit (m - 1) k ≡ digit m k
+    above zero h = absurd (not-suc-le-zero h)
+    above (suc k) h = digit-suc (m - 1) k ∙ ap (λ (x : ℕ). digit x k) (omega (arith, digit-zero m, at, div-add-mod' m 2)) ∙ sym (digit-suc m k)
+pred-digit (suc j) m low at = go (pred-digit j (m / 2) (λ i l. sym (digit-suc m i) ∙ low (suc i) (suc-le-suc l)) (sym (digit-suc m j) ∙ at))
+  where
+    half : (m - 1) / 2 ≡ m / 2 - 1
+    half = omega (arith, digit-zero m, low 0 (zero-lt-suc j))
+
+    go : (digit (m / 2 - 1) j ≡ 0) × ((k : ℕ) → j < k → digit (m / 2 - 1) k ≡ digit (m / 2) k) → (digit (m - 1) (suc j) ≡ 0) × ((k : ℕ) → suc j < k → digit (m - 1) k ≡ digit m k)
+    go ih = (digit-suc (m - 1) j ∙ ap (λ (x : ℕ). digit x j) half ∙ ih .0, above)
+      where
+        above : (k : ℕ) → suc j < k → digit (m - 1) k ≡ digit m k
+        above zero h = absurd (not-suc-le-zero h)
+        above (suc k) h = digit-suc (m - 1) k ∙ ap (λ (x : ℕ). digit x k) half ∙ ih .1 k (le-of-suc-le-suc h) ∙ sym (digit-suc m k)
+
+-- so that the set and one less have all in common but its lowest output
+pub rest : (l t j : ℕ) → ((k : ℕ) → In t k → ⊥) → LowestAt 64 l t j → Cleared l j (bitAnd l (l - 1))
+rest l t j none m = record {
+  gone = λ h. omega (arith, and-digit l (l - 1) j, pred .0);
+  less = λ k h. omega (arith, and-digit l (l - 1) k, digit-lt l k);
+  kept = λ k h d. omega (arith, and-digit l (l - 1) k, pred .1 k (over k h d), h);
+}
+  where
+    low : (i : ℕ) → i < j → digit l i ≡ 0
+    low i q = ⊎-elim (λ h. absurd (none i (m .past i q h))) (λ f. omega (arith, digit-lt l i)) (same-or (digit l i) 1)
+
+    pred : (digit (l - 1) j ≡ 0) × ((k : ℕ) → j < k → digit (l - 1) k ≡ digit l k)
+    pred = pred-digit j l low (m .here)
+
+    over : (k : ℕ) → In l k → (k ≡ j → ⊥) → j < k
+    over k h d = go (decLt k j)
+      where
+        go : Dec (k < j) → j < k
+        go (yes q) = absurd (none k (m .past k q h))
+        go (no q) = omega arith
+
+-- a set with an output is not 0, and less without it
+pub rest-less : (l j : ℕ) → In l j → bitAnd l (l - 1) < l
+rest-less l j h = ⊎-elim (λ e. absurd (omega (arith, ap (λ (x : ℕ). digit x j) e, none-digit j))) (λ f. omega (arith, and-le-r l (l - 1))) (same-or l 0)
+
+pub some : (l j : ℕ) → In l j → 0 < l
+some l j h = ⊎-elim (λ e. absurd (omega (arith, ap (λ (x : ℕ). digit x j) e, none-digit j))) (λ f. omega arith) (same-or l 0)
 
 -- ---- the measure
 

@@ -4,7 +4,7 @@ use mathlib.Core.Logic.{_⊎_, inl, inr, ⊎-elim}
 use Prim.Native.Nat.{ℕ, _+_, _-_, _^_, _<_}
 use native.Mathlib.Decide.{decLt}
 use native.Mathlib.Omega.{arith}
-use Rattle.labels.specs.Label.{digit, In, Sub, Marked, Cleared, Union, Below, LowestAt}
+use Rattle.labels.specs.Label.{digit, In, Sub, Marked, Cleared, Union, But, Below, LowestAt}
 use Rattle.labels.proofs.Digits.{cat-low, cat-high}
 use Rattle.labels.specs.Wide.{two}
 
@@ -93,6 +93,15 @@ union a r b t c s hr ht hs h l = record {
   only = by-word (λ k. In (two c s) k → In (two a r) k ⊎ In (two b t) k)
       (λ k q x. ⊎-elim (λ y. inl (low a r k q ∙ y)) (λ y. inr (low b t k q ∙ y)) (l .only k (sym (low c s k q) ∙ x)))
       (λ i x. ⊎-elim (λ y. inl (high a r i hr ∙ y)) (λ y. inr (high b t i ht ∙ y)) (h .only i (sym (high c s i hs) ∙ x)));
+}
+
+pub but : (a r b t c s : ℕ) → r < 2 ^ 64 → t < 2 ^ 64 → s < 2 ^ 64 → But a b c → But r t s → But (two a r) (two b t) (two c s)
+but a r b t c s hr ht hs h l = record {
+  less = by-word (λ k. In (two c s) k → In (two a r) k) (λ k q x. low a r k q ∙ l .less k (sym (low c s k q) ∙ x)) (λ i x. high a r i hr ∙ h .less i (sym (high c s i hs) ∙ x));
+  gone = by-word (λ k. In (two c s) k → In (two b t) k → ⊥) (λ k q x y. l .gone k (sym (low c s k q) ∙ x) (sym (low b t k q) ∙ y)) (λ i x y. h .gone i (sym (high c s i hs) ∙ x) (sym (high b t i ht) ∙ y));
+  kept = by-word (λ k. In (two a r) k → (In (two b t) k → ⊥) → In (two c s) k)
+      (λ k q x f. low c s k q ∙ l .kept k (sym (low a r k q) ∙ x) (λ y. f (low b t k q ∙ y)))
+      (λ i x f. high c s i hs ∙ h .kept i (sym (high a r i hr) ∙ x) (λ y. f (high b t i ht ∙ y)));
 }
 
 pub below-low : (a r c s j : ℕ) → r < 2 ^ 64 → s < 2 ^ 64 → j < 64 → ((k : ℕ) → In c k → ⊥) → Below r j s → Below (two a r) j (two c s)

@@ -41,6 +41,12 @@ pub record Union (l m r : ℕ) : Type 0 where
   pub right : Sub m r
   pub only : (k : ℕ) → In r k → In l k ⊎ In m k
 
+-- r is l without the outputs of m
+pub record But (l m r : ℕ) : Type 0 where
+  pub less : Sub r l
+  pub gone : (k : ℕ) → In r k → In m k → ⊥
+  pub kept : (k : ℕ) → In l k → (In m k → ⊥) → In r k
+
 -- r is what l has below j
 pub record Below (l j r : ℕ) : Type 0 where
   pub less : Sub r l

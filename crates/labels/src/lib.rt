@@ -4,7 +4,7 @@
 use switch::OutputPort;
 ghost use mathlib.Core.Path.{_≡_};
 ghost use Prim.Native.Nat.{ℕ, _<_};
-ghost use Rattle.labels.specs.Label.{In, Marked, Cleared, Union, Below, Lowest, hasOutput};
+ghost use Rattle.labels.specs.Label.{In, Marked, Cleared, Union, But, Below, LowestAt, Lowest, hasOutput};
 ghost use Rattle.labels.specs.Wide.{outputsOf};
 
 // Every output of a word.
@@ -72,6 +72,21 @@ impl Label {
         ensures { λ r. ⌜ Union (self .0) (other .0) (r .0) ⌝ }
     {
         Label(self.0 | other.0)
+    }
+
+    // The outputs of the set but those of the other.
+    pub fn but(self, other: Label) -> Label
+        ensures { λ r. ⌜ But (self .0) (other .0) (r .0) ⌝ }
+    {
+        Label(self.0 ^ (self.0 & other.0))
+    }
+
+    // The set without its lowest output.
+    pub fn rest(self) -> Label
+        requires { ⌜ ((j : ℕ) × In (self .0) j) ⌝ }
+        ensures { λ r. ⌜ (r .0 < self .0) × ((t j : ℕ) → ((k : ℕ) → In t k → ⊥) → LowestAt 64 (self .0) t j → Cleared (self .0) j (r .0)) ⌝ }
+    {
+        Label(self.0 & (self.0 - 1))
     }
 
     // The outputs of the set that are lower than j.
@@ -182,6 +197,20 @@ impl Wide {
         Wide {
             low: l.with(m),
             high: h.with(g),
+        }
+    }
+
+    // The outputs of the set but those of the other.
+    pub fn but(self, other: Wide) -> Wide
+        ensures { λ r. ⌜ But (outputsOf self) (outputsOf other) (outputsOf r) ⌝ }
+    {
+        let l = self.low;
+        let m = other.low;
+        let h = self.high;
+        let g = other.high;
+        Wide {
+            low: l.but(m),
+            high: h.but(g),
         }
     }
 

@@ -1,31 +1,35 @@
 -- Inputs are seated one after the other: each that asks keeps the others seated, and one that is stuck shows that no full setting keeps what is fixed.
-use mathlib.Core.Path.{_≡_, refl, sym, subst, _∙_}
+use mathlib.Core.Path.{_≡_, refl, sym, ap, subst, _∙_}
 use mathlib.Core.Bool.{Bool, true, false, true≢false, false≢true}
 use mathlib.Core.Logic.{_⊎_, inl, inr}
 use mathlib.Core.List.{List}
 use Prim.Native.Nat.{ℕ, _+_, _<_, _≤_}
 use native.Mathlib.Omega.{arith}
 use lib.Dec.{eqb}
-use lib.ListN.{length, getD}
+use lib.ListN.{length, getD, set}
+use lib.Seq.{getD-set-other}
 use borrow.Author.Tests.{eqb-true, eqb-false}
-use Rattle.labels.specs.Label.{In, Marked}
+use Rattle.labels.specs.Label.{In, Marked, Cleared}
 use Rattle.labels.proofs.Digits.{same-or}
 use Rattle.rules.specs.First.{Fits}
 use Rattle.matching.specs.Tables.{Held, Holds, joined, Matching}
-use Rattle.matching.specs.Search.{Shut, Closed, Spare, Around, Blocked, InPre, InPost}
+use Rattle.matching.specs.Search.{Free, AskPre, Gained, Moved, Unmoved}
 use Rattle.matching.specs.Chosen.{Fixed, Keeps, CompletePre, CompletePost, HoldsPost}
-use Rattle.matching.proofs.Tables.{held-in}
+use Rattle.matching.proofs.Tables.{held-in, held-not-free, taken-good}
+use Rattle.matching.proofs.Search.{around-same, around-through, take-gains}
 use Rattle.matching.proofs.Closed.{not-there}
 
-pub around-same : (n : ℕ) (by out : List ℕ) (t : ℕ) → Around n by out t by out
-around-same n by out t = record { kept = λ m x. x; still = λ k x. refl; beyond = λ m l. refl }
+-- where all are held none is free
+pub free-none : (w : ℕ) (by : List ℕ) (l : ℕ) → ((k : ℕ) → k < w → In l k) → Free w by l
+free-none w by l f k s h = absurd (h (f k s))
 
-pub around-through : (n t : ℕ) (by out by' out' by'' out'' : List ℕ) → Around n by out t by' out' → Around n by' out' t by'' out'' → Around n by out t by'' out''
-around-through n t by out by' out' by'' out'' a b = record {
-  kept = λ m x. b .kept m (a .kept m x);
-  still = λ k x. b .still k x ∙ a .still k x;
-  beyond = λ m l. b .beyond m l ∙ a .beyond m l;
-}
+-- a free one is taken out
+pub free-one : (w : ℕ) (by : List ℕ) (l j r : ℕ) → Free w by l → getD by j 0 ≡ 0 → Cleared l j r → Free w by r
+free-one w by l j r f e c k s h = go (same-or k j)
+  where
+    go : (k ≡ j) ⊎ (k ≡ j → ⊥) → getD by k 0 ≡ 0
+    go (inl x) = ap (λ (y : ℕ). getD by y 0) x ∙ e
+    go (inr x) = f k s (λ i. h (c .kept k i x))
 
 -- below i + 1 is below i, or i
 pub one-more : (P : ℕ → Type 0) (i : ℕ) → ((m : ℕ) → m < i → P m) → P i → (m : ℕ) → m < i + 1 → P m
@@ -63,17 +67,18 @@ told w n E by out i g x = subst (λ (k : ℕ). Held by k i) (sym (g .paired (x .
 
 module _ (w n : ℕ) (E : ℕ → ℕ → Type 0) (by out : List ℕ) (fixed : ℕ) where
   -- nothing is done yet
-  pub complete-start : (from : ℕ) → CompletePre w n E by out fixed from → CompletePost w n E by out fixed from by out true
-  complete-start from p = record { good = p .good; around = around-same n by out fixed; all = λ _. p .begun; none = λ e. absurd (true≢false e) }
+  pub complete-start : (known from : ℕ) → CompletePre w n E by out known fixed from → CompletePost w n E by out fixed from by out known true
+  complete-start known from p = record { free = p .free; good = p .good; around = around-same n by out fixed; all = λ _. p .begun; none = λ e. absurd (true≢false e) }
 
   -- the next input may be seated
-  pub complete-next : (from i : ℕ) (by' out' : List ℕ) → i ≤ n → CompletePre w n E by out fixed from → CompletePost w n E by out fixed i by' out' true → CompletePre w n E by' out' fixed i
-  complete-next from i by' out' l p c = record { good = c .good; held = λ k x. let h = p .held k x in (h .0, c .around .still k x ∙ h .1); short = l; begun = c .all refl }
+  pub complete-next : (known from known' i : ℕ) (by' out' : List ℕ) → i ≤ n → CompletePre w n E by out known fixed from → CompletePost w n E by out fixed i by' out' known' true → CompletePre w n E by' out' known' fixed i
+  complete-next known from known' i by' out' l p c = record { free = c .free; good = c .good; held = λ k x. let h = p .held k x in (h .0, c .around .still k x ∙ h .1); short = l; begun = c .all refl }
 
   -- it was
-  pub complete-more : (i : ℕ) (by' out' by'' out'' : List ℕ) (b : Bool) → CompletePost w n E by out fixed i by' out' true
-      → CompletePost w n E by' out' fixed (i + 1) by'' out'' b → CompletePost w n E by out fixed (i + 1) by'' out'' b
-  complete-more i by' out' by'' out'' b c d = record {
+  pub complete-more : (i known known' : ℕ) (by' out' by'' out'' : List ℕ) (b : Bool) → CompletePost w n E by out fixed i by' out' known true
+      → CompletePost w n E by' out' fixed (i + 1) by'' out'' known' b → CompletePost w n E by out fixed (i + 1) by'' out'' known' b
+  complete-more i known known' by' out' by'' out'' b c d = record {
+    free = d .free;
     good = d .good;
     around = around-through n fixed by out by' out' by'' out'' (c .around) (d .around);
     all = d .all;
@@ -81,39 +86,47 @@ module _ (w n : ℕ) (E : ℕ → ℕ → Type 0) (by out : List ℕ) (fixed : �
   }
 
   -- one was stuck
-  pub complete-stops : (i to : ℕ) (by' out' : List ℕ) (b : Bool) → b ≡ false → CompletePost w n E by out fixed i by' out' b → CompletePost w n E by out fixed to by' out' false
-  complete-stops i to by' out' b e c = record { good = c .good; around = c .around; all = λ z. absurd (false≢true z); none = λ _. c .none e }
+  pub complete-stops : (i to known : ℕ) (by' out' : List ℕ) (b : Bool) → b ≡ false → CompletePost w n E by out fixed i by' out' known b → CompletePost w n E by out fixed to by' out' known b
+  complete-stops i to known by' out' b e c = record { free = c .free; good = c .good; around = c .around; all = λ z. absurd (false≢true (sym e ∙ z)); none = c .none }
 
   -- ---- input i is seated
 
-  module _ (i : ℕ) (here : i < n) (p : CompletePre w n E by out fixed i) where
+  module _ (known i : ℕ) (here : i < n) (p : CompletePre w n E by out known fixed i) where
     -- it holds an output already
-    pub seat-holds : Held by (joined out i) i → CompletePost w n E by out fixed (i + 1) by out true
-    seat-holds h = record { good = p .good; around = around-same n by out fixed; all = λ _. one-more (Holds by) i (p .begun) (joined out i, h); none = λ e. absurd (true≢false e) }
+    pub seat-holds : Held by (joined out i) i → CompletePost w n E by out fixed (i + 1) by out known true
+    seat-holds h = record { free = p .free; good = p .good; around = around-same n by out fixed; all = λ _. one-more (Holds by) i (p .begun) (joined out i, h); none = λ e. absurd (true≢false e) }
 
-    module _ (idle : Holds by i → ⊥) where
-      stuck : (u : ℕ) → Closed E by fixed u → Shut E u i → (o : ℕ → ℕ) → Fits n E o → Keeps by fixed o → ⊥
-      stuck u c s o f k = not-there w n E by out fixed u i o (p .good) here idle c f (p .held) k (s (o i) (f .used i here))
+    -- it may ask: what is fixed is held, so that nothing that is free is tried
+    pub seat-asks : AskPre w n E by out known fixed
+    seat-asks = record { good = p .good; spare = λ k l h. let e = p .free k l h in (e, λ x. let y = p .held k x in held-not-free by k (y .0) (y .1) e) }
 
-      -- all that it may take is blocked
-      pub seat-blocked : (row : ℕ) → Shut E row i → Blocked E by fixed row → CompletePost w n E by out fixed (i + 1) by out false
-      seat-blocked row s b = record {
+    module _ (idle : Holds by i → ⊥) (row : ℕ) (may : (k : ℕ) → In row k → E i k) (shut : (k : ℕ) → E i k → In row k) where
+      -- it is stuck: no full setting keeps what is fixed
+      pub seat-stuck : (by' out' : List ℕ) (u : ℕ) → Unmoved E by out fixed row by' out' u → CompletePost w n E by out fixed (i + 1) by' out' known false
+      seat-stuck by' out' u m = rw (m .holders, m .outs) (record {
+        free = p .free;
         good = p .good;
         around = around-same n by out fixed;
         all = λ e. absurd (false≢true e);
-        none = λ _. stuck (b .seen) (b .closed) (λ k e. b .all k (s k e));
-      }
+        none = λ _ o f k. not-there w n E by out fixed u i o (p .good) here idle (m .closed) f (p .held) k (m .all (o i) (shut (o i) (f .used i here)));
+      })
 
-      -- it asks, where it is known what can be had at once
-      pub seat-asks : (held : ℕ) → Spare w by fixed held → InPre w n E by out held fixed i
-      seat-asks held f = record { good = p .good; spare = f; here = here; idle = idle }
-
-      pub seat-asked : (by' out' : List ℕ) (b : Bool) (u : ℕ) → InPost w n E by out fixed i by' out' b u → CompletePost w n E by out fixed (i + 1) by' out' b
-      seat-asked by' out' b u a = record { good = a .good; around = around b refl; all = λ e. all (a .found e .gained .around .kept) (joined out' i, a .found e .gained .holds); none = λ e. stuck u (a .stuck e .0 .closed) (a .stuck e .1) }
+      -- it takes what was made free
+      pub seat-taken : (j spent known' : ℕ) (by' out' by'' out'' : List ℕ) → n ≤ w → Moved w n E by out fixed row j spent by' out' → Marked known spent known'
+          → by'' ≡ set by' j (i + 1) → out'' ≡ set out' i j → CompletePost w n E by out fixed (i + 1) by'' out'' known' true
+      seat-taken j spent known' by' out' by'' out'' few m mk eb eo = rw (eb, eo) (record {
+        free = free;
+        good = taken-good w n E by' out' (m .good) j i (m .here) here few (may j (m .asked)) (λ x. idle (m .moved .only i x));
+        around = g .around;
+        all = λ _. one-more (Holds (set by' j (i + 1))) i (λ k l. g .around .kept k (p .begun k l)) (joined (set out' i j) i, g .holds);
+        none = λ e. absurd (true≢false e);
+      })
         where
-          around : (x : Bool) → b ≡ x → Around n by out fixed by' out'
-          around true e = a .found e .gained .around
-          around false e = rw (a .stuck e .0 .holders, a .stuck e .0 .outputs) (around-same n by out fixed)
+          g : Gained n by out fixed i (set by' j (i + 1)) (set out' i j)
+          g = take-gains n by out fixed j i by' out' (omega (arith, m .good .holders, m .here)) (omega (arith, m .good .outputs)) here (m .new) (m .moved)
 
-          all : ((m : ℕ) → Holds by m → Holds by' m) → Holds by' i → (m : ℕ) → m < i + 1 → Holds by' m
-          all kept h = one-more (Holds by') i (λ m l. kept m (p .begun m l)) h
+          free : Free w (set by' j (i + 1)) known'
+          free k l h =
+              let e = p .free k l (λ x. h (mk .more k x)) in
+              let d : k ≡ spent → ⊥ = λ q. h (subst (In known') (sym q) (mk .put)) in
+              getD-set-other by' j k (i + 1) 0 (λ q. d (q ∙ m .same (subst (λ (a : ℕ). getD by a 0 ≡ 0) q e))) ∙ m .others k e d

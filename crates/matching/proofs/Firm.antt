@@ -1,13 +1,14 @@
--- The inputs in front keep their outputs while the others are joined around them; where that cannot be, one fewer does, and with none it can always be.
+-- The inputs in front keep their outputs while the others are joined around them; where that cannot be, fewer do, and with none it can always be.
 use mathlib.Core.Path.{_≡_, refl, sym, subst, _∙_}
 use mathlib.Core.Bool.{Bool, true, false}
 use mathlib.Core.List.{List}
-use Prim.Native.Nat.{ℕ, zero, suc, _-_, _<_, _≤_}
+use Prim.Native.Nat.{ℕ, zero, suc, _<_, _≤_}
 use native.Mathlib.Omega.{arith}
 use Rattle.labels.specs.Label.{In}
 use Rattle.rules.specs.First.{Fits}
 use Rattle.rules.proofs.First.{first-of}
 use Rattle.matching.specs.Tables.{Held, Holds, joined, Matching}
+use Rattle.matching.specs.Search.{Free}
 use Rattle.matching.specs.Chosen.{Fixed, AllHeld, Best, CompletePre, CompletePost, Settled, SettledPost, Ready, Chosen}
 use Rattle.matching.proofs.Tables.{one-holder, place}
 use Rattle.matching.proofs.Completing.{told}
@@ -35,10 +36,10 @@ module _ (w n : ℕ) (E : ℕ → ℕ → Type 0) (by₀ out₀ : List ℕ) (kep
     all-held : AllHeld by fixed
     all-held k x = let a = f .from k x in (a .0, subst (λ (q : ℕ). Held by q (a .0)) (a .2) (firm-held (a .0) (a .1)))
 
-    pub firm-completes : CompletePre w n E by out fixed kept
-    firm-completes = record { good = p .good; held = all-held; short = r .short; begun = p .begun }
+    pub firm-completes : (known : ℕ) → Free w by known → CompletePre w n E by out known fixed kept
+    firm-completes known free = record { free = free; good = p .good; held = all-held; short = r .short; begun = p .begun }
 
-    module _ (by' out' : List ℕ) (b : Bool) (c : CompletePost w n E by out fixed n by' out' b) where
+    module _ (by' out' : List ℕ) (known : ℕ) (b : Bool) (c : CompletePost w n E by out fixed n by' out' known b) where
       -- what is fixed is as it was
       still : (m : ℕ) → m < firm → joined out' m ≡ joined out m
       still m l = c .good .paired (joined out m) m (c .around .still (joined out m) (f .got m l) ∙ firm-held m l)
@@ -56,7 +57,7 @@ module _ (w n : ℕ) (E : ℕ → ℕ → Type 0) (by₀ out₀ : List ℕ) (kep
           best : (m : ℕ) → m < firm → Best n E out' m
           best m l o g a = rw (as-first m l) (r .best m (omega (arith, p .short)) o g (λ k q. a k q ∙ as-first k (omega arith)))
 
-      -- one was stuck: something was fixed, and one fewer is to be
+      -- one was stuck: something was fixed, and fewer are to be
       pub firm-some : b ≡ false → 0 < firm
       firm-some e = go firm refl
         where
@@ -64,8 +65,11 @@ module _ (w n : ℕ) (E : ℕ → ℕ → Type 0) (by₀ out₀ : List ℕ) (kep
           go zero z = absurd (c .none e (r .some .0) (r .some .1) (λ k m x h. let l = f .from k x .1 in absurd (omega arith)))
           go (suc x) z = omega arith
 
-      pub firm-less : Firm w n E out₀ kept by' out' (firm - 1)
-      firm-less = record {
+      pub firm-place' : (m : ℕ) → m < firm → joined out' m < w
+      firm-place' m l = rw (still m l) (firm-place m l)
+
+      pub firm-less : (firm' : ℕ) → firm' < firm → Firm w n E out₀ kept by' out' firm'
+      firm-less firm' less = record {
         good = c .good;
         short = omega (arith, p .short);
         begun = λ m l. c .around .kept m (p .begun m l);

@@ -2,7 +2,6 @@ pub mod Tables
 pub mod Search
 pub mod Waves
 pub mod Closed
-pub mod Spare
 pub mod Completing
 pub mod Settling
 pub mod Firm

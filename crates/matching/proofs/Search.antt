@@ -1,19 +1,21 @@
--- Why the search is right: a stuck holder's outputs are all tried, so that the tried set is closed; and a moved one leaves its output free.
+-- Why the search is right: a wave whose holders all lead to what was tried is closed; and the holder that is handed an output leaves its own free.
 use mathlib.Core.Path.{_≡_, refl, sym, ap, subst, _∙_}
-use mathlib.Core.Bool.{Bool, true, false, true≢false, false≢true}
 use mathlib.Core.Logic.{_⊎_, inl, inr, ⊎-elim}
 use mathlib.Core.List.{List}
 use Prim.Native.Nat.{ℕ, _+_, _-_, _<_, _≤_}
 use native.Mathlib.Omega.{arith}
-use lib.ListN.{length, getD, set}
+use lib.ListN.{length, getD, set, length-set}
 use lib.Seq.{getD-set-same, getD-set-other}
-use Rattle.labels.specs.Label.{In, Sub, Marked, Lowest, LowestAt}
+use Rattle.labels.specs.Label.{digit, In, Sub, Union, But, Lowest, LowestAt, absent}
 use Rattle.labels.specs.declared.Found.{Found}
 use Rattle.labels.specs.declared.Found.the-variants.{At, Nothing}
+use Rattle.labels.proofs.Digits.{same-or, absent-less}
 use Rattle.switch.specs.declared.OutputPort.{OutputPort}
-use Rattle.matching.specs.Tables.{rowOf, Allowed, Held, Holds, joined, Matching}
-use Rattle.matching.specs.Search.{Shut, Stays, Closed, Spare, Gained, OutMoved, Unmoved, InPre, OutPre, InPost, OutPost}
-use Rattle.matching.proofs.Tables.{Here, Other, stored, held-in, held-not-free, one-holder, freed-back, set-back, freed-good, freed-idle, taken-good}
+use Rattle.matching.specs.declared.Asked.{Asked}
+use Rattle.matching.specs.declared.Asked.the-variants.{Freed, Stuck}
+use Rattle.matching.specs.Tables.{Held, Holds, joined, Matching}
+use Rattle.matching.specs.Search.{Stays, Closed, Ports, Further, Mover, Movable, Handed, Spare, AskPre, Wave, Around, Gained, OutMoved, Moved, Unmoved, AskPost}
+use Rattle.matching.proofs.Tables.{Here, Other, stored, held-in, held-not-free, one-holder, freed-back, freed-good, freed-idle, taken-good}
 
 -- ---- closed sets
 
@@ -25,25 +27,25 @@ module _ (E : ℕ → ℕ → Type 0) (by : List ℕ) where
   pub closed-through : (t u v : ℕ) → Sub u v → Closed E by t u → Closed E by u v → Closed E by t v
   closed-through t u v s a b j x = ⊎-elim (λ y. ⊎-elim (λ z. inl z) (λ z. inr (stays-more u v j s z)) (a j y)) (λ y. inr y) (b j x)
 
-  -- what is free is in a closed set only where it was tried before
-  pub spare-through : (w t u held : ℕ) → Closed E by t u → Spare w by t held → Spare w by u held
-  spare-through w t u held c f k l h =
-      let s = f k l h in
-      (s .0, λ x. ⊎-elim (s .1) (λ (y : Stays E by u k). held-not-free by k (y .0) (y .1) (s .0)) (c k x))
+-- ---- moves
 
--- ---- an output is asked
+pub around-same : (n : ℕ) (by out : List ℕ) (t : ℕ) → Around n by out t by out
+around-same n by out t = record { kept = λ m x. x; still = λ k x. refl; beyond = λ m l. refl }
+
+pub around-through : (n t : ℕ) (by out by' out' by'' out'' : List ℕ) → Around n by out t by' out' → Around n by' out' t by'' out'' → Around n by out t by'' out''
+around-through n t by out by' out' by'' out'' a b = record {
+  kept = λ m x. b .kept m (a .kept m x);
+  still = λ k x. b .still k x ∙ a .still k x;
+  beyond = λ m l. b .beyond m l ∙ a .beyond m l;
+}
+
+pub around-less : (n t u : ℕ) (by out by' out' : List ℕ) → Sub t u → Around n by out u by' out' → Around n by out t by' out'
+around-less n t u by out by' out' s a = record { kept = a .kept; still = λ k x. a .still k (s k x); beyond = a .beyond }
 
 module _ (n : ℕ) (by out : List ℕ) where
-  -- it is free already
+  -- an output is free already
   pub free-already : (t j : ℕ) → getD by j 0 ≡ 0 → OutMoved n by out t j by out
-  free-already t j e = record { around = record { kept = λ m x. x; still = λ k x. refl; beyond = λ m l. refl }; free = e; only = λ m x. x }
-
-  pub gained-less : (t u i : ℕ) (by' out' : List ℕ) → Sub t u → Gained n by out u i by' out' → Gained n by out t i by' out'
-  gained-less t u i by' out' s g = record {
-    around = record { kept = g .around .kept; still = λ k x. g .around .still k (s k x); beyond = g .around .beyond };
-    holds = g .holds;
-    only = g .only;
-  }
+  free-already t j e = record { around = around-same n by out t; free = e; only = λ m x. x }
 
   -- an idle input takes an output that was made free
   pub take-gains : (t j i : ℕ) (by' out' : List ℕ) → j < length by' → i < length out' → i < n → (In t j → ⊥)
@@ -67,7 +69,7 @@ module _ (n : ℕ) (by out : List ℕ) where
       only m x (inl p) = inr (omega (arith, p .at, x .1))
       only m x (inr f) = inl (o .only m (x .0, sym (f .at) ∙ x .1))
 
-  -- its holder took another
+  -- the holder of j took another
   pub holder-moved : (t j i : ℕ) (by' out' : List ℕ) → Held by j i → (In t j → ⊥) → getD by' j 0 ≡ 0
       → Gained n (set by j 0) out t i by' out' → OutMoved n by out t j by' out'
   holder-moved t j i by' out' e new free g = record {
@@ -90,156 +92,164 @@ module _ (n : ℕ) (by out : List ℕ) where
       only m (inl y) = (y .0, freed-back by j (y .0) m l (y .1) .1)
       only m (inr p) = (j, subst (Held by j) (sym p) e)
 
--- its holder is stuck
-pub holder-stuck : (E : ℕ → ℕ → Type 0) (by : List ℕ) (t m u j i : ℕ) → Held by j i → Marked t j m → Sub m u
-    → Closed E (set by j 0) m u → Shut E u i → Closed E by t u × In u j
-holder-stuck E by t m u j i e mk s c shut = (λ k x. go k (c k x), s j (mk .put))
-  where
-    marked : (k : ℕ) → In t k ⊎ (k ≡ j) → In t k ⊎ Stays E by u k
-    marked k (inl x) = inl x
-    marked k (inr p) = inr (i, subst (λ (q : ℕ). Held by q i) (sym p) e, shut)
+-- the holder of j gives it up for a free output k
+module _ (w n : ℕ) (E : ℕ → ℕ → Type 0) (by out : List ℕ) (t j i k : ℕ) (g : Matching w n E by out) (few : n ≤ w) (here : k < w)
+    (e : Held by j i) (edge : E i k) (free : getD by k 0 ≡ 0) (new : In t j → ⊥) (loose : In t k → ⊥) where
+  freed : Matching w n E (set by j 0) out
+  freed = freed-good w n E by out g j (omega (arith, held-in by j i e, g .holders))
 
-    go : (k : ℕ) → In m k ⊎ Stays E (set by j 0) u k → In t k ⊎ Stays E by u k
-    go k (inl x) = marked k (mk .only k x)
-    go k (inr y) = inr (y .0, freed-back by j k (y .0) (held-in by j i e) (y .1) .1, y .2)
+  idle : Holds (set by j 0) i → ⊥
+  idle = freed-idle w n E by out g j i e
 
--- ---- the lowest output that is left, at the row that the code reads
+  other : k ≡ j → ⊥
+  other q = held-not-free by j i e (subst (λ (a : ℕ). getD by a 0 ≡ 0) q free)
 
-pub lowest-at : (w row row' seen : ℕ) (f : Found) (j : OutputPort) → row ≡ row' → Lowest w row seen f → f ≡ At j → LowestAt w row' seen (j .0)
-lowest-at w row row' seen f j e l q = subst (λ (r : ℕ). LowestAt w r seen (j .0)) e (subst (Lowest w row seen) q l)
+  pub handed-good : Matching w n E (set (set by j 0) k (i + 1)) (set out i k)
+  handed-good = taken-good w n E (set by j 0) out freed k i here (g .port j i e) few edge idle
 
-pub none-left : (w row row' seen : ℕ) (f : Found) → row ≡ row' → Lowest w row seen f → f ≡ Nothing → Sub row' seen
-none-left w row row' seen f e l q = subst (λ (r : ℕ). Sub r seen) e (subst (Lowest w row seen) q l)
+  pub handed-moved : OutMoved n by out t j (set (set by j 0) k (i + 1)) (set out i k)
+  handed-moved = holder-moved n by out t j i _ _ e new (getD-set-other (set by j 0) k j (i + 1) 0 (λ q. other (sym q)) ∙ getD-set-same by j 0 0 (held-in by j i e))
+      (take-gains n (set by j 0) out t k i (set by j 0) out (omega (arith, freed .holders)) (omega (arith, g .outputs, g .port j i e)) (g .port j i e) loose
+      (free-already n (set by j 0) out t k (getD-set-other by j k 0 0 other ∙ free)))
 
--- ---- an input asks: the turns of its loop
+-- ---- the lowest output that is left
 
--- what is seen by now is closed
-pub record Turn (E : ℕ → ℕ → Type 0) (by : List ℕ) (t seen : ℕ) : Type 0 where
-  pub more : Sub t seen
-  pub closed : Closed E by t seen
+pub lowest-at : (w row seen : ℕ) (f : Found) (j : OutputPort) → Lowest w row seen f → f ≡ At j → LowestAt w row seen (j .0)
+lowest-at w row seen f j l q = subst (Lowest w row seen) q l
 
-pub first-turn : (E : ℕ → ℕ → Type 0) (by : List ℕ) (t : ℕ) → Turn E by t t
-first-turn E by t = record { more = λ k x. x; closed = λ j x. inl x }
-
-module _ (w : ℕ) (lows highs by out : List ℕ) (held t i seen : ℕ)
-    (p : InPre w (length lows) (Allowed lows highs) by out held t i) (turn : Turn (Allowed lows highs) by t seen) where
-  -- the lowest output that is left may be asked
-  pub turn-asks : (j : ℕ) → LowestAt w (rowOf lows highs i) seen j → OutPre w (length lows) (Allowed lows highs) by out held seen j
-  turn-asks j l = record { good = p .good; spare = spare-through (Allowed lows highs) by w t seen held (turn .closed) (p .spare); here = l .small; new = l .new }
-
-  -- no output is left: the input is stuck
-  pub turn-ends : Sub (rowOf lows highs i) seen → InPost w (length lows) (Allowed lows highs) by out t i by out false seen
-  turn-ends s = record {
-    good = p .good;
-    more = turn .more;
-    found = λ z. absurd (false≢true z);
-    stuck = λ _. (record { holders = refl; outputs = refl; closed = turn .closed }, s);
-  }
-
-  module _ (j u : ℕ) (by' out' : List ℕ) (b : Bool) (o : OutPost w (length lows) (Allowed lows highs) by out seen j by' out' b u) where
-    -- the output is stuck: the set is larger, and closed again
-    pub turn-stuck : b ≡ false → (by' ≡ by) × (out' ≡ out) × Turn (Allowed lows highs) by t u
-    turn-stuck e =
-        let k = o .stuck e .0 in
-        (k .holders, k .outputs, record { more = λ a x. o .more a (turn .more a x); closed = closed-through (Allowed lows highs) by t seen u (o .more) (turn .closed) (k .closed) })
-
-    -- it became free: the input takes it
-    pub turn-found : (by'' out'' : List ℕ) → length lows ≤ w → LowestAt w (rowOf lows highs i) seen j → b ≡ true → by'' ≡ set by' j (i + 1) → out'' ≡ set out' i j
-        → InPost w (length lows) (Allowed lows highs) by out t i by'' out'' b u
-    turn-found by'' out'' few l e eb eo =
-        let m = o .freed e in
-        let li : i < length out' = omega (arith, o .good .outputs, p .here) in
-        let lj : j < length by' = omega (arith, o .good .holders, l .small) in
-        rw (eb, eo) (record {
-          good = taken-good w (length lows) (Allowed lows highs) by' out' (o .good) j i (l .small) (p .here) few (l .here) (λ x. p .idle (m .only i x));
-          more = λ a x. o .more a (turn .more a x);
-          found = λ _. record {
-            gained = gained-less (length lows) by out t seen i _ _ (turn .more) (take-gains (length lows) by out seen j i by' out' lj li (p .here) (l .new) m);
-            seen = seen;
-            closed = turn .closed;
-            past = λ k h. l .past k (omega (arith, getD-set-same out' i j 255 li));
-          };
-          stuck = λ z. absurd (true≢false (sym e ∙ z));
-        })
-
--- ---- an output is asked
-
-module _ (w : ℕ) (lows highs by out : List ℕ) (held t j : ℕ) (p : OutPre w (length lows) (Allowed lows highs) by out held t j) where
-  -- nobody holds it
-  pub asked-free : getD by j 0 ≡ 0 → OutPost w (length lows) (Allowed lows highs) by out t j by out true t
-  asked-free e = record { good = p .good; more = λ k x. x; freed = λ _. free-already (length lows) by out t j e; stuck = λ z. absurd (true≢false z) }
-
-  module _ (i : ℕ) (e : Held by j i) where
-    good : Matching w (length lows) (Allowed lows highs) (set by j 0) out
-    good = freed-good w (length lows) (Allowed lows highs) by out (p .good) j (p .here)
-
-    here : i < length lows
-    here = p .good .port j i e
-
-    idle : Holds (set by j 0) i → ⊥
-    idle = freed-idle w (length lows) (Allowed lows highs) by out (p .good) j i e
-
-    -- marked and freed, it may ask its holder
-    pub holder-asks : (m : ℕ) → Marked t j m → InPre w (length lows) (Allowed lows highs) (set by j 0) out held m i
-    holder-asks m mk = record { good = good; spare = spare; here = here; idle = idle }
-      where
-        spare : (k : ℕ) → k < w → (In held k → ⊥) → (getD (set by j 0) k 0 ≡ 0) × (In m k → ⊥)
-        spare k l h =
-            let s = p .spare k l h in
-            let f : k ≡ j → ⊥ = λ q. held-not-free by j i e (subst (λ (a : ℕ). getD by a 0 ≡ 0) q (s .0)) in
-            (getD-set-other by j k 0 0 f ∙ s .0, λ x. ⊎-elim (s .1) f (mk .only k x))
-
-    -- its holder takes a spare output
-    pub asked-spare : (k : ℕ) (by' out' : List ℕ) → length lows ≤ w → LowestAt w (rowOf lows highs i) held k → by' ≡ set (set by j 0) k (i + 1) → out' ≡ set out i k
-        → OutPost w (length lows) (Allowed lows highs) by out t j by' out' true t
-    asked-spare k by' out' few l eb eo =
-        rw (eb, eo) (record { good = taken-good w (length lows) (Allowed lows highs) (set by j 0) out good k i (l .small) here few (l .here) idle; more = λ a x. x; freed = λ _. moved; stuck = λ z. absurd (true≢false z) })
-      where
-        s : (getD by k 0 ≡ 0) × (In t k → ⊥)
-        s = p .spare k (l .small) (l .new)
-
-        other : k ≡ j → ⊥
-        other q = held-not-free by j i e (subst (λ (a : ℕ). getD by a 0 ≡ 0) q (s .0))
-
-        free : OutMoved (length lows) (set by j 0) out t k (set by j 0) out
-        free = free-already (length lows) (set by j 0) out t k (getD-set-other by j k 0 0 other ∙ s .0)
-
-        moved : OutMoved (length lows) by out t j (set (set by j 0) k (i + 1)) (set out i k)
-        moved = holder-moved (length lows) by out t j i _ _ e (p .new) (getD-set-other (set by j 0) k j (i + 1) 0 (λ q. other (sym q)) ∙ getD-set-same by j 0 0 (held-in by j i e))
-            (take-gains (length lows) (set by j 0) out t k i (set by j 0) out (omega (arith, good .holders, l .small)) (omega (arith, good .outputs, here)) here (s .1) free)
-
-    module _ (m u : ℕ) (by' out' : List ℕ) (b : Bool) (mk : Marked t j m) (a : InPost w (length lows) (Allowed lows highs) (set by j 0) out m i by' out' b u) where
-      -- its holder found another
-      pub asked-moved : b ≡ true → OutPost w (length lows) (Allowed lows highs) by out t j by' out' b u
-      asked-moved q = record { good = a .good; more = λ k x. a .more k (mk .more k x); freed = λ _. moved (a .found q .gained); stuck = λ z. absurd (true≢false (sym q ∙ z)) }
-        where
-          moved : Gained (length lows) (set by j 0) out m i by' out' → OutMoved (length lows) by out t j by' out'
-          moved g = holder-moved (length lows) by out t j i by' out' e (p .new) (g .around .still j (mk .put) ∙ getD-set-same by j 0 0 (held-in by j i e)) (gained-less (length lows) (set by j 0) out t m i by' out' (mk .more) g)
-
-      -- its holder is stuck: the output goes back to it
-      pub asked-stuck : (by'' : List ℕ) → b ≡ false → by'' ≡ set by' j (getD by j 0) → OutPost w (length lows) (Allowed lows highs) by out t j by'' out' b u
-      asked-stuck by'' q eb = record {
-        good = rw (same, k .0 .outputs) (p .good);
-        more = λ x y. a .more x (mk .more x y);
-        freed = λ z. absurd (true≢false (sym z ∙ q));
-        stuck = λ _. (record { holders = same; outputs = k .0 .outputs; closed = c .0 }, c .1);
-      }
-        where
-          k : Unmoved (Allowed lows highs) (set by j 0) out m by' out' u × Shut (Allowed lows highs) u i
-          k = a .stuck q
-
-          same : by'' ≡ by
-          same = eb ∙ ap (λ (l : List ℕ). set l j (getD by j 0)) (k .0 .holders) ∙ set-back by j 0
-
-          c : Closed (Allowed lows highs) by t u × In u j
-          c = holder-stuck (Allowed lows highs) by t m u j i e mk (a .more) (k .0 .closed) (k .1)
-
--- ---- at the values that the code has
-
--- the tables that an output was asked with, where they are those at the start
-pub post-at : {w n : ℕ} {E : ℕ → ℕ → Type 0} {by₁ out₁ by out by' out' : List ℕ} {t j u : ℕ} {b : Bool}
-    → OutPost w n E by₁ out₁ t j by' out' b u → by₁ ≡ by → out₁ ≡ out → OutPost w n E by out t j by' out' b u
-post-at o eb eo = rw (← eb, ← eo) o
+pub none-left : (w row seen : ℕ) (f : Found) → Lowest w row seen f → f ≡ Nothing → Sub row seen
+none-left w row seen f l q = subst (Lowest w row seen) q l
 
 pub one-up : (v : ℕ) → (v ≡ 0 → ⊥) → v ≡ v - 1 + 1
 one-up v f = omega arith
+
+pub ports-of : (w n : ℕ) (E : ℕ → ℕ → Type 0) (by out : List ℕ) → Matching w n E by out → Ports w n by
+ports-of w n E by out g = record { holders = g .holders; port = g .port }
+
+-- ---- inputs ask
+
+module _ (w n : ℕ) (E : ℕ → ℕ → Type 0) (by out : List ℕ) (held t : ℕ) (p : AskPre w n E by out held t) where
+  -- an output that nobody holds and that is not tried is there to be taken
+  free-moved : (outputs j : ℕ) → In outputs j → j < w → getD by j 0 ≡ 0 → (In t j → ⊥) → Moved w n E by out t outputs j j by out
+  free-moved outputs j a l e f = record {
+    good = p .good;
+    moved = free-already n by out t j e;
+    asked = a;
+    here = l;
+    new = f;
+    last = l;
+    same = λ _. refl;
+    others = λ k x _. x;
+  }
+
+  -- one can be had at once
+  pub spare-moved : (outputs j : ℕ) → LowestAt w outputs held j → Moved w n E by out t outputs j j by out
+  spare-moved outputs j l = let s = p .spare j (l .small) (l .new) in free-moved outputs j (l .here) (l .small) (s .0) (s .1)
+
+  -- all are tried
+  pub tried-unmoved : (outputs : ℕ) → Sub outputs t → Unmoved E by out t outputs by out t
+  tried-unmoved outputs s = record { holders = refl; outs = refl; more = λ k x. x; all = s; closed = λ j x. inl x }
+
+  -- those that are not are a wave
+  pub wave-of : (outputs wave j : ℕ) → Sub outputs held → LowestAt w outputs t j → But outputs t wave → Wave w held t wave
+  wave-of outputs wave j s l b = record { some = (j, l .small, b .kept j (l .here) (l .new)); new = b .gone; known = λ k x. s k (b .less k x) }
+
+  -- what came of asking them is what came of asking all
+  pub wave-post : (outputs wave : ℕ) (by' out' : List ℕ) (a : Asked) → But outputs t wave → AskPost w n E by out t wave by' out' a → AskPost w n E by out t outputs by' out' a
+  wave-post outputs wave by' out' (Freed g) b m = record { good = m .good; moved = m .moved; asked = b .less _ (m .asked); here = m .here; new = m .new; last = m .last; same = m .same; others = m .others }
+  wave-post outputs wave by' out' (Stuck u) b m = record {
+    holders = m .holders;
+    outs = m .outs;
+    more = m .more;
+    all = λ k x. ⊎-elim (λ y. m .more k y) (λ f. m .all k (b .kept k x f)) (same-or (digit t k) 1);
+    closed = m .closed;
+  }
+
+  -- ---- a wave of outputs asks
+
+  module _ (wave : ℕ) (v : Wave w held t wave) where
+    -- one of them is free
+    pub wave-free : (j : ℕ) → In wave j → j < w → getD by j 0 ≡ 0 → Moved w n E by out t wave j j by out
+    wave-free j x l e = free-moved wave j x l e (v .new j x)
+
+    module _ (t' : ℕ) (un : Union t wave t') where
+      -- marked as tried, they may ask their holders
+      pub further-asks : AskPre w n E by out held t'
+      further-asks = record { good = p .good; spare = λ k l h. let s = p .spare k l h in (s .0, λ x. ⊎-elim (s .1) (λ y. h (v .known k y)) (un .only k x)) }
+
+      pub fewer-left : absent w t' < absent w t
+      fewer-left = let s = v .some in absent-less t t' (un .left) w (s .0) (s .1) (v .new (s .0) (s .2)) (un .right (s .0) (s .2))
+
+      module _ (r : ℕ) (f : Further E by wave r) where
+        -- no holder can move: the set is closed
+        pub wave-stuck : (by' out' : List ℕ) (u : ℕ) → Unmoved E by out t' r by' out' u → Unmoved E by out t wave by' out' u
+        wave-stuck by' out' u m = record {
+          holders = m .holders;
+          outs = m .outs;
+          more = λ k x. m .more k (un .left k x);
+          all = λ k x. m .more k (un .right k x);
+          closed = λ k x. ⊎-elim (λ y. ⊎-elim (λ z. inl z) (λ z. inr (stays-more E by r u k (m .all) (f .all k z))) (un .only k y)) (λ y. inr y) (m .closed k x);
+        }
+
+        module _ (j spent : ℕ) (by' out' : List ℕ) (m : Moved w n E by out t' r j spent by' out') where
+          still : (k : ℕ) → In wave k → getD by' k 0 ≡ getD by k 0
+          still k x = m .moved .around .still k (un .right k x)
+
+          -- an output is free that one of the holders may take
+          pub wave-movable : Movable w n E by' wave j
+          wave-movable =
+              let q = f .from j (m .asked) in
+              record {
+                ports = ports-of w n E by' out' (m .good);
+                held = λ k x. let s = f .all k x in (s .0, still k x ∙ s .1);
+                some = (q .0, (q .2, (q .1, still (q .0) (q .2) ∙ q .3, q .4)));
+              }
+
+          -- it took it
+          pub wave-handed : (h : ℕ) (by'' out'' : List ℕ) → n ≤ w → Handed E by' out' wave j h by'' out'' → Moved w n E by out t wave h spent by'' out''
+          wave-handed h by'' out'' few d = rw (d .holders, d .outputs) (record {
+            good = handed-good w n E by' out' t h (d .input) j (m .good) few (m .here) (d .held) (d .edge) (m .moved .free) new loose;
+            moved = record {
+              around = around-through n t by out by' out' _ _ (around-less n t t' by out by' out' (un .left) (m .moved .around)) (o .around);
+              free = o .free;
+              only = λ a x. m .moved .only a (o .only a x);
+            };
+            asked = d .asked;
+            here = omega (arith, held-in by' h (d .input) (d .held), m .good .holders);
+            new = new;
+            last = m .last;
+            same = λ e. absurd (held-not-free by' h (d .input) (d .held) (still h (d .asked) ∙ e));
+            others = others;
+          })
+            where
+              new : In t h → ⊥
+              new = v .new h (d .asked)
+
+              loose : In t j → ⊥
+              loose x = m .new (un .left j x)
+
+              o : OutMoved n by' out' t h (set (set by' h 0) j (d .input + 1)) (set out' (d .input) j)
+              o = handed-moved w n E by' out' t h (d .input) j (m .good) few (m .here) (d .held) (d .edge) (m .moved .free) new loose
+
+              others : (k : ℕ) → getD by k 0 ≡ 0 → (k ≡ spent → ⊥) → getD (set (set by' h 0) j (d .input + 1)) k 0 ≡ 0
+              others k e f =
+                  getD-set-other (set by' h 0) j k (d .input + 1) 0 (λ q. f (q ∙ m .same (subst (λ (a : ℕ). getD by a 0 ≡ 0) q e)))
+                  ∙ getD-set-other by' h k 0 0 (λ q. held-not-free by' h (d .input) (d .held) (still h (d .asked) ∙ subst (λ (a : ℕ). getD by a 0 ≡ 0) q e))
+                  ∙ m .others k e f
+
+-- ---- what comes of asking leaves the tables as long as they were
+
+module _ (w n : ℕ) (E : ℕ → ℕ → Type 0) (by out : List ℕ) (t outputs : ℕ) (by' out' : List ℕ) (g : Matching w n E by out) where
+  pub same-holders : (a : Asked) → AskPost w n E by out t outputs by' out' a → length by' ≡ length by
+  same-holders (Freed x) m = m .good .holders ∙ sym (g .holders)
+  same-holders (Stuck u) m = ap length (m .holders)
+
+  pub same-outputs : (a : Asked) → AskPost w n E by out t outputs by' out' a → length out' ≡ length out
+  same-outputs (Freed x) m = m .good .outputs ∙ sym (g .outputs)
+  same-outputs (Stuck u) m = ap length (m .outs)
+
+pub handed-holders : (E : ℕ → ℕ → Type 0) (by out : List ℕ) (wave wanted j : ℕ) (by' out' : List ℕ) → Handed E by out wave wanted j by' out' → length by' ≡ length by
+handed-holders E by out wave wanted j by' out' h = ap length (h .holders) ∙ length-set (set by j 0) _ _ ∙ length-set by _ _
+
+pub handed-outputs : (E : ℕ → ℕ → Type 0) (by out : List ℕ) (wave wanted j : ℕ) (by' out' : List ℕ) → Handed E by out wave wanted j by' out' → length out' ≡ length out
+handed-outputs E by out wave wanted j by' out' h = ap length (h .outputs) ∙ length-set out _ _

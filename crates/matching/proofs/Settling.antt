@@ -1,165 +1,207 @@
--- An input takes the lowest output that a closed set does not block: no setting that agrees with what is fixed has a lower one there.
+-- An input asks for lower outputs until those that are left are in a closed set: no setting that agrees with what is fixed has a lower one there.
 use mathlib.Core.Path.{_≡_, refl, sym, ap, subst, _∙_}
-use mathlib.Core.Bool.{Bool, true, false}
 use mathlib.Core.Logic.{_⊎_, inl, inr, ⊎-elim}
 use mathlib.Core.List.{List}
 use Prim.Native.Nat.{ℕ, _+_, _<_, _≤_}
 use native.Mathlib.Decide.{decLt}
 use native.Mathlib.Omega.{arith}
 use lib.ListN.{length, getD, set}
-use lib.Seq.{getD-set-same}
-use Rattle.labels.specs.Label.{In, Marked, Cleared, Below}
+use lib.Seq.{getD-set-same, set-getD}
+use Rattle.labels.specs.Label.{In, Sub, Marked, Cleared, Below}
 use Rattle.labels.proofs.Digits.{same-or}
 use Rattle.rules.specs.First.{Agree}
-use Rattle.matching.specs.Tables.{Held, Holds, joined, Matching}
-use Rattle.matching.specs.Search.{Shut, Stays, Closed, Blocked, InMoved, InPre, InPost}
-use Rattle.matching.specs.Chosen.{Fixed, Best, Settled, SettledPost}
-use Rattle.matching.proofs.Tables.{held-in, held-not-free, one-holder, freed-other, place, freed-good, freed-idle, taken-good}
-use Rattle.matching.proofs.Search.{free-already, take-gains}
+use Rattle.matching.specs.declared.Asked.{Asked}
+use Rattle.matching.specs.declared.Asked.the-variants.{Freed, Stuck}
+use Rattle.matching.specs.declared.Given.{Given}
+use Rattle.matching.specs.declared.Tried.{Tried}
+use Rattle.matching.specs.Tables.{triedOf, Held, Holds, joined, Matching}
+use Rattle.matching.specs.Search.{Stays, Closed, AskPre, Gained, Moved, Unmoved}
+use Rattle.matching.specs.Chosen.{Fixed, Best, Settled, SettledPost, Dead, Lowering, Lowered}
+use Rattle.matching.proofs.Tables.{held-in, held-not-free, one-holder, freed-back, freed-other, set-back, place, freed-good, freed-idle, taken-good}
+use Rattle.matching.proofs.Search.{stays-more, closed-through, take-gains}
 use Rattle.matching.proofs.Closed.{not-there}
 use Rattle.matching.proofs.Completing.{one-more, fixed-more, told}
 
-module _ (w n : ℕ) (E : ℕ → ℕ → Type 0) (by out : List ℕ) (fixed i : ℕ) (s : Settled w n E by out fixed i) (here : i < n) where
-  -- the output that it gives up
-  abbrev own : ℕ
-  own = joined out i
+-- ---- an input gives its output up and asks for a lower one
 
+module _ (w n : ℕ) (E : ℕ → ℕ → Type 0) (by out : List ℕ) (dead lower own i : ℕ) (p : Lowering w n E by out dead lower own i) where
   abbrev freed : List ℕ
   freed = set by own 0
 
+  pub own-place : own < w
+  own-place = place w n E by out (p .good) own i (p .held)
+
+  good : Matching w n E freed out
+  good = freed-good w n E by out (p .good) own own-place
+
+  free : getD freed own 0 ≡ 0
+  free = getD-set-same by own 0 0 (held-in by own i (p .held))
+
+  idle : Holds freed i → ⊥
+  idle = freed-idle w n E by out (p .good) own i (p .held)
+
+  -- its own is the one output that can be had at once
+  pub lower-asks : (every held : ℕ) → ((k : ℕ) → k < w → In every k) → Cleared every own held → AskPre w n E freed out held dead
+  lower-asks every held f c = record { good = good; spare = λ k l h. spare k l h (same-or k own) }
+    where
+      spare : (k : ℕ) → k < w → (In held k → ⊥) → (k ≡ own) ⊎ (k ≡ own → ⊥) → (getD freed k 0 ≡ 0) × (In dead k → ⊥)
+      spare k l h (inl e) = (ap (λ (q : ℕ). getD freed q 0) e ∙ free, λ x. p .loose (subst (In dead) e x))
+      spare k l h (inr d) = absurd (h (c .kept k (f k l) d))
+
+  module _ (given : List ℕ) (gi : given ≡ freed) where
+    pub given-up : Matching w n E given out
+    given-up = rw gi good
+
+    -- it takes the one that was made free
+    pub lower-taken : (j spent : ℕ) (by' out' by'' out'' : List ℕ) → n ≤ w → Moved w n E given out dead lower j spent by' out' → by'' ≡ set by' j (i + 1) → out'' ≡ set out' i j
+        → Matching w n E by'' out'' × Gained n freed out dead i by'' out'' × (joined out'' i ≡ j) × In lower j
+    lower-taken j spent by' out' by'' out'' few m₀ eb eo = rw (eb, eo) (
+      taken-good w n E by' out' (m .good) j i (m .here) (p .here) few (p .edge j (m .asked)) (λ x. idle (m .moved .only i x)),
+      take-gains n freed out dead j i by' out' (omega (arith, m .good .holders, m .here)) l (p .here) (m .new) (m .moved),
+      getD-set-same out' i j 255 l,
+      m .asked,
+    )
+      where
+        m : Moved w n E freed out dead lower j spent by' out'
+        m = subst (λ (b : List ℕ). Moved w n E b out dead lower j spent by' out') gi m₀
+
+        l : i < length out'
+        l = omega (arith, m .good .outputs, p .here)
+
+    -- or its own again: the tables are as they were
+    pub lower-back : (by' out' by'' out'' : List ℕ) (u : ℕ) → Unmoved E given out dead lower by' out' u → by'' ≡ set by' own (i + 1) → out'' ≡ set out' i own
+        → (by'' ≡ by) × (out'' ≡ out) × Unmoved E freed out dead lower freed out u
+    lower-back by' out' by'' out'' u m eb eo = (
+      eb ∙ ap (λ (l : List ℕ). set l own (i + 1)) (m .holders ∙ gi) ∙ ap (set freed own) (sym (p .held)) ∙ set-back by own 0,
+      eo ∙ ap (λ (l : List ℕ). set l i own) (m .outs) ∙ ap (set out i) (sym (p .good .paired own i (p .held))) ∙ set-getD out i 255,
+      record { holders = refl; outs = refl; more = m .more; all = m .all; closed = subst (λ (b : List ℕ). Closed E b dead u) gi (m .closed) },
+    )
+
+-- what is fixed leads nowhere by itself
+pub dead-start : (E : ℕ → ℕ → Type 0) (by : List ℕ) (fixed : ℕ) → Dead E by fixed fixed
+dead-start E by fixed = record { more = λ k x. x; closed = λ k x. inl x }
+
+-- ---- input i is settled, where `own` is the output that it holds
+
+module _ (w n : ℕ) (E : ℕ → ℕ → Type 0) (by out : List ℕ) (fixed i own : ℕ) (s : Settled w n E by out fixed i) (here : i < n) (is : own ≡ joined out i) where
   holds : (m : ℕ) → m < n → Held by (joined out m) m
   holds m l = told w n E by out m (s .good) (s .all m l)
 
-  pub own-place : own < w
-  own-place = place w n E by out (s .good) own i (holds i here)
+  own-held : Held by own i
+  own-held = subst (λ (k : ℕ). Held by k i) (sym is) (holds i here)
 
-  loose : In fixed own → ⊥
-  loose x =
+  pub own-in : own < w
+  own-in = place w n E by out (s .good) own i own-held
+
+  own-loose : In fixed own → ⊥
+  own-loose x =
       let f = s .prefix .from own x in
       let l = f .1 in
-      let e = one-holder by own (f .0) i (subst (λ (k : ℕ). Held by k (f .0)) (f .2) (holds (f .0) (omega arith))) (holds i here) in
+      let e = one-holder by own (f .0) i (subst (λ (k : ℕ). Held by k (f .0)) (f .2) (holds (f .0) (omega arith))) own-held in
       omega arith
 
-  good : Matching w n E freed out
-  good = freed-good w n E by out (s .good) own own-place
+  fixed-held : (k : ℕ) → In fixed k → (m : ℕ) × (m < i) × Held by k m
+  fixed-held k x = let f = s .prefix .from k x in let l = f .1 in (f .0, l, subst (λ (q : ℕ). Held by q (f .0)) (f .2) (holds (f .0) (omega arith)))
 
-  free : getD freed own 0 ≡ 0
-  free = getD-set-same by own 0 0 (held-in by own i (holds i here))
+  -- what was dead is, or no more than what is fixed: its own is not
+  pub dead-still : (dead d : ℕ) → Dead E by fixed dead → ((d ≡ dead) × (In dead own → ⊥)) ⊎ (d ≡ fixed) → Dead E by fixed d × (In d own → ⊥)
+  dead-still dead d x (inl e) = rw (e .0) (x, e .1)
+  dead-still dead d x (inr e) = rw e (dead-start E by fixed, own-loose)
 
-  idle : Holds freed i → ⊥
-  idle = freed-idle w n E by out (s .good) own i (holds i here)
+  module _ (dead : ℕ) (d : Dead E by fixed dead) (loose : In dead own → ⊥) where
+    -- it may ask for a lower one
+    pub may-lower : (row lower : ℕ) → ((k : ℕ) → In row k → E i k) → Below row own lower → Lowering w n E by out dead lower own i
+    may-lower row lower may b = record {
+      good = s .good;
+      here = here;
+      held = own-held;
+      edge = λ k x. may k (b .less k x);
+      loose = loose;
+      all = λ k x. ⊎-elim (λ y. let h = fixed-held k y in (h .0, h .2)) (λ (y : Stays E by dead k). (y .0, y .1)) (d .closed k x);
+    }
 
-  -- an input below i keeps the output that is fixed for it
-  fixed-held : (m : ℕ) → m < i → Held freed (joined out m) m
-  fixed-held m l = freed-other by own (joined out m) m (λ e. loose (subst (In fixed) e (s .prefix .got m l))) (holds m (omega arith))
+    -- what is dead is closed where its own is given up
+    dead-closed : Closed E (set by own 0) fixed dead
+    dead-closed k x = ⊎-elim (λ y. inl y) (λ (y : Stays E by dead k). inr (y .0, freed-other by own k (y .0) (λ e. loose (subst (In dead) e x)) (y .1), y .2)) (d .closed k x)
 
-  -- it may ask, where its own is the one spare output
-  pub settle-asks : (every held : ℕ) → ((k : ℕ) → k < w → In every k) → Cleared every own held → InPre w n E freed out held fixed i
-  settle-asks every held f c = record { good = good; spare = λ k l h. spare k l h (same-or k own); here = here; idle = idle }
-    where
-      spare : (k : ℕ) → k < w → (In held k → ⊥) → (k ≡ own) ⊎ (k ≡ own → ⊥) → (getD freed k 0 ≡ 0) × (In fixed k → ⊥)
-      spare k l h (inl e) = (ap (λ (q : ℕ). getD freed q 0) e ∙ free, λ x. loose (subst (In fixed) e x))
-      spare k l h (inr d) = absurd (h (c .kept k (f k l) d))
+    -- all lower ones are dead
+    pub lower-dead : Closed E (set by own 0) fixed dead × Sub fixed dead
+    lower-dead = (dead-closed, d .more)
 
-  -- and it is not stuck, since it can take its own again
-  pub settle-found : (by' out' : List ℕ) (b : Bool) (u : ℕ) → InPost w n E freed out fixed i by' out' b u → InMoved n E freed out fixed i by' out'
-  settle-found by' out' b u p = go b refl
-    where
-      stuck : (x : Bool) → Closed E freed fixed u → Shut E u i → ⊥
-      stuck x c t = ⊎-elim loose (λ (y : Stays E freed u own). held-not-free freed own (y .0) (y .1) free) (c own (t own (s .good .edge own i (holds i here))))
+    -- none of them can be had
+    pub lower-stuck : (lower u : ℕ) (by' out' : List ℕ) → Unmoved E (set by own 0) out dead lower by' out' u → Closed E (set by own 0) fixed u × Sub fixed u
+    lower-stuck lower u by' out' m = (closed-through E (set by own 0) fixed dead u (m .more) dead-closed (m .closed), λ k x. m .more k (d .more k x))
 
-      go : (x : Bool) → b ≡ x → InMoved n E freed out fixed i by' out'
-      go true e = p .found e
-      go false e = absurd (stuck true (p .stuck e .0 .closed) (p .stuck e .1))
+    -- it has a lower one: the inputs before it are settled as they were
+    module _ (by' out' : List ℕ) (g : Matching w n E by' out') (o : Gained n (set by own 0) out dead i by' out') where
+      same : (m : ℕ) → m < i → joined out' m ≡ joined out m
+      same m l =
+          let f = s .prefix .got m l in
+          g .paired (joined out m) m (o .around .still (joined out m) (d .more (joined out m) f) ∙ freed-other by own (joined out m) m (λ e. own-loose (subst (In fixed) e f)) (holds m (omega arith)))
 
-  -- where all lower ones are blocked it takes its own again
-  pub settle-keeps : (row lower : ℕ) → n ≤ w → ((k : ℕ) → E i k → In row k) → Below row own lower → Blocked E freed fixed lower
-      → Matching w n E (set freed own (i + 1)) (set out i own) × InMoved n E freed out fixed i (set freed own (i + 1)) (set out i own)
-  settle-keeps row lower few r l b = (
-    taken-good w n E freed out good own i own-place here few (s .good .edge own i (holds i here)) idle,
-    record { gained = take-gains n freed out fixed own i freed out lw li here loose (free-already n freed out fixed own free); seen = b .seen; closed = b .closed; past = past },
-  )
-    where
-      lw : own < length freed
-      lw = omega (arith, good .holders, own-place)
+      all : (m : ℕ) → m < n → Holds by' m
+      all m l = go (same-or m i)
+        where
+          go : (m ≡ i) ⊎ (m ≡ i → ⊥) → Holds by' m
+          go (inl e) = subst (Holds by') (sym e) (joined out' i, o .holds)
+          go (inr f) = o .around .kept m (joined out m, freed-other by own (joined out m) m (λ e. f (one-holder by own m i (subst (λ (k : ℕ). Held by k m) e (holds m l)) own-held)) (holds m l))
 
-      li : i < length out
-      li = omega (arith, s .good .outputs)
+      pub lower-settled : SettledPost w n E out by' out' fixed i
+      lower-settled = record {
+        settled = record {
+          good = g;
+          all = all;
+          prefix = record {
+            from = λ k x. let a = s .prefix .from k x in (a .0, a .1, same (a .0) (a .1) ∙ a .2);
+            got = λ m l. subst (In fixed) (sym (same m l)) (s .prefix .got m l);
+          };
+          best = λ m l p fits a. rw (same m l) (s .best m l p fits (λ k q. a k q ∙ same k (omega arith)));
+        };
+        beyond = o .around .beyond;
+      }
 
-      past : (k : ℕ) → k < joined (set out i own) i → E i k → In (b .seen) k
-      past k q e = b .all k (l .all k (omega (arith, getD-set-same out i own 255 li)) (r k e))
+  -- the lower ones are in a closed set: its own is the best, and fixed
+  module _ (u row lower f v : ℕ) (c : Closed E (set by own 0) fixed u × Sub fixed u) (shut : (k : ℕ) → E i k → In row k) (b : Below row own lower) (sub : Sub lower u)
+      (mf : Marked fixed own f) (mv : Marked u own v) where
+    freed-good' : Matching w n E (set by own 0) out
+    freed-good' = freed-good w n E by out (s .good) own own-in
 
-  -- ---- what it took is fixed
+    own-idle : Holds (set by own 0) i → ⊥
+    own-idle = freed-idle w n E by out (s .good) own i own-held
 
-  module _ (by' out' : List ℕ) (f : ℕ) (g : Matching w n E by' out') (o : InMoved n E freed out fixed i by' out') (mk : Marked fixed (joined out' i) f) where
-    -- the inputs below i have what they had
-    same : (m : ℕ) → m < i → joined out' m ≡ joined out m
-    same m l = g .paired (joined out m) m (o .gained .around .still (joined out m) (s .prefix .got m l) ∙ fixed-held m l)
-
-    all : (m : ℕ) → m < n → Holds by' m
-    all m l = go (same-or m i)
-      where
-        go : (m ≡ i) ⊎ (m ≡ i → ⊥) → Holds by' m
-        go (inl e) = subst (Holds by') (sym e) (joined out' i, o .gained .holds)
-        go (inr d) = o .gained .around .kept m (joined out m, freed-other by own (joined out m) m (λ e. d (one-holder by own m i (subst (λ (k : ℕ). Held by k m) e (holds m l)) (holds i here))) (holds m l))
-
-    prefix : Fixed out' (i + 1) f
-    prefix = fixed-more out' i fixed f (record { from = from; got = λ m l. subst (In fixed) (sym (same m l)) (s .prefix .got m l) }) mk
-      where
-        from : (k : ℕ) → In fixed k → (m : ℕ) × (m < i) × (joined out' m ≡ k)
-        from k x = let a = s .prefix .from k x in (a .0, a .1, same (a .0) (a .1) ∙ a .2)
+    still-held : (k : ℕ) → In fixed k → (m : ℕ) × (m < i) × Held (set by own 0) k m
+    still-held k x = let h = fixed-held k x in (h .0, h .1, freed-other by own k (h .0) (λ e. own-loose (subst (In fixed) e x)) (h .2))
 
     -- a setting that agrees below i keeps what is fixed
-    keeps : (p : ℕ → ℕ) → Agree i p (joined out') → (k m : ℕ) → In fixed k → Held freed k m → p m ≡ k
+    keeps : (p : ℕ → ℕ) → Agree i p (joined out) → (k m : ℕ) → In fixed k → Held (set by own 0) k m → p m ≡ k
     keeps p a k m x h =
-        let b = s .prefix .from k x in
-        let e : m ≡ b .0 = one-holder freed k m (b .0) h (subst (λ (q : ℕ). Held freed q (b .0)) (b .2) (fixed-held (b .0) (b .1))) in
-        ap p e ∙ a (b .0) (b .1) ∙ same (b .0) (b .1) ∙ b .2
+        let y = fixed-held k x in
+        let e : m ≡ y .0 = one-holder by k m (y .0) (freed-back by own k m (held-in by own i own-held) h .1) (y .2) in
+        ap p e ∙ a (y .0) (y .1) ∙ s .good .paired k (y .0) (y .2)
 
-    all-held : (k : ℕ) → In fixed k → (m : ℕ) × Held freed k m
-    all-held k x = let b = s .prefix .from k x in (b .0, subst (λ (q : ℕ). Held freed q (b .0)) (b .2) (fixed-held (b .0) (b .1)))
-
-    best-here : Best n E out' i
-    best-here p fits a = go (decLt (p i) (joined out' i))
+    best-here : Best n E out i
+    best-here p fits a = go (decLt (p i) (joined out i))
       where
-        go : Dec (p i < joined out' i) → joined out' i ≤ p i
-        go (yes l) = absurd (not-there w n E freed out fixed (o .seen) i p good here idle (o .closed) fits all-held (keeps p a) (o .past (p i) l (fits .used i here)))
+        go : Dec (p i < joined out i) → joined out i ≤ p i
+        go (yes l) =
+            absurd (not-there w n E (set by own 0) out fixed u i p freed-good' here own-idle (c .0) fits (λ k x. let h = still-held k x in (h .0, h .2)) (keeps p a)
+            (sub (p i) (b .all (p i) (omega (arith, is)) (shut (p i) (fits .used i here)))))
         go (no l) = omega arith
 
-    best-below : (m : ℕ) → m < i → Best n E out' m
-    best-below m l p fits a = rw (same m l) (s .best m l p fits (λ k q. a k q ∙ same k (omega arith)))
+    pub own-settled : Settled w n E by out f (i + 1)
+    own-settled = record {
+      good = s .good;
+      all = s .all;
+      prefix = fixed-more out i fixed f (s .prefix) (subst (λ (k : ℕ). Marked fixed k f) is mf);
+      best = one-more (Best n E out) i (s .best) best-here;
+    }
 
-    pub settled : SettledPost w n E out by' out' f (i + 1)
-    settled = record { settled = record { good = g; all = all; prefix = prefix; best = one-more (Best n E out') i best-below best-here }; beyond = o .gained .around .beyond }
-
--- ---- the same at the values that the code has: own is the output that the tables tell, freed the holders without it
-
-module _ (w n : ℕ) (E : ℕ → ℕ → Type 0) (by out : List ℕ) (fixed i : ℕ) (s : Settled w n E by out fixed i) (here : i < n)
-    (own : ℕ) (freed : List ℕ) (is : own ≡ joined out i) (fr : freed ≡ set by own 0) where
-  pub own-in : own < w
-  own-in = rw is (own-place w n E by out fixed i s here)
-
-  pub freed-matching : Matching w n E freed out
-  freed-matching = rw (fr, is) (good w n E by out fixed i s here)
-
-  pub own-asks : (every held : ℕ) → ((k : ℕ) → k < w → In every k) → Cleared every own held → InPre w n E freed out held fixed i
-  own-asks every held f c = rw (fr, is) (settle-asks w n E by out fixed i s here every held f (rw is at c))
-
-  -- it asked: what it found has a place
-  pub asked-place : (by' out' : List ℕ) (b : Bool) (u : ℕ) → InPost w n E freed out fixed i by' out' b u → joined out' i < w
-  asked-place by' out' b u p = place w n E by' out' (p .good) (joined out' i) i (settle-found w n E by out fixed i s here by' out' b u (rw (fr, is) at p) .gained .holds)
-
-  -- and is settled
-  pub asked-settled : (by' out' : List ℕ) (b : Bool) (u f : ℕ) → InPost w n E freed out fixed i by' out' b u → Marked fixed (joined out' i) f → SettledPost w n E out by' out' f (i + 1)
-  asked-settled by' out' b u f p mk =
-      settled w n E by out fixed i s here by' out' f (p .good) (settle-found w n E by out fixed i s here by' out' b u (rw (fr, is) at p)) mk
-
-  -- it kept its own
-  pub kept-settled : (row lower f : ℕ) (by' out' : List ℕ) → n ≤ w → ((k : ℕ) → E i k → In row k) → Below row own lower → Blocked E freed fixed lower
-      → by' ≡ set freed own (i + 1) → out' ≡ set out i own → Marked fixed own f → SettledPost w n E out by' out' f (i + 1)
-  kept-settled row lower f by' out' few r l b eb eo mk =
-      let k = settle-keeps w n E by out fixed i s here row lower few r (rw is at l) (rw (fr, is) at b) in
-      rw (eb, eo, fr, is) (settled w n E by out fixed i s here _ _ f (k .0) (k .1) (subst (λ (q : ℕ). Marked fixed q f) (is ∙ sym (getD-set-same out i (joined out i) 255 (omega (arith, s .good .outputs, few)))) mk))
+    pub own-dead : Dead E by f v
+    own-dead = record { more = λ k x. ⊎-elim (λ y. mv .more k (c .1 k y)) (λ e. subst (In v) (sym e) (mv .put)) (mf .only k x); closed = λ k x. closed k (mv .only k x) }
+      where
+        closed : (k : ℕ) → In u k ⊎ (k ≡ own) → In f k ⊎ Stays E by v k
+        closed k (inl x) = ⊎-elim (λ y. inl (mf .more k y)) (λ (y : Stays E (set by own 0) u k). inr (y .0, freed-back by own k (y .0) (held-in by own i own-held) (y .1) .1, λ a e. mv .more a (y .2 a e))) (c .0 k x)
+        closed k (inr e) = inl (subst (In f) (sym e) (mf .put))
 
 -- ---- one after the other
 
@@ -168,3 +210,62 @@ settled-start w n E by out f i s = record { settled = s; beyond = λ m l. refl }
 
 pub settled-more : (w n : ℕ) (E : ℕ → ℕ → Type 0) (out₀ by out by' out' : List ℕ) (f i f' i' : ℕ) → SettledPost w n E out₀ by out f i → SettledPost w n E out by' out' f' i' → SettledPost w n E out₀ by' out' f' i'
 settled-more w n E out₀ by out by' out' f i f' i' a b = record { settled = b .settled; beyond = λ m l. b .beyond m l ∙ a .beyond m l }
+
+-- ---- the turns of its loop
+
+-- what holds while input i asks for lower outputs: the inputs before it are settled, and its own is not dead
+pub record Lower (w n : ℕ) (E : ℕ → ℕ → Type 0) (out₀ by out : List ℕ) (fixed dead own i : ℕ) : Type 0 where
+  pub post : SettledPost w n E out₀ by out fixed i
+  pub is : own ≡ joined out i
+  pub dead-is : Dead E by fixed dead
+  pub loose : In dead own → ⊥
+
+pub lower-start : (w n : ℕ) (E : ℕ → ℕ → Type 0) (by out : List ℕ) (fixed dead d own i : ℕ) → Settled w n E by out fixed i → i < n → own ≡ joined out i → Dead E by fixed dead
+    → ((d ≡ dead) × (In dead own → ⊥)) ⊎ (d ≡ fixed) → Lower w n E out by out fixed d own i
+lower-start w n E by out fixed dead d own i s here is x e =
+    let y = dead-still w n E by out fixed i own s here is dead d x e in
+    record { post = settled-start w n E by out fixed i s; is = is; dead-is = y .0; loose = y .1 }
+
+module _ (w n : ℕ) (E : ℕ → ℕ → Type 0) (out₀ by out : List ℕ) (fixed dead own i : ℕ) (here : i < n) (l : Lower w n E out₀ by out fixed dead own i) where
+  pub lower-own : own < w
+  lower-own = own-in w n E by out fixed i own (l .post .settled) here (l .is)
+
+  module _ (row lower : ℕ) (b : Below row own lower) where
+    pub lower-may : ((k : ℕ) → In row k → E i k) → Lowering w n E by out dead lower own i
+    lower-may may = may-lower w n E by out fixed i own (l .post .settled) here (l .is) dead (l .dead-is) (l .loose) row lower may b
+
+    -- it has a lower one
+    pub lower-again : (by' out' : List ℕ) (g : Given) → Lowered w n E by out dead lower own i by' out' (Freed g) → Lower w n E out₀ by' out' fixed fixed (g .output .0) i × (g .output .0 < own)
+    lower-again by' out' g m = (record { post = settled-more w n E out₀ by out by' out' fixed i fixed i (l .post) t; is = sym (m .2); dead-is = y .0; loose = y .1 }, b .small (g .output .0) (m .3))
+      where
+        t : SettledPost w n E out by' out' fixed i
+        t = lower-settled w n E by out fixed i own (l .post .settled) here (l .is) dead (l .dead-is) (l .loose) by' out' (m .0) (m .1)
+
+        y : Dead E by' fixed fixed × (In fixed (g .output .0) → ⊥)
+        y = dead-still w n E by' out' fixed i (g .output .0) (t .settled) here (sym (m .2)) fixed fixed (dead-start E by' fixed) (inr refl)
+
+    module _ (shut : (k : ℕ) → E i k → In row k) (f : ℕ) (mf : Marked fixed own f) where
+      -- the set u, which is closed, has all lower ones
+      ends : (u v : ℕ) → Closed E (set by own 0) fixed u × Sub fixed u → Sub lower u → Marked u own v → SettledPost w n E out₀ by out f (i + 1) × Dead E by f v
+      ends u v c sub mv = (
+        record { settled = own-settled w n E by out fixed i own (l .post .settled) here (l .is) u row lower f v c shut b sub mf mv; beyond = l .post .beyond },
+        own-dead w n E by out fixed i own (l .post .settled) here (l .is) u row lower f v c shut b sub mf mv,
+      )
+
+      -- all lower ones are dead
+      pub lower-ends : (v : ℕ) → Sub lower dead → Marked dead own v → SettledPost w n E out₀ by out f (i + 1) × Dead E by f v
+      lower-ends v = ends dead v (lower-dead w n E by out fixed i own (l .post .settled) here (l .is) dead (l .dead-is) (l .loose))
+
+      -- none of them can be had
+      pub lower-ends-stuck : (by' out' : List ℕ) (u : Tried) (v : ℕ) → Lowered w n E by out dead lower own i by' out' (Stuck u) → Marked (triedOf u) own v → SettledPost w n E out₀ by' out' f (i + 1) × Dead E by' f v
+      lower-ends-stuck by' out' u v m mv = rw (m .0, m .1) (ends (triedOf u) v (lower-stuck w n E by out fixed i own (l .post .settled) here (l .is) dead (l .dead-is) (l .loose) lower (triedOf u) (set by own 0) out (m .2)) (m .2 .all) mv)
+
+-- the tables stay as long as they were
+module _ (w n : ℕ) (E : ℕ → ℕ → Type 0) (by out : List ℕ) (dead lower own i : ℕ) (by' out' : List ℕ) (g : Matching w n E by out) where
+  pub lowered-holders : (a : Asked) → Lowered w n E by out dead lower own i by' out' a → length by' ≡ w
+  lowered-holders (Freed x) m = m .0 .holders
+  lowered-holders (Stuck u) m = ap length (m .0) ∙ g .holders
+
+  pub lowered-outputs : (a : Asked) → Lowered w n E by out dead lower own i by' out' a → length out' ≡ w
+  lowered-outputs (Freed x) m = m .0 .outputs
+  lowered-outputs (Stuck u) m = ap length (m .1) ∙ g .outputs

@@ -3,11 +3,13 @@ use mathlib.Core.Path.{_≡_}
 use mathlib.Core.Bool.{Bool, true, false}
 use mathlib.Core.List.{List}
 use Prim.Native.Nat.{ℕ, _<_, _≤_}
-use lib.ListN.{length}
-use Rattle.labels.specs.Label.{In}
+use lib.ListN.{length, set}
+use Rattle.labels.specs.Label.{In, Sub}
 use Rattle.rules.specs.First.{Fits, Agree, First}
-use Rattle.matching.specs.Tables.{Held, Holds, joined, Matching}
-use Rattle.matching.specs.Search.{Around}
+use Rattle.matching.specs.Tables.{triedOf, Held, Holds, joined, Matching}
+use Rattle.matching.specs.declared.Asked.{Asked}
+use Rattle.matching.specs.declared.Asked.the-variants.{Freed, Stuck}
+use Rattle.matching.specs.Search.{Around, Closed, Free, Gained, Unmoved}
 
 -- the outputs of the inputs below i, and no others, are fixed
 pub record Fixed (out : List ℕ) (i fixed : ℕ) : Type 0 where
@@ -26,8 +28,9 @@ Keeps by fixed o = (k m : ℕ) → In fixed k → Held by k m → o m ≡ k
 abbrev pub Best : ℕ → (ℕ → ℕ → Type 0) → List ℕ → ℕ → Type 0
 Best n E out m = (o : ℕ → ℕ) → Fits n E o → Agree m o (joined out) → joined out m ≤ o m
 
--- what completing may start from: the fixed outputs are held, and so is one by each input below `from`
-pub record CompletePre (w n : ℕ) (E : ℕ → ℕ → Type 0) (by out : List ℕ) (fixed from : ℕ) : Type 0 where
+-- what completing may start from: it is known which outputs can be had at once, the fixed ones are held, and so is one by each input below `from`
+pub record CompletePre (w n : ℕ) (E : ℕ → ℕ → Type 0) (by out : List ℕ) (known fixed from : ℕ) : Type 0 where
+  pub free : Free w by known
   pub good : Matching w n E by out
   pub held : AllHeld by fixed
   pub short : from ≤ n
@@ -39,7 +42,8 @@ pub record HoldsPost (by out : List ℕ) (i : ℕ) (r : Bool) : Type 0 where
   pub idle : r ≡ false → Held by (joined out i) i → ⊥
 
 -- every input below `to` holds an output; or no full setting keeps the fixed ones. What was fixed is left alone
-pub record CompletePost (w n : ℕ) (E : ℕ → ℕ → Type 0) (by out : List ℕ) (fixed to : ℕ) (by' out' : List ℕ) (full : Bool) : Type 0 where
+pub record CompletePost (w n : ℕ) (E : ℕ → ℕ → Type 0) (by out : List ℕ) (fixed to : ℕ) (by' out' : List ℕ) (known : ℕ) (full : Bool) : Type 0 where
+  pub free : Free w by' known
   pub good : Matching w n E by' out'
   pub around : Around n by out fixed by' out'
   pub all : full ≡ true → (m : ℕ) → m < to → Holds by' m
@@ -51,6 +55,25 @@ pub record Settled (w n : ℕ) (E : ℕ → ℕ → Type 0) (by out : List ℕ) 
   pub all : (m : ℕ) → m < n → Holds by m
   pub prefix : Fixed out i fixed
   pub best : (m : ℕ) → m < i → Best n E out m
+
+-- these outputs lead nowhere but to each other while the fixed ones are kept
+pub record Dead (E : ℕ → ℕ → Type 0) (by : List ℕ) (fixed dead : ℕ) : Type 0 where
+  pub more : Sub fixed dead
+  pub closed : Closed E by fixed dead
+
+-- input i may ask for a lower output: it holds `own`, and what is dead is closed without it
+pub record Lowering (w n : ℕ) (E : ℕ → ℕ → Type 0) (by out : List ℕ) (dead lower own i : ℕ) : Type 0 where
+  pub good : Matching w n E by out
+  pub here : i < n
+  pub held : Held by own i
+  pub edge : (k : ℕ) → In lower k → E i k
+  pub loose : In dead own → ⊥
+  pub all : (k : ℕ) → In dead k → (m : ℕ) × Held by k m
+
+-- it has one of these outputs now; or it has its own, and these are in a closed set
+abbrev pub Lowered : ℕ → ℕ → (ℕ → ℕ → Type 0) → List ℕ → List ℕ → ℕ → ℕ → ℕ → ℕ → List ℕ → List ℕ → Asked → Type 0
+Lowered w n E by out dead lower own i by' out' (Freed g) = Matching w n E by' out' × Gained n (set by own 0) out dead i by' out' × (joined out' i ≡ g .output .0) × In lower (g .output .0)
+Lowered w n E by out dead lower own i by' out' (Stuck u) = (by' ≡ by) × (out' ≡ out) × Unmoved E (set by own 0) out dead lower (set by own 0) out (triedOf u)
 
 -- the tables are settled, and ports past n are as they were
 pub record SettledPost (w n : ℕ) (E : ℕ → ℕ → Type 0) (out by' out' : List ℕ) (fixed i : ℕ) : Type 0 where

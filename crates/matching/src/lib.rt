@@ -8,20 +8,17 @@ use labels::Wide;
 use switch::InputPort;
 use switch::OutputPort;
 ghost use mathlib.Core.Path.{_≡_};
-ghost use mathlib.Core.Bool.{true, false};
+ghost use mathlib.Core.Logic.{_⊎_};
 ghost use Prim.Native.Nat.{ℕ, _+_, _<_, _≤_};
 ghost use lib.ListN.{length, set};
-ghost use Rattle.labels.specs.Label.{In, Marked, Lowest};
+ghost use Rattle.labels.specs.Label.{In, Marked, Lowest, Union};
 ghost use Rattle.labels.specs.Wide.{outputsOf};
 ghost use Rattle.matching.specs.Tables.{triedOf, rowOf, Allowed, Rows, joined};
-ghost use Rattle.matching.specs.Search.{Ports, Led, Blocked, Spare, InPre, InPost, OutPre, OutPost};
-ghost use Rattle.matching.specs.Chosen.{Fixed, CompletePre, CompletePost, SettledPost, SettledAll, Settled, Ready, Chosen, HoldsPost};
+ghost use Rattle.matching.specs.Search.{Ports, Reaches, Leads, AskPre, Wave, AskPost, Movable, Mover, Handed, Free};
+ghost use Rattle.matching.specs.Chosen.{Fixed, CompletePre, CompletePost, Lowering, Lowered, Dead, SettledPost, SettledAll, Settled, Ready, Chosen, HoldsPost};
 
 // Both tables have a place for each port of the largest switch.
 pub const PLACES: usize = 128;
-
-// No output of a switch that has fewer ports.
-const NOWHERE: OutputPort = OutputPort(127);
 
 // What the holders have where nobody holds an output; input i stands there as i + 1.
 const FREE: u8 = 0;
@@ -31,16 +28,35 @@ struct Tried {
     outputs: Wide,
 }
 
-// What asking came to: whether somebody moved, and what is tried by then.
-struct Asked {
-    moved: bool,
-    tried: Tried,
+// What asking came to: one of the outputs asked for was made free, or none can be, whatever is tried by then.
+enum Asked {
+    Freed(Given),
+    Stuck(Tried),
 }
 
-// What a wave of outputs leads to: to a free one, or only to these.
+// The output that was made free, and the one that nobody held and that is spent on it: the same where nobody had to move.
+struct Given {
+    output: OutputPort,
+    spent: OutputPort,
+}
+
+// What a wave of outputs leads to: to one of them that is free, or to all that their holders may take.
 struct Reached {
-    free: bool,
+    free: Found,
     outputs: Wide,
+}
+
+// Where joining inputs ended: whether all are joined, the outputs that are held, and what the one that is stuck has tried.
+struct Seats {
+    full: bool,
+    held: Wide,
+    seen: Tried,
+}
+
+// The outputs that are fixed, and with them those that lead nowhere else.
+struct Prefix {
+    fixed: Tried,
+    dead: Tried,
 }
 
 impl Tried {
@@ -64,6 +80,16 @@ impl Tried {
         }
     }
 
+    // A wave of outputs is tried too.
+    fn with(self, wave: Wide) -> Tried
+        ensures { λ r. ⌜ Union (triedOf self) (outputsOf wave) (triedOf r) ⌝ }
+    {
+        let seen = self.outputs;
+        Tried {
+            outputs: seen.with(wave),
+        }
+    }
+
     // The lowest output of the row that is not tried.
     fn next(self, row: Wide) -> Found
         ensures { λ r. ⌜ Lowest 128 (outputsOf row) (triedOf self) r ⌝ }
@@ -80,13 +106,16 @@ pub fn next_setting(lows: &[u64], highs: &[u64], by: &mut [u8], out: &mut [u8], 
     ensures { λ _. ⌜ Chosen 128 (length (now (lows .entry))) (Allowed (now (lows .entry)) (now (highs .entry))) (now (out .entry)) (now (by .exit)) (now (out .exit)) ⌝ }
 {
     let mut firm = kept;
+    let mut held = held_outputs(by, lows.len());
     loop {
         let fixed = fixed_below(out, firm);
-        if complete(lows, highs, by, out, fixed, kept) {
+        let s = complete(lows, highs, by, out, held, fixed, kept);
+        if s.full {
             settle_from(lows, highs, by, out, fixed, firm);
             return;
         }
-        firm -= 1;
+        held = s.held;
+        firm = give_way(out, firm, s.seen);
     }
 }
 
@@ -111,54 +140,26 @@ fn fixed_below(out: &[u8], kept: usize) -> Tried
     fixed
 }
 
-// Every input from `from` on that holds nothing asks; one that is stuck ends it.
-fn complete(
-    lows: &[u64],
-    highs: &[u64],
-    by: &mut [u8],
-    out: &mut [u8],
-    fixed: Tried,
-    from: usize,
-) -> bool
-    requires { ⌜ Rows 128 (now lows) (now highs) × CompletePre 128 (length (now lows)) (Allowed (now lows) (now highs)) (now by) (now out) (triedOf fixed) from ⌝ }
-    ensures { λ r. ⌜ CompletePost 128 (length (now (lows .entry))) (Allowed (now (lows .entry)) (now (highs .entry))) (now (by .entry)) (now (out .entry)) (triedOf fixed) (length (now (lows .entry))) (now (by .exit)) (now (out .exit)) r ⌝ }
+// As many inputs in front as keep their outputs next: those before the last of them whose output was met where an input was stuck.
+fn give_way(out: &[u8], from: usize, seen: Tried) -> usize
+    requires { ⌜ (0 < from) × (from ≤ length (now out)) × ((m : ℕ) → m < from → joined (now out) m < 128) ⌝ }
+    ensures { λ r. ⌜ r < from ⌝ }
 {
-    for i in from..lows.len() {
-        if !seat(lows, highs, by, out, fixed, InputPort(i)) {
-            return false;
+    let met = seen.outputs;
+    let mut firm = from;
+    while 0 < firm {
+        firm -= 1;
+        if met.has(output_of(out, InputPort(firm))) {
+            return firm;
         }
     }
-    true
+    firm
 }
 
-// Input i keeps its output, or asks for one; where all that it may take is blocked, nobody need be asked.
-fn seat(
-    lows: &[u64],
-    highs: &[u64],
-    by: &mut [u8],
-    out: &mut [u8],
-    fixed: Tried,
-    i: InputPort,
-) -> bool
-    requires { ⌜ Rows 128 (now lows) (now highs) × (i .0 < length (now lows)) × CompletePre 128 (length (now lows)) (Allowed (now lows) (now highs)) (now by) (now out) (triedOf fixed) (i .0) ⌝ }
-    ensures { λ r. ⌜ CompletePost 128 (length (now (lows .entry))) (Allowed (now (lows .entry)) (now (highs .entry))) (now (by .entry)) (now (out .entry)) (triedOf fixed) (i .0 + 1) (now (by .exit)) (now (out .exit)) r ⌝ }
-{
-    if holds(by, out, i) {
-        return true;
-    }
-    if blocked(lows, highs, by, fixed, row_of(lows, highs, i), NOWHERE) {
-        return false;
-    }
-    let held = held_outputs(by, fixed, lows.len());
-    let a = ask_input(lows, highs, by, out, held, fixed, i);
-    a.moved
-}
-
-// Every output but those of the n that nobody holds and that may be had at once. Inputs look for one of these before they ask on, so that
-// few ask twice.
-fn held_outputs(by: &[u8], fixed: Tried, n: usize) -> Wide
+// Every output but those of the n that nobody holds, which can be had at once.
+fn held_outputs(by: &[u8], n: usize) -> Wide
     requires { ⌜ (length (now by) ≡ 128) × (n ≤ 128) ⌝ }
-    ensures { λ r. ⌜ Spare 128 (now (by .entry)) (triedOf fixed) (outputsOf r) ⌝ }
+    ensures { λ r. ⌜ Free 128 (now (by .entry)) (outputsOf r) ⌝ }
 {
     let mut held = Wide::every();
     for k in 0..n {
@@ -166,7 +167,72 @@ fn held_outputs(by: &[u8], fixed: Tried, n: usize) -> Wide
             held = held.without(OutputPort(k));
         }
     }
-    held.with(fixed.outputs)
+    held
+}
+
+// Every input from `from` on that holds nothing asks; one that is stuck ends it.
+fn complete(
+    lows: &[u64],
+    highs: &[u64],
+    by: &mut [u8],
+    out: &mut [u8],
+    held: Wide,
+    fixed: Tried,
+    from: usize,
+) -> Seats
+    requires { ⌜ Rows 128 (now lows) (now highs) × CompletePre 128 (length (now lows)) (Allowed (now lows) (now highs)) (now by) (now out) (outputsOf held) (triedOf fixed) from ⌝ }
+    ensures { λ r. ⌜ CompletePost 128 (length (now (lows .entry))) (Allowed (now (lows .entry)) (now (highs .entry))) (now (by .entry)) (now (out .entry)) (triedOf fixed) (length (now (lows .entry))) (now (by .exit)) (now (out .exit)) (outputsOf (r .held)) (r .full) ⌝ }
+{
+    let mut s = Seats {
+        full: true,
+        held: held,
+        seen: fixed,
+    };
+    for i in from..lows.len() {
+        s = seat(lows, highs, by, out, s.held, fixed, InputPort(i));
+        if !s.full {
+            return s;
+        }
+    }
+    s
+}
+
+// Input i keeps its output, or asks for one.
+fn seat(
+    lows: &[u64],
+    highs: &[u64],
+    by: &mut [u8],
+    out: &mut [u8],
+    held: Wide,
+    fixed: Tried,
+    i: InputPort,
+) -> Seats
+    requires { ⌜ Rows 128 (now lows) (now highs) × (i .0 < length (now lows)) × CompletePre 128 (length (now lows)) (Allowed (now lows) (now highs)) (now by) (now out) (outputsOf held) (triedOf fixed) (i .0) ⌝ }
+    ensures { λ r. ⌜ CompletePost 128 (length (now (lows .entry))) (Allowed (now (lows .entry)) (now (highs .entry))) (now (by .entry)) (now (out .entry)) (triedOf fixed) (i .0 + 1) (now (by .exit)) (now (out .exit)) (outputsOf (r .held)) (r .full) ⌝ }
+{
+    if holds(by, out, i) {
+        return Seats {
+            full: true,
+            held: held,
+            seen: fixed,
+        };
+    }
+    let a = ask_inputs(lows, highs, by, out, held, fixed, row_of(lows, highs, i));
+    match a {
+        Asked::Stuck(seen) => Seats {
+            full: false,
+            held: held,
+            seen: seen,
+        },
+        Asked::Freed(g) => {
+            join(by, out, i, g.output);
+            Seats {
+                full: true,
+                held: held.mark(g.spent),
+                seen: fixed,
+            }
+        }
+    }
 }
 
 // Does input i hold an output?
@@ -195,180 +261,261 @@ fn settle_from(
     requires { ⌜ Rows 128 (now lows) (now highs) × (from ≤ length (now lows)) × Settled 128 (length (now lows)) (Allowed (now lows) (now highs)) (now by) (now out) (triedOf fixed) from ⌝ }
     ensures { λ _. ⌜ SettledAll 128 (length (now (lows .entry))) (Allowed (now (lows .entry)) (now (highs .entry))) (now (out .entry)) (now (by .exit)) (now (out .exit)) ⌝ }
 {
-    let mut firm = fixed;
+    let mut firm = Prefix {
+        fixed: fixed,
+        dead: fixed,
+    };
     for i in from..lows.len() {
         firm = settle(lows, highs, by, out, firm, InputPort(i));
     }
 }
 
-// Input i gives its output up and takes the first that leaves the inputs after it a setting, and that is fixed: its own again
-// where all lower ones are blocked, else it asks.
+// Input i takes the first output that leaves the inputs after it a setting, and that is fixed: it asks for a lower one than its own
+// until none can be had. What led nowhere for the input before leads nowhere now, unless it leads to the output of i.
 fn settle(
     lows: &[u64],
     highs: &[u64],
     by: &mut [u8],
     out: &mut [u8],
-    fixed: Tried,
+    firm: Prefix,
     i: InputPort,
-) -> Tried
-    requires { ⌜ Rows 128 (now lows) (now highs) × (i .0 < length (now lows)) × Settled 128 (length (now lows)) (Allowed (now lows) (now highs)) (now by) (now out) (triedOf fixed) (i .0) ⌝ }
-    ensures { λ r. ⌜ SettledPost 128 (length (now (lows .entry))) (Allowed (now (lows .entry)) (now (highs .entry))) (now (out .entry)) (now (by .exit)) (now (out .exit)) (triedOf r) (i .0 + 1) ⌝ }
+) -> Prefix
+    requires { ⌜ Rows 128 (now lows) (now highs) × (i .0 < length (now lows)) × Settled 128 (length (now lows)) (Allowed (now lows) (now highs)) (now by) (now out) (triedOf (firm .fixed)) (i .0) × Dead (Allowed (now lows) (now highs)) (now by) (triedOf (firm .fixed)) (triedOf (firm .dead)) ⌝ }
+    ensures { λ r. ⌜ SettledPost 128 (length (now (lows .entry))) (Allowed (now (lows .entry)) (now (highs .entry))) (now (out .entry)) (now (by .exit)) (now (out .exit)) (triedOf (r .fixed)) (i .0 + 1) × Dead (Allowed (now (lows .entry)) (now (highs .entry))) (now (by .exit)) (triedOf (r .fixed)) (triedOf (r .dead)) ⌝ }
 {
-    let own = output_of(out, i);
     let row = row_of(lows, highs, i);
-    release(by, own);
-    if blocked(lows, highs, by, fixed, row.below(own), own) {
-        join(by, out, i, own);
-        return fixed.mark(own);
+    let fixed = firm.fixed;
+    let mut own = output_of(out, i);
+    let mut dead = dead_for(firm, own);
+    loop {
+        let lower = row.below(own);
+        let f = dead.next(lower);
+        let Found::At(_) = f else {
+            return Prefix {
+                fixed: fixed.mark(own),
+                dead: dead.mark(own),
+            };
+        };
+        let a = ask_lower(lows, highs, by, out, dead, lower, own, i);
+        match a {
+            Asked::Stuck(seen) => {
+                return Prefix {
+                    fixed: fixed.mark(own),
+                    dead: seen.mark(own),
+                };
+            }
+            Asked::Freed(g) => {
+                own = g.output;
+                dead = fixed;
+            }
+        }
     }
-    ask_input(lows, highs, by, out, Wide::every().without(own), fixed, i);
-    fixed.mark(output_of(out, i))
 }
 
-// Does asking these outputs lead to none that is free? What they lead to is seen wave by wave, without moving anybody. Where it leads
-// to `spare`, which the caller has just given up, that is seen a wave sooner.
-fn blocked(
+// What leads nowhere once output `own` is given up: all that did, or no more than what is fixed.
+fn dead_for(firm: Prefix, own: OutputPort) -> Tried
+    requires { ⌜ own .0 < 128 ⌝ }
+    ensures { λ r. ⌜ ((triedOf r ≡ triedOf (firm .dead)) × (In (triedOf (firm .dead)) (own .0) → ⊥)) ⊎ (triedOf r ≡ triedOf (firm .fixed)) ⌝ }
+{
+    let dead = firm.dead;
+    let outputs = dead.outputs;
+    if outputs.has(own) {
+        return firm.fixed;
+    }
+    dead
+}
+
+// Input i gives its output up and asks for one of these; where none can be had it takes its own again.
+fn ask_lower(
+    lows: &[u64],
+    highs: &[u64],
+    by: &mut [u8],
+    out: &mut [u8],
+    dead: Tried,
+    lower: Wide,
+    own: OutputPort,
+    i: InputPort,
+) -> Asked
+    requires { ⌜ Rows 128 (now lows) (now highs) × Lowering 128 (length (now lows)) (Allowed (now lows) (now highs)) (now by) (now out) (triedOf dead) (outputsOf lower) (own .0) (i .0) ⌝ }
+    ensures { λ r. ⌜ Lowered 128 (length (now (lows .entry))) (Allowed (now (lows .entry)) (now (highs .entry))) (now (by .entry)) (now (out .entry)) (triedOf dead) (outputsOf lower) (own .0) (i .0) (now (by .exit)) (now (out .exit)) r ⌝ }
+{
+    release(by, own);
+    let held = Wide::every().without(own);
+    let a = ask_inputs(lows, highs, by, out, held, dead, lower);
+    match a {
+        Asked::Stuck(seen) => {
+            join(by, out, i, own);
+            Asked::Stuck(seen)
+        }
+        Asked::Freed(g) => {
+            join(by, out, i, g.output);
+            Asked::Freed(g)
+        }
+    }
+}
+
+// Inputs ask for one of these outputs: for one that can be had at once, else for those that are not tried yet.
+fn ask_inputs(
+    lows: &[u64],
+    highs: &[u64],
+    by: &mut [u8],
+    out: &mut [u8],
+    held: Wide,
+    tried: Tried,
+    outputs: Wide,
+) -> Asked
+    requires { ⌜ Rows 128 (now lows) (now highs) × AskPre 128 (length (now lows)) (Allowed (now lows) (now highs)) (now by) (now out) (outputsOf held) (triedOf tried) ⌝ }
+    ensures { λ r. ⌜ AskPost 128 (length (now (lows .entry))) (Allowed (now (lows .entry)) (now (highs .entry))) (now (by .entry)) (now (out .entry)) (triedOf tried) (outputsOf outputs) (now (by .exit)) (now (out .exit)) r ⌝ }
+{
+    let s = outputs.lowest_untried(held);
+    match s {
+        Found::At(spare) => Asked::Freed(Given {
+            output: spare,
+            spent: spare,
+        }),
+        Found::Nothing => {
+            let f = tried.next(outputs);
+            match f {
+                Found::Nothing => Asked::Stuck(tried),
+                Found::At(_) => ask_outputs(
+                    lows,
+                    highs,
+                    by,
+                    out,
+                    held,
+                    tried,
+                    outputs.but(tried.outputs),
+                ),
+            }
+        }
+    }
+}
+
+// The outputs of a wave are marked as tried and ask their holders to move, all at once; one whose holder can is handed on.
+fn ask_outputs(
+    lows: &[u64],
+    highs: &[u64],
+    by: &mut [u8],
+    out: &mut [u8],
+    held: Wide,
+    tried: Tried,
+    wave: Wide,
+) -> Asked
+    requires { ⌜ Rows 128 (now lows) (now highs) × AskPre 128 (length (now lows)) (Allowed (now lows) (now highs)) (now by) (now out) (outputsOf held) (triedOf tried) × Wave 128 (outputsOf held) (triedOf tried) (outputsOf wave) ⌝ }
+    ensures { λ r. ⌜ AskPost 128 (length (now (lows .entry))) (Allowed (now (lows .entry)) (now (highs .entry))) (now (by .entry)) (now (out .entry)) (triedOf tried) (outputsOf wave) (now (by .exit)) (now (out .exit)) r ⌝ }
+{
+    let w = leads_to(lows, highs, by, wave);
+    let f = w.free;
+    match f {
+        Found::At(j) => Asked::Freed(Given {
+            output: j,
+            spent: j,
+        }),
+        Found::Nothing => {
+            let a = ask_inputs(lows, highs, by, out, held, tried.with(wave), w.outputs);
+            match a {
+                Asked::Stuck(seen) => Asked::Stuck(seen),
+                Asked::Freed(g) => {
+                    let wanted = g.output;
+                    let spent = g.spent;
+                    let j = hand_on(lows, highs, by, out, wave, wanted);
+                    Asked::Freed(Given {
+                        output: j,
+                        spent: spent,
+                    })
+                }
+            }
+        }
+    }
+}
+
+// What a wave of outputs leads to, word by word.
+fn leads_to(lows: &[u64], highs: &[u64], by: &[u8], wave: Wide) -> Reached
+    requires { ⌜ Rows 128 (now lows) (now highs) × Ports 128 (length (now lows)) (now by) ⌝ }
+    ensures { λ r. ⌜ Leads (Allowed (now (lows .entry)) (now (highs .entry))) (now (by .entry)) (outputsOf wave) (r .free) (outputsOf (r .outputs)) ⌝ }
+{
+    let low = word_leads_to(lows, highs, by, wave.low, 0, Wide::none());
+    let f = low.free;
+    match f {
+        Found::At(_) => low,
+        Found::Nothing => word_leads_to(lows, highs, by, wave.high, 64, low.outputs),
+    }
+}
+
+// What the outputs of one word lead to, with what was led to before; output k of the word is output `base` + k of the switch.
+fn word_leads_to(
     lows: &[u64],
     highs: &[u64],
     by: &[u8],
-    fixed: Tried,
-    outputs: Wide,
-    spare: OutputPort,
-) -> bool
-    requires { ⌜ Rows 128 (now lows) (now highs) × Ports 128 (length (now lows)) (now by) × (spare .0 < 128) ⌝ }
-    ensures { λ r. ⌜ (r ≡ true → Blocked (Allowed (now (lows .entry)) (now (highs .entry))) (now (by .entry)) (triedOf fixed) (outputsOf outputs)) ⌝ }
+    word: Label,
+    base: usize,
+    before: Wide,
+) -> Reached
+    requires { ⌜ Rows 128 (now lows) (now highs) × Ports 128 (length (now lows)) (now by) × (base + 64 ≤ 128) ⌝ }
+    ensures { λ r. ⌜ Reaches (Allowed (now (lows .entry)) (now (highs .entry))) (now (by .entry)) (word .0) base (outputsOf before) (r .free) (outputsOf (r .outputs)) ⌝ }
 {
-    let mut asked = fixed.outputs;
-    let mut seen = asked.with(outputs);
+    let mut rest = word;
+    let mut outputs = before;
     loop {
-        let f = seen.lowest_untried(asked);
-        match f {
-            Found::Nothing => {
-                return true;
-            }
-            Found::At(_) => {
-                let w = wave(lows, highs, by, asked, seen);
-                if w.free {
-                    return false;
-                }
-                let further = w.outputs;
-                if further.has(spare) {
-                    return false;
-                }
-                asked = seen;
-                seen = seen.with(further);
-            }
+        let f = rest.lowest_untried(Label::none());
+        let Found::At(j) = f else {
+            return Reached {
+                free: Found::Nothing,
+                outputs: outputs,
+            };
+        };
+        let k = base + j.0;
+        let v = by[k];
+        if v == FREE {
+            return Reached {
+                free: Found::At(OutputPort(k)),
+                outputs: outputs,
+            };
         }
+        let w = v as usize;
+        outputs = outputs.with(row_of(lows, highs, InputPort(w - 1)));
+        rest = rest.rest();
     }
 }
 
-// The outputs that the holders of what is seen and not asked yet may take; or one of them is free.
-fn wave(lows: &[u64], highs: &[u64], by: &[u8], asked: Wide, seen: Wide) -> Reached
-    requires { ⌜ Rows 128 (now lows) (now highs) × Ports 128 (length (now lows)) (now by) ⌝ }
-    ensures { λ r. ⌜ (r .free ≡ false → Led (Allowed (now (lows .entry)) (now (highs .entry))) (now (by .entry)) (outputsOf asked) (outputsOf seen) (outputsOf (r .outputs))) ⌝ }
-{
-    let mut met = asked;
-    let mut outputs = Wide::none();
-    loop {
-        let f = seen.lowest_untried(met);
-        match f {
-            Found::Nothing => {
-                return Reached {
-                    free: false,
-                    outputs: outputs,
-                };
-            }
-            Found::At(j) => {
-                let k = j.0;
-                let v = by[k];
-                if v == FREE {
-                    return Reached {
-                        free: true,
-                        outputs: outputs,
-                    };
-                }
-                let w = v as usize;
-                met = met.mark(j);
-                outputs = outputs.with(row_of(lows, highs, InputPort(w - 1)));
-            }
-        }
-    }
-}
-
-// Input i asks its outputs, the lowest first, until one is free or can be made so.
-fn ask_input(
+// The holder of one of these outputs takes the wanted one, which is free; it answers the output that is given up.
+fn hand_on(
     lows: &[u64],
     highs: &[u64],
     by: &mut [u8],
     out: &mut [u8],
-    held: Wide,
-    tried: Tried,
-    i: InputPort,
-) -> Asked
-    requires { ⌜ Rows 128 (now lows) (now highs) × InPre 128 (length (now lows)) (Allowed (now lows) (now highs)) (now by) (now out) (outputsOf held) (triedOf tried) (i .0) ⌝ }
-    ensures { λ r. ⌜ InPost 128 (length (now (lows .entry))) (Allowed (now (lows .entry)) (now (highs .entry))) (now (by .entry)) (now (out .entry)) (triedOf tried) (i .0) (now (by .exit)) (now (out .exit)) (r .moved) (triedOf (r .tried)) ⌝ }
+    wave: Wide,
+    wanted: OutputPort,
+) -> OutputPort
+    requires { ⌜ Rows 128 (now lows) (now highs) × (length (now out) ≡ 128) × (wanted .0 < 128) × Movable 128 (length (now lows)) (Allowed (now lows) (now highs)) (now by) (outputsOf wave) (wanted .0) ⌝ }
+    ensures { λ r. ⌜ Handed (Allowed (now (lows .entry)) (now (highs .entry))) (now (by .entry)) (now (out .entry)) (outputsOf wave) (wanted .0) (r .0) (now (by .exit)) (now (out .exit)) ⌝ }
 {
-    let row = row_of(lows, highs, i);
-    let mut seen = tried;
-    loop {
-        let f = seen.next(row);
-        match f {
-            Found::Nothing => {
-                return Asked {
-                    moved: false,
-                    tried: seen,
-                };
-            }
-            Found::At(j) => {
-                let a = ask_output(lows, highs, by, out, held, seen, j);
-                if a.moved {
-                    join(by, out, i, j);
-                    return a;
-                }
-                seen = a.tried;
-            }
-        }
-    }
+    let j = mover(lows, highs, by, wave, wanted);
+    let k = j.0;
+    let v = by[k] as usize;
+    release(by, j);
+    join(by, out, InputPort(v - 1), wanted);
+    j
 }
 
-// Output j is marked as tried and asks its holder to move: to an output that nobody holds, or by asking on.
-fn ask_output(
-    lows: &[u64],
-    highs: &[u64],
-    by: &mut [u8],
-    out: &mut [u8],
-    held: Wide,
-    tried: Tried,
-    j: OutputPort,
-) -> Asked
-    requires { ⌜ Rows 128 (now lows) (now highs) × OutPre 128 (length (now lows)) (Allowed (now lows) (now highs)) (now by) (now out) (outputsOf held) (triedOf tried) (j .0) ⌝ }
-    ensures { λ r. ⌜ OutPost 128 (length (now (lows .entry))) (Allowed (now (lows .entry)) (now (highs .entry))) (now (by .entry)) (now (out .entry)) (triedOf tried) (j .0) (now (by .exit)) (now (out .exit)) (r .moved) (triedOf (r .tried)) ⌝ }
+// The lowest of these outputs whose holder may take the wanted one.
+fn mover(lows: &[u64], highs: &[u64], by: &[u8], wave: Wide, wanted: OutputPort) -> OutputPort
+    requires { ⌜ Rows 128 (now lows) (now highs) × (wanted .0 < 128) × Movable 128 (length (now lows)) (Allowed (now lows) (now highs)) (now by) (outputsOf wave) (wanted .0) ⌝ }
+    ensures { λ r. ⌜ Mover (Allowed (now (lows .entry)) (now (highs .entry))) (now (by .entry)) (outputsOf wave) (wanted .0) (r .0) ⌝ }
 {
-    let at = j.0;
-    let v = by[at];
-    let free = Asked {
-        moved: true,
-        tried: tried,
-    };
-    if v == FREE {
-        return free;
-    }
-    by[at] = FREE;
-    let holder = InputPort(v as usize - 1);
-    let row = row_of(lows, highs, holder);
-    let f = row.lowest_untried(held);
-    match f {
-        Found::At(spare) => {
-            join(by, out, holder, spare);
-            free
+    let mut met = Wide::none();
+    loop {
+        let f = wave.lowest_untried(met);
+        let Found::At(j) = f else {
+            return wanted;
+        };
+        let k = j.0;
+        let v = by[k] as usize;
+        let row = row_of(lows, highs, InputPort(v - 1));
+        if row.has(wanted) {
+            return j;
         }
-        Found::Nothing => {
-            let a = ask_input(lows, highs, by, out, held, tried.mark(j), holder);
-            if !a.moved {
-                by[at] = v;
-            }
-            a
-        }
+        met = met.mark(j);
     }
 }
 

@@ -3,28 +3,27 @@ use mathlib.Core.Logic.{⊎-elim}
 use Prim.Native.Nat.{_-_, _≤_}
 use native.Mathlib.Omega.{arith}
 use Rattle.labels.specs.Wide.{outputsOf}
-use Rattle.matching.specs.Tables.{triedOf}
-use Rattle.matching.proofs.Spare.{OnlyFree, free-none, free-one, free-spare}
+use Rattle.matching.specs.Search.{Free}
+use Rattle.matching.proofs.Completing.{free-none, free-one}
 use borrow.Author.Needs.{needs}
 use Rattle.matching.proofs.held_outputs.Statement.{statement}
 use Rattle.matching.proofs.held_outputs.Tie as tie
 use Rattle.matching.proofs.held_outputs.Reads as reads
 use Rattle.matching.proofs.held_outputs.Lts as lts
 use Rattle.labels.proofs.Wide.every.Reads as every-reads
-use Rattle.labels.proofs.Wide.with.Reads as with-reads
 use Rattle.labels.proofs.Wide.without.Reads as without-reads
 
 abbrev Inv-loop : tie.InvT-loop
-Inv-loop by fixed n held₀ k₀ held k = OnlyFree by (outputsOf held)
+Inv-loop by n held₀ k₀ held k = Free 128 by (outputsOf held)
 
 abbrev μ-loop : tie.MeasureT-loop
-μ-loop by fixed n held₀ k₀ held k = n - k
+μ-loop by n held₀ k₀ held k = n - k
 
 every-requires : tie.Need-every-requires Inv-loop μ-loop
 every-requires c κs = search needs
 
 loop-holds : tie.Need-loop-holds Inv-loop μ-loop
-loop-holds c = free-none (c .before .before .args .by .now) (outputsOf (c .every .result)) (c .every .ensures)
+loop-holds c = free-none 128 (c .before .before .args .by .now) (outputsOf (c .every .result)) (c .every .ensures)
 
 shared-slice-read-if1 : tie.Need-shared-slice-read-if1 Inv-loop μ-loop
 shared-slice-read-if1 c = omega (arith, c .before .before .before .before .before .pre)
@@ -41,13 +40,10 @@ loop-less c = search needs
 loop-again : tie.Need-loop-again Inv-loop μ-loop
 loop-again c =
     let l = c .before .before .before .loop in
-    ⊎-elim (λ w. rw (w .2) (free-one (c .before .before .before .before .before .before .args .by .now) (outputsOf (l .held)) (l .k) (outputsOf (w .1 .result)) (l .inv) (w .0 .taken) (w .1 .ensures))) (λ w. rw (w .1) (l .inv)) (c .if1 .came)
-
-with-requires : tie.Need-with-requires Inv-loop μ-loop
-with-requires c κs = search needs
+    ⊎-elim (λ w. rw (w .2) (free-one 128 (c .before .before .before .before .before .before .args .by .now) (outputsOf (l .held)) (l .k) (outputsOf (w .1 .result)) (l .inv) (w .0 .taken) (w .1 .ensures))) (λ w. rw (w .1) (l .inv)) (c .if1 .came)
 
 returns : tie.Need-returns Inv-loop μ-loop
-returns c = let a = c .before .before .before .before .before .args in free-spare (a .by .now) (outputsOf (c .before .before .loop .held)) (triedOf (a .fixed)) (outputsOf (c .with .result)) (c .before .before .loop .inv) (c .with .ensures)
+returns c = c .before .loop .inv
 
 pub held-outputs-spec : {M : Type 1} → statement M
 held-outputs-spec =
@@ -62,5 +58,4 @@ held-outputs-spec =
     add-k
     loop-less
     loop-again
-    with-requires
     returns)

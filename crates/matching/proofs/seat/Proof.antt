@@ -1,23 +1,24 @@
--- An input that holds nothing asks, or is shown to be stuck before it asks.
-use mathlib.Core.Path.{_≡_, sym, subst, _∙_}
+-- An input that holds nothing asks; one that is stuck shows that no full setting keeps what is fixed.
+use mathlib.Core.Path.{refl, sym, ap, subst, _∙_}
 use Prim.Native.Nat.{ℕ}
-use native.Mathlib.Omega.{arith}
-use lib.ListN.{length}
+use native.Mathlib.Nat.{lt-of-lt-of-le}
+use lib.ListN.{length, length-set}
 use Rattle.labels.specs.Label.{In}
 use Rattle.labels.specs.Wide.{outputsOf}
 use Rattle.matching.specs.Tables.{triedOf, Allowed}
+use Rattle.matching.specs.Search.{AskPost}
 use Rattle.matching.proofs.Tables.{has-place}
-use Rattle.matching.proofs.Waves.{ports-of}
-use Rattle.matching.proofs.Completing.{holds-none, seat-holds, seat-blocked, seat-asks, seat-asked}
+use Rattle.matching.proofs.Search.{same-holders, same-outputs}
+use Rattle.matching.proofs.Completing.{holds-none, seat-holds, seat-asks, seat-stuck, seat-taken}
 use borrow.Author.Needs.{needs}
 use Rattle.matching.proofs.seat.Statement.{statement}
 use Rattle.matching.proofs.seat.Tie as tie
 use Rattle.matching.proofs.seat.Reads as reads
 use Rattle.matching.proofs.seat.Lts as lts
-use Rattle.matching.proofs.ask_input.Reads as ask-input-reads
-use Rattle.matching.proofs.blocked.Reads as blocked-reads
-use Rattle.matching.proofs.held_outputs.Reads as held-outputs-reads
+use Rattle.labels.proofs.Wide.mark.Reads as mark-reads
+use Rattle.matching.proofs.ask_inputs.Reads as ask-inputs-reads
 use Rattle.matching.proofs.holds.Reads as holds-reads
+use Rattle.matching.proofs.join.Reads as join-reads
 use Rattle.matching.proofs.row_of.Reads as row-of-reads
 
 holds-requires : tie.Need-holds-requires
@@ -33,51 +34,94 @@ returns : tie.Need-returns
 returns c =
     let s = c .before .before .before .before .before .before .before .before in
     let a = s .args in
-    seat-holds 128 (length (a .lows .now)) (Allowed (a .lows .now) (a .highs .now)) (a .by .now) (a .out .now) (triedOf (a .fixed)) (a .i .0) (s .pre .1) (s .pre .2) (c .before .holds .ensures .held (c .if1 .taken))
+    seat-holds 128 (length (a .lows .now)) (Allowed (a .lows .now) (a .highs .now)) (a .by .now) (a .out .now) (triedOf (a .fixed)) (outputsOf (a .held)) (a .i .0) (s .pre .1) (s .pre .2) (c .before .holds .ensures .held (c .if1 .taken))
 
 row-of-requires : tie.Need-row-of-requires
-row-of-requires c κs = search needs
+row-of-requires c κs = let s = c .before .before .before .before .before .before .before .before .before .before in (s .pre .0, s .pre .1)
 
-blocked-requires : tie.Need-blocked-requires
-blocked-requires c κs = let s = c .before .before .before .before .before .before .before .before .before .before in let a = s .args in (s .pre .0, ports-of 128 (length (a .lows .now)) (Allowed (a .lows .now) (a .highs .now)) (a .by .now) (a .out .now) (s .pre .2 .good), omega arith)
+ask-inputs-requires : tie.Need-ask-inputs-requires
+ask-inputs-requires c κs =
+    let s = c .before .before .before .before .before .before .before .before .before .before .before in
+    let a = s .args in
+    (s .pre .0, seat-asks 128 (length (a .lows .now)) (Allowed (a .lows .now) (a .highs .now)) (a .by .now) (a .out .now) (triedOf (a .fixed)) (outputsOf (a .held)) (a .i .0) (s .pre .1) (s .pre .2))
+
+enum-known-a : tie.Need-enum-known-a
+enum-known-a c = search needs
+
+enum-known-a-2 : tie.Need-enum-known-a-2
+enum-known-a-2 c = search needs
+
+join-requires : tie.Need-join-requires
+join-requires c κs =
+    let s = c .before .before .before .before .before .before .before .before .before .before .before .before .before .before .before .before .before .before .before .before .before in
+    let a = s .args in
+    let r = c .before .before .before .before .before .before .before .before .before .before .row-of in
+    let q = c .before .before .before .before .before .before .before .before .before .ask-inputs in
+    let x = c .before .before .before .a2 .given in
+    let m = subst (AskPost 128 (length (a .lows .now)) (Allowed (a .lows .now) (a .highs .now)) (a .by .now) (a .out .now) (triedOf (a .fixed)) (outputsOf (r .result)) (q .last .1 .1 .0) (q .last .1 .1 .1 .0)) (x .1) (q .ensures) in
+    (m .good .holders, m .good .outputs, lt-of-lt-of-le (s .pre .1) (s .pre .0 .few), m .here)
+
+mark-requires : tie.Need-mark-requires
+mark-requires c κs =
+    let s = c .before .before .before .before .before .before .before .before .before .before .before .before .before .before .before .before .before .before .before .before .before .before .before .before .before .before in
+    let a = s .args in
+    let r = c .before .before .before .before .before .before .before .before .before .before .before .before .before .before .before .row-of in
+    let q = c .before .before .before .before .before .before .before .before .before .before .before .before .before .before .ask-inputs in
+    let x = c .before .before .before .before .before .before .before .before .a2 .given in
+    let m = subst (AskPost 128 (length (a .lows .now)) (Allowed (a .lows .now) (a .highs .now)) (a .by .now) (a .out .now) (triedOf (a .fixed)) (outputsOf (r .result)) (q .last .1 .1 .0) (q .last .1 .1 .1 .0)) (x .1) (q .ensures) in
+    m .last
 
 same-length-3 : tie.Need-same-length-3
-same-length-3 c = search needs
+same-length-3 c =
+    let s = c .before .before .before .before .before .before .before .before .before .before .before .before .before .before .before .before .before .before .before in
+    let a = s .args in
+    let q = c .before .before .before .before .before .before .before .ask-inputs in
+    same-holders 128 (length (a .lows .now)) (Allowed (a .lows .now) (a .highs .now)) (a .by .now) (a .out .now) (triedOf (a .fixed)) _ (q .last .1 .1 .0) (q .last .1 .1 .1 .0) (s .pre .2 .good) (q .result) (q .ensures)
 
 same-length-4 : tie.Need-same-length-4
-same-length-4 c = search needs
+same-length-4 c =
+    let s = c .before .before .before .before .before .before .before .before .before .before .before .before .before .before .before .before .before .before .before in
+    let a = s .args in
+    let q = c .before .before .before .before .before .before .before .ask-inputs in
+    same-outputs 128 (length (a .lows .now)) (Allowed (a .lows .now) (a .highs .now)) (a .by .now) (a .out .now) (triedOf (a .fixed)) _ (q .last .1 .1 .0) (q .last .1 .1 .1 .0) (s .pre .2 .good) (q .result) (q .ensures)
 
 returns-2 : tie.Need-returns-2
 returns-2 c =
-    let s = c .before .before .before .before .before .before .before .before .before .before .before .before in
+    let s = c .before .before .before .before .before .before .before .before .before .before .before .before .before .before .before .before .before .before .before in
     let a = s .args in
-    let r = c .before .before .row-of in
-    let idle = holds-none 128 (length (a .lows .now)) (Allowed (a .lows .now) (a .highs .now)) (a .by .now) (a .out .now) (a .i .0) (s .pre .2 .good) (c .before .before .before .before .before .holds .ensures .idle (c .before .before .before .before .if1 .left)) in
-    seat-blocked 128 (length (a .lows .now)) (Allowed (a .lows .now) (a .highs .now)) (a .by .now) (a .out .now) (triedOf (a .fixed)) (a .i .0) (s .pre .1) (s .pre .2) idle (outputsOf (r .result)) (λ k e. subst (λ (q : ℕ). In q k) (sym (r .ensures)) e) (c .before .blocked .ensures (c .if2 .taken))
-
-held-outputs-requires : tie.Need-held-outputs-requires
-held-outputs-requires c κs = search needs
-
-ask-input-requires : tie.Need-ask-input-requires
-ask-input-requires c κs =
-    let s = c .before .before .before .before .before .before .before .before .before .before .before .before .before .before .before .before in
-    let a = s .args in
-    let idle = holds-none 128 (length (a .lows .now)) (Allowed (a .lows .now) (a .highs .now)) (a .by .now) (a .out .now) (a .i .0) (s .pre .2 .good) (c .before .before .before .before .before .before .before .before .before .holds .ensures .idle (c .before .before .before .before .before .before .before .before .if1 .left)) in
-    (s .pre .0, seat-asks 128 (length (a .lows .now)) (Allowed (a .lows .now) (a .highs .now)) (a .by .now) (a .out .now) (triedOf (a .fixed)) (a .i .0) (s .pre .1) (s .pre .2) idle (outputsOf (c .before .before .held-outputs .result)) (c .before .before .held-outputs .ensures))
+    let r = c .before .before .before .before .before .before .before .before .row-of in
+    let q = c .before .before .before .before .before .before .before .ask-inputs in
+    let x = c .before .a .given in
+    let m = subst (AskPost 128 (length (a .lows .now)) (Allowed (a .lows .now) (a .highs .now)) (a .by .now) (a .out .now) (triedOf (a .fixed)) (outputsOf (r .result)) (q .last .1 .1 .0) (q .last .1 .1 .1 .0)) (x .1) (q .ensures) in
+    let idle = holds-none 128 (length (a .lows .now)) (Allowed (a .lows .now) (a .highs .now)) (a .by .now) (a .out .now) (a .i .0) (s .pre .2 .good) (c .before .before .before .before .before .before .before .before .before .before .before .before .holds .ensures .idle (c .before .before .before .before .before .before .before .before .before .before .before .if1 .left)) in
+    seat-stuck 128 (length (a .lows .now)) (Allowed (a .lows .now) (a .highs .now)) (a .by .now) (a .out .now) (triedOf (a .fixed)) (outputsOf (a .held)) (a .i .0) (s .pre .1) (s .pre .2) idle (outputsOf (r .result)) (λ k e. subst (λ (y : ℕ). In y k) (r .ensures) e) (λ k e. subst (λ (y : ℕ). In y k) (sym (r .ensures)) e) (q .last .1 .1 .0) (q .last .1 .1 .1 .0) (triedOf (x .0 .0)) m
 
 same-length-5 : tie.Need-same-length-5
-same-length-5 c = c .before .before .before .before .ask-input .ensures .good .holders ∙ sym (c .before .before .before .before .before .before .before .before .before .before .before .before .before .before .before .before .before .before .before .before .before .pre .2 .good .holders)
+same-length-5 c =
+    let s = c .before .before .before .before .before .before .before .before .before .before .before .before .before .before .before .before .before .before .before .before .before .before .before .before .before .before .before in
+    let a = s .args in
+    let q = c .before .before .before .before .before .before .before .before .before .before .before .before .before .before .before .ask-inputs in
+    ap length (c .before .before .before .before .before .join .ensures .0) ∙ length-set (q .last .1 .1 .0) _ _ ∙ same-holders 128 (length (a .lows .now)) (Allowed (a .lows .now) (a .highs .now)) (a .by .now) (a .out .now) (triedOf (a .fixed)) _ (q .last .1 .1 .0) (q .last .1 .1 .1 .0) (s .pre .2 .good) (q .result) (q .ensures)
 
 same-length-6 : tie.Need-same-length-6
-same-length-6 c = c .before .before .before .before .ask-input .ensures .good .outputs ∙ sym (c .before .before .before .before .before .before .before .before .before .before .before .before .before .before .before .before .before .before .before .before .before .pre .2 .good .outputs)
+same-length-6 c =
+    let s = c .before .before .before .before .before .before .before .before .before .before .before .before .before .before .before .before .before .before .before .before .before .before .before .before .before .before .before in
+    let a = s .args in
+    let q = c .before .before .before .before .before .before .before .before .before .before .before .before .before .before .before .ask-inputs in
+    ap length (c .before .before .before .before .before .join .ensures .1) ∙ length-set (q .last .1 .1 .1 .0) _ _ ∙ same-outputs 128 (length (a .lows .now)) (Allowed (a .lows .now) (a .highs .now)) (a .by .now) (a .out .now) (triedOf (a .fixed)) _ (q .last .1 .1 .0) (q .last .1 .1 .1 .0) (s .pre .2 .good) (q .result) (q .ensures)
 
 returns-3 : tie.Need-returns-3
 returns-3 c =
-    let s = c .before .before .before .before .before .before .before .before .before .before .before .before .before .before .before .before .before .before .before .before .before in
+    let s = c .before .before .before .before .before .before .before .before .before .before .before .before .before .before .before .before .before .before .before .before .before .before .before .before .before .before .before in
     let a = s .args in
-    let q = c .before .before .before .before .ask-input in
-    let idle = holds-none 128 (length (a .lows .now)) (Allowed (a .lows .now) (a .highs .now)) (a .by .now) (a .out .now) (a .i .0) (s .pre .2 .good) (c .before .before .before .before .before .before .before .before .before .before .before .before .before .before .holds .ensures .idle (c .before .before .before .before .before .before .before .before .before .before .before .before .before .if1 .left)) in
-    seat-asked 128 (length (a .lows .now)) (Allowed (a .lows .now) (a .highs .now)) (a .by .now) (a .out .now) (triedOf (a .fixed)) (a .i .0) (s .pre .1) (s .pre .2) idle (q .last .1 .1 .0) (q .last .1 .1 .1 .0) (q .result .moved) (triedOf (q .result .tried)) (q .ensures)
+    let r = c .before .before .before .before .before .before .before .before .before .before .before .before .before .before .before .before .row-of in
+    let q = c .before .before .before .before .before .before .before .before .before .before .before .before .before .before .before .ask-inputs in
+    let j = c .before .before .before .before .before .join in
+    let x = c .before .before .before .before .before .before .before .before .before .a2 .given in
+    let m = subst (AskPost 128 (length (a .lows .now)) (Allowed (a .lows .now) (a .highs .now)) (a .by .now) (a .out .now) (triedOf (a .fixed)) (outputsOf (r .result)) (q .last .1 .1 .0) (q .last .1 .1 .1 .0)) (x .1) (q .ensures) in
+    let idle = holds-none 128 (length (a .lows .now)) (Allowed (a .lows .now) (a .highs .now)) (a .by .now) (a .out .now) (a .i .0) (s .pre .2 .good) (c .before .before .before .before .before .before .before .before .before .before .before .before .before .before .before .before .before .before .before .before .holds .ensures .idle (c .before .before .before .before .before .before .before .before .before .before .before .before .before .before .before .before .before .before .before .if1 .left)) in
+    seat-taken 128 (length (a .lows .now)) (Allowed (a .lows .now) (a .highs .now)) (a .by .now) (a .out .now) (triedOf (a .fixed)) (outputsOf (a .held)) (a .i .0) (s .pre .1) (s .pre .2) idle (outputsOf (r .result)) (λ k e. subst (λ (y : ℕ). In y k) (r .ensures) e) (λ k e. subst (λ (y : ℕ). In y k) (sym (r .ensures)) e)
+    (x .0 .0 .output .0) (x .0 .0 .spent .0) (outputsOf (c .mark .result)) (q .last .1 .1 .0) (q .last .1 .1 .1 .0) (j .last .0) (j .last .1 .0) (s .pre .0 .few) m (c .mark .ensures) (j .ensures .0) (j .ensures .1)
 
 pub seat-spec : {M : Type 1} → statement M
 seat-spec =
@@ -88,12 +132,14 @@ seat-spec =
     same-length-2
     returns
     row-of-requires
-    blocked-requires
+    ask-inputs-requires
+    enum-known-a
+    enum-known-a-2
+    join-requires
+    mark-requires
     same-length-3
     same-length-4
     returns-2
-    held-outputs-requires
-    ask-input-requires
     same-length-5
     same-length-6
     returns-3)

@@ -1,167 +1,197 @@
--- Its own is spare once it is given up; it takes it again where all lower ones are blocked, and else the lowest that it finds.
-use mathlib.Core.Path.{_≡_, refl, sym, ap, subst, _∙_}
-use Prim.Native.Nat.{ℕ, _<_}
-use native.Mathlib.Nat.{lt-of-lt-of-le}
-use lib.ListN.{length, set, length-set}
-use Rattle.labels.specs.Label.{In, Marked}
+-- Its output only becomes lower, and where no lower one can be had they are in a closed set: the one it has is the best.
+use mathlib.Core.Path.{sym, subst, _∙_}
+use Prim.Native.Nat.{ℕ}
+use lib.ListN.{length}
+use Rattle.labels.specs.Label.{In}
 use Rattle.labels.specs.Wide.{outputsOf}
-use Rattle.matching.specs.Tables.{triedOf, joined, Allowed}
-use Rattle.matching.proofs.Waves.{ports-of}
+use Rattle.matching.specs.Tables.{triedOf, Allowed}
+use Rattle.matching.specs.Chosen.{Lowered}
 use Rattle.matching.proofs.Tables.{has-place}
-use Rattle.matching.proofs.Settling.{own-in, freed-matching, own-asks, asked-place, asked-settled, kept-settled}
+use Rattle.matching.proofs.Search.{none-left}
+use Rattle.matching.proofs.Settling.{own-in, Lower, lower-start, lower-own, lower-may, lower-again, lower-ends, lower-ends-stuck, lowered-holders, lowered-outputs}
 use borrow.Author.Needs.{needs}
 use Rattle.matching.proofs.settle.Statement.{statement}
 use Rattle.matching.proofs.settle.Tie as tie
-use Rattle.matching.proofs.settle.Reads as reads
-use Rattle.matching.proofs.settle.Lts as lts
-use Rattle.labels.proofs.Wide.below.Reads as below-reads
-use Rattle.labels.proofs.Wide.every.Reads as every-reads
-use Rattle.labels.proofs.Wide.without.Reads as without-reads
-use Rattle.matching.proofs.Tried.mark.Reads as mark-reads
-use Rattle.matching.proofs.ask_input.Reads as ask-input-reads
-use Rattle.matching.proofs.blocked.Reads as blocked-reads
-use Rattle.matching.proofs.join.Reads as join-reads
-use Rattle.matching.proofs.output_of.Reads as output-of-reads
-use Rattle.matching.proofs.release.Reads as release-reads
-use Rattle.matching.proofs.row_of.Reads as row-of-reads
 
-output-of-requires : tie.Need-output-of-requires
-output-of-requires c κs = let s = c .before .before .before .before .before in has-place 128 (length (s .args .lows .now)) (s .args .i .0) (s .args .out .now) (s .pre .0 .few) (s .pre .1) (s .pre .2 .good .outputs)
+abbrev Inv-loop : tie.InvT-loop
+Inv-loop lows highs by₀ out₀ i row fixed own₀ dead₀ by out own dead = Lower 128 (length lows) (Allowed lows highs) out₀ by out (triedOf fixed) (triedOf dead) (own .0) (i .0)
 
-row-of-requires : tie.Need-row-of-requires
-row-of-requires c κs = let s = c .before .before .before .before .before .before in (s .pre .0, s .pre .1)
+abbrev μ-loop : tie.MeasureT-loop
+μ-loop lows highs by₀ out₀ i row fixed own₀ dead₀ by out own dead = own .0
 
-release-requires : tie.Need-release-requires
-release-requires c κs =
+row-of-requires : tie.Need-row-of-requires Inv-loop μ-loop
+row-of-requires c κs = let s = c .before .before .before .before in (s .pre .0, s .pre .1)
+
+output-of-requires : tie.Need-output-of-requires Inv-loop μ-loop
+output-of-requires c κs = let s = c .before .before .before .before .before .before .before in has-place 128 (length (s .args .lows .now)) (s .args .i .0) (s .args .out .now) (s .pre .0 .few) (s .pre .1) (s .pre .2 .good .outputs)
+
+dead-for-requires : tie.Need-dead-for-requires Inv-loop μ-loop
+dead-for-requires c κs =
     let s = c .before .before .before .before .before .before .before .before in
     let a = s .args in
-    let o = c .before .before .output-of in
-    subst (λ (w : ℕ). o .result .0 < w) (sym (s .pre .2 .good .holders)) (own-in 128 (length (a .lows .now)) (Allowed (a .lows .now) (a .highs .now)) (a .by .now) (a .out .now) (triedOf (a .fixed)) (a .i .0) (s .pre .2) (s .pre .1) (o .result .0) (set (a .by .now) (o .result .0) 0) (o .ensures) refl)
+    own-in 128 (length (a .lows .now)) (Allowed (a .lows .now) (a .highs .now)) (a .by .now) (a .out .now) (triedOf (a .firm .fixed)) (a .i .0) (c .output-of .result .0) (s .pre .2) (s .pre .1) (c .output-of .ensures)
 
-below-requires : tie.Need-below-requires
+loop-holds : tie.Need-loop-holds Inv-loop μ-loop
+loop-holds c =
+    let s = c .before .before .before .before .before .before .before .before .before in
+    let a = s .args in
+    let d = c .dead-for in
+    lower-start 128 (length (a .lows .now)) (Allowed (a .lows .now) (a .highs .now)) (a .by .now) (a .out .now) (triedOf (a .firm .fixed)) (triedOf (a .firm .dead)) (triedOf (d .result)) (c .before .output-of .result .0) (a .i .0) (s .pre .2) (s .pre .1) (c .before .output-of .ensures) (s .pre .3) (d .ensures)
+
+below-requires : tie.Need-below-requires Inv-loop μ-loop
 below-requires c κs =
-    let s = c .before .before .before .before .before .before .before .before .before .before .before .before in
+    let s = c .before .before .before .before .before .before .before .before .before .before in
     let a = s .args in
-    let o = c .before .before .before .before .before .before .output-of in
-    own-in 128 (length (a .lows .now)) (Allowed (a .lows .now) (a .highs .now)) (a .by .now) (a .out .now) (triedOf (a .fixed)) (a .i .0) (s .pre .2) (s .pre .1) (o .result .0) (set (a .by .now) (o .result .0) 0) (o .ensures) refl
+    let l = c .loop in
+    lower-own 128 (length (a .lows .now)) (Allowed (a .lows .now) (a .highs .now)) (a .out .now) (l .by) (l .out) (triedOf (a .firm .fixed)) (triedOf (l .dead)) (l .own .0) (a .i .0) (s .pre .1) (l .inv)
 
-blocked-requires : tie.Need-blocked-requires
-blocked-requires c κs =
-    let s = c .before .before .before .before .before .before .before .before .before .before .before .before .before in
-    let a = s .args in
-    let o = c .before .before .before .before .before .before .before .output-of in
-    let r = c .before .before .before .before .release in
-    (s .pre .0, ports-of 128 (length (a .lows .now)) (Allowed (a .lows .now) (a .highs .now)) (r .last .0) (a .out .now) (freed-matching 128 (length (a .lows .now)) (Allowed (a .lows .now) (a .highs .now)) (a .by .now) (a .out .now) (triedOf (a .fixed)) (a .i .0) (s .pre .2) (s .pre .1) (o .result .0) (r .last .0) (o .ensures) (r .ensures)), own-in 128 (length (a .lows .now)) (Allowed (a .lows .now) (a .highs .now)) (a .by .now) (a .out .now) (triedOf (a .fixed)) (a .i .0) (s .pre .2) (s .pre .1) (o .result .0) (set (a .by .now) (o .result .0) 0) (o .ensures) refl)
+next-requires : tie.Need-next-requires Inv-loop μ-loop
+next-requires c κs = search needs
 
-join-requires : tie.Need-join-requires
-join-requires c κs =
-    let s = c .before .before .before .before .before .before .before .before .before .before .before .before .before .before .before .before .before in
-    let a = s .args in
-    let o = c .before .before .before .before .before .before .before .before .before .before .before .output-of in
-    let r = c .before .before .before .before .before .before .before .before .release in
-    let g = freed-matching 128 (length (a .lows .now)) (Allowed (a .lows .now) (a .highs .now)) (a .by .now) (a .out .now) (triedOf (a .fixed)) (a .i .0) (s .pre .2) (s .pre .1) (o .result .0) (r .last .0) (o .ensures) (r .ensures) in
-    (g .holders, g .outputs, lt-of-lt-of-le (s .pre .1) (s .pre .0 .few), own-in 128 (length (a .lows .now)) (Allowed (a .lows .now) (a .highs .now)) (a .by .now) (a .out .now) (triedOf (a .fixed)) (a .i .0) (s .pre .2) (s .pre .1) (o .result .0) (set (a .by .now) (o .result .0) 0) (o .ensures) refl)
+enum-told : tie.Need-enum-told Inv-loop μ-loop
+enum-told c = search needs
 
-mark-requires : tie.Need-mark-requires
+enum-told-2 : tie.Need-enum-told-2 Inv-loop μ-loop
+enum-told-2 c = search needs
+
+mark-requires : tie.Need-mark-requires Inv-loop μ-loop
 mark-requires c κs =
-    let s = c .before .before .before .before .before .before .before .before .before .before .before .before .before .before .before .before .before .before .before .before .before .before in
+    let s = c .before .before .before .before .before .before .before .before .before .before .before .before .before .before in
     let a = s .args in
-    let o = c .before .before .before .before .before .before .before .before .before .before .before .before .before .before .before .before .output-of in
-    own-in 128 (length (a .lows .now)) (Allowed (a .lows .now) (a .highs .now)) (a .by .now) (a .out .now) (triedOf (a .fixed)) (a .i .0) (s .pre .2) (s .pre .1) (o .result .0) (set (a .by .now) (o .result .0) 0) (o .ensures) refl
+    let l = c .before .before .before .before .loop in
+    lower-own 128 (length (a .lows .now)) (Allowed (a .lows .now) (a .highs .now)) (a .out .now) (l .by) (l .out) (triedOf (a .firm .fixed)) (triedOf (l .dead)) (l .own .0) (a .i .0) (s .pre .1) (l .inv)
 
-same-length : tie.Need-same-length
-same-length c =
-    let s = c .before .before .before .before .before .before .before .before .before .before .before .before .before .before .before .before .before .before .before .before .before .before .before in
-    let a = s .args in
-    let o = c .before .before .before .before .before .before .before .before .before .before .before .before .before .before .before .before .before .output-of in
-    let r = c .before .before .before .before .before .before .before .before .before .before .before .before .before .before .release in
-    let j = c .before .before .before .before .before .join in
-    ap length (j .ensures .0) ∙ length-set (r .last .0) _ _ ∙ ap length (r .ensures) ∙ length-set (a .by .now) _ _
-
-same-length-2 : tie.Need-same-length-2
-same-length-2 c =
-    let s = c .before .before .before .before .before .before .before .before .before .before .before .before .before .before .before .before .before .before .before .before .before .before .before in
-    let a = s .args in
-    let o = c .before .before .before .before .before .before .before .before .before .before .before .before .before .before .before .before .before .output-of in
-    let j = c .before .before .before .before .before .join in
-    ap length (j .ensures .1) ∙ length-set (a .out .now) _ _
-
-returns : tie.Need-returns
-returns c =
-    let s = c .before .before .before .before .before .before .before .before .before .before .before .before .before .before .before .before .before .before .before .before .before .before .before in
-    let a = s .args in
-    let o = c .before .before .before .before .before .before .before .before .before .before .before .before .before .before .before .before .before .output-of in
-    let r = c .before .before .before .before .before .before .before .before .before .before .before .before .before .before .release in
-    let j = c .before .before .before .before .before .join in
-    let w = c .before .before .before .before .before .before .before .before .before .before .before .before .before .before .before .before .row-of in
-    let b = c .before .before .before .before .before .before .before .before .before .before .below in
-    kept-settled 128 (length (a .lows .now)) (Allowed (a .lows .now) (a .highs .now)) (a .by .now) (a .out .now) (triedOf (a .fixed)) (a .i .0) (s .pre .2) (s .pre .1) (o .result .0) (r .last .0) (o .ensures) (r .ensures) (outputsOf (w .result)) (outputsOf (b .result)) _ (j .last .0) (j .last .1 .0) (s .pre .0 .few) (λ k e. subst (λ (q : ℕ). In q k) (sym (w .ensures)) e) (b .ensures) (c .before .before .before .before .before .before .before .before .before .blocked .ensures (c .before .before .before .before .before .before .before .before .if1 .taken)) (j .ensures .0) (j .ensures .1) (c .mark .ensures)
-
-every-requires : tie.Need-every-requires
-every-requires c κs = tt
-
-without-requires : tie.Need-without-requires
-without-requires c κs =
-    let s = c .before .before .before .before .before .before .before .before .before .before .before .before .before .before .before .before .before .before in
-    let a = s .args in
-    let o = c .before .before .before .before .before .before .before .before .before .before .before .before .output-of in
-    own-in 128 (length (a .lows .now)) (Allowed (a .lows .now) (a .highs .now)) (a .by .now) (a .out .now) (triedOf (a .fixed)) (a .i .0) (s .pre .2) (s .pre .1) (o .result .0) (set (a .by .now) (o .result .0) 0) (o .ensures) refl
-
-ask-input-requires : tie.Need-ask-input-requires
-ask-input-requires c κs =
-    let s = c .before .before .before .before .before .before .before .before .before .before .before .before .before .before .before .before .before .before .before in
-    let a = s .args in
-    let o = c .before .before .before .before .before .before .before .before .before .before .before .before .before .output-of in
-    let r = c .before .before .before .before .before .before .before .before .before .before .release in
-    (s .pre .0, own-asks 128 (length (a .lows .now)) (Allowed (a .lows .now) (a .highs .now)) (a .by .now) (a .out .now) (triedOf (a .fixed)) (a .i .0) (s .pre .2) (s .pre .1) (o .result .0) (r .last .0) (o .ensures) (r .ensures) (outputsOf (c .before .every .result)) (outputsOf (c .without .result)) (c .before .every .ensures) (c .without .ensures))
-
-output-of-requires-2 : tie.Need-output-of-requires-2
-output-of-requires-2 c κs = let s = c .before .before .before .before .before .before .before .before .before .before .before .before .before .before .before .before .before .before .before .before .before .before .before .before .before in let q = c .before .before .before .before .before .ask-input in has-place 128 (length (s .args .lows .now)) (s .args .i .0) (q .last .1 .1 .1 .0) (s .pre .0 .few) (s .pre .1) (q .ensures .good .outputs)
-
-mark-requires-2 : tie.Need-mark-requires-2
+mark-requires-2 : tie.Need-mark-requires-2 Inv-loop μ-loop
 mark-requires-2 c κs =
+    let s = c .before .before .before .before .before .before .before .before .before .before .before .before .before .before .before in
+    let a = s .args in
+    let l = c .before .before .before .before .before .loop in
+    lower-own 128 (length (a .lows .now)) (Allowed (a .lows .now) (a .highs .now)) (a .out .now) (l .by) (l .out) (triedOf (a .firm .fixed)) (triedOf (l .dead)) (l .own .0) (a .i .0) (s .pre .1) (l .inv)
+
+same-length : tie.Need-same-length Inv-loop μ-loop
+same-length c = c .before .before .before .before .before .before .loop .inv .post .settled .good .holders ∙ sym (c .before .before .before .before .before .before .before .before .before .before .before .before .before .before .before .before .pre .2 .good .holders)
+
+same-length-2 : tie.Need-same-length-2 Inv-loop μ-loop
+same-length-2 c = c .before .before .before .before .before .before .loop .inv .post .settled .good .outputs ∙ sym (c .before .before .before .before .before .before .before .before .before .before .before .before .before .before .before .before .pre .2 .good .outputs)
+
+returns : tie.Need-returns Inv-loop μ-loop
+returns c =
+    let s = c .before .before .before .before .before .before .before .before .before .before .before .before .before .before .before .before in
+    let a = s .args in
+    let l = c .before .before .before .before .before .before .loop in
+    let r = c .before .before .before .before .before .before .before .before .before .before .before .row-of in
+    let b = c .before .before .before .before .before .below in
+    let q = c .before .before .before .before .next in
+    lower-ends 128 (length (a .lows .now)) (Allowed (a .lows .now) (a .highs .now)) (a .out .now) (l .by) (l .out) (triedOf (a .firm .fixed)) (triedOf (l .dead)) (l .own .0) (a .i .0) (s .pre .1) (l .inv) (outputsOf (r .result)) (outputsOf (b .result)) (b .ensures) (λ k e. subst (λ (y : ℕ). In y k) (sym (r .ensures)) e) (triedOf (c .before .mark .result)) (c .before .mark .ensures) (triedOf (c .mark2 .result))
+    (none-left 128 (outputsOf (b .result)) (triedOf (l .dead)) (q .result) (q .ensures) (c .before .before .enum-told2 .given .1)) (c .mark2 .ensures)
+
+ask-lower-requires : tie.Need-ask-lower-requires Inv-loop μ-loop
+ask-lower-requires c κs =
+    let s = c .before .before .before .before .before .before .before .before .before .before .before .before .before .before .before .before in
+    let a = s .args in
+    let l = c .before .before .before .before .before .before .loop in
+    let r = c .before .before .before .before .before .before .before .before .before .before .before .row-of in
+    let b = c .before .before .before .before .before .below in
+    (s .pre .0, lower-may 128 (length (a .lows .now)) (Allowed (a .lows .now) (a .highs .now)) (a .out .now) (l .by) (l .out) (triedOf (a .firm .fixed)) (triedOf (l .dead)) (l .own .0) (a .i .0) (s .pre .1) (l .inv) (outputsOf (r .result)) (outputsOf (b .result)) (b .ensures) (λ k e. subst (λ (y : ℕ). In y k) (r .ensures) e))
+
+enum-known-a : tie.Need-enum-known-a Inv-loop μ-loop
+enum-known-a c = search needs
+
+mark-requires-3 : tie.Need-mark-requires-3 Inv-loop μ-loop
+mark-requires-3 c κs =
+    let s = c .before .before .before .before .before .before .before .before .before .before .before .before .before .before .before .before .before .before .before .before .before .before .before .before in
+    let a = s .args in
+    let l = c .before .before .before .before .before .before .before .before .before .before .before .before .before .before .loop in
+    lower-own 128 (length (a .lows .now)) (Allowed (a .lows .now) (a .highs .now)) (a .out .now) (l .by) (l .out) (triedOf (a .firm .fixed)) (triedOf (l .dead)) (l .own .0) (a .i .0) (s .pre .1) (l .inv)
+
+mark-requires-4 : tie.Need-mark-requires-4 Inv-loop μ-loop
+mark-requires-4 c κs =
+    let s = c .before .before .before .before .before .before .before .before .before .before .before .before .before .before .before .before .before .before .before .before .before .before .before .before .before in
+    let a = s .args in
+    let l = c .before .before .before .before .before .before .before .before .before .before .before .before .before .before .before .loop in
+    lower-own 128 (length (a .lows .now)) (Allowed (a .lows .now) (a .highs .now)) (a .out .now) (l .by) (l .out) (triedOf (a .firm .fixed)) (triedOf (l .dead)) (l .own .0) (a .i .0) (s .pre .1) (l .inv)
+
+same-length-3 : tie.Need-same-length-3 Inv-loop μ-loop
+same-length-3 c =
     let s = c .before .before .before .before .before .before .before .before .before .before .before .before .before .before .before .before .before .before .before .before .before .before .before .before .before .before in
     let a = s .args in
-    let o = c .before .before .before .before .before .before .before .before .before .before .before .before .before .before .before .before .before .before .before .before .output-of in
-    let r = c .before .before .before .before .before .before .before .before .before .before .before .before .before .before .before .before .before .release in
-    let q = c .before .before .before .before .before .before .ask-input in
-    subst (λ (k : ℕ). k < 128) (sym (c .output-of2 .ensures)) (asked-place 128 (length (a .lows .now)) (Allowed (a .lows .now) (a .highs .now)) (a .by .now) (a .out .now) (triedOf (a .fixed)) (a .i .0) (s .pre .2) (s .pre .1) (o .result .0) (r .last .0) (o .ensures) (r .ensures) (q .last .1 .1 .0) (q .last .1 .1 .1 .0) (q .result .moved) (triedOf (q .result .tried)) (q .ensures))
+    let l = c .before .before .before .before .before .before .before .before .before .before .before .before .before .before .before .before .loop in
+    let q = c .before .before .before .before .before .before .before .before .before .ask-lower in
+    lowered-holders 128 (length (a .lows .now)) (Allowed (a .lows .now) (a .highs .now)) (l .by) (l .out) (triedOf (l .dead)) _ (l .own .0) (a .i .0) (q .last .1 .1 .0) (q .last .1 .1 .1 .0) (l .inv .post .settled .good) (q .result) (q .ensures) ∙ sym (s .pre .2 .good .holders)
 
-same-length-3 : tie.Need-same-length-3
-same-length-3 c = c .before .before .before .before .before .before .before .ask-input .ensures .good .holders ∙ sym (c .before .before .before .before .before .before .before .before .before .before .before .before .before .before .before .before .before .before .before .before .before .before .before .before .before .before .before .pre .2 .good .holders)
-
-same-length-4 : tie.Need-same-length-4
-same-length-4 c = c .before .before .before .before .before .before .before .ask-input .ensures .good .outputs ∙ sym (c .before .before .before .before .before .before .before .before .before .before .before .before .before .before .before .before .before .before .before .before .before .before .before .before .before .before .before .pre .2 .good .outputs)
-
-returns-2 : tie.Need-returns-2
-returns-2 c =
-    let s = c .before .before .before .before .before .before .before .before .before .before .before .before .before .before .before .before .before .before .before .before .before .before .before .before .before .before .before in
+same-length-4 : tie.Need-same-length-4 Inv-loop μ-loop
+same-length-4 c =
+    let s = c .before .before .before .before .before .before .before .before .before .before .before .before .before .before .before .before .before .before .before .before .before .before .before .before .before .before in
     let a = s .args in
-    let o = c .before .before .before .before .before .before .before .before .before .before .before .before .before .before .before .before .before .before .before .before .before .output-of in
-    let r = c .before .before .before .before .before .before .before .before .before .before .before .before .before .before .before .before .before .before .release in
-    let q = c .before .before .before .before .before .before .before .ask-input in
-    asked-settled 128 (length (a .lows .now)) (Allowed (a .lows .now) (a .highs .now)) (a .by .now) (a .out .now) (triedOf (a .fixed)) (a .i .0) (s .pre .2) (s .pre .1) (o .result .0) (r .last .0) (o .ensures) (r .ensures) (q .last .1 .1 .0) (q .last .1 .1 .1 .0) (q .result .moved) (triedOf (q .result .tried)) _ (q .ensures)
-    (subst (λ (k : ℕ). Marked (triedOf (a .fixed)) k (triedOf (c .mark2 .result))) (c .before .output-of2 .ensures) (c .mark2 .ensures))
+    let l = c .before .before .before .before .before .before .before .before .before .before .before .before .before .before .before .before .loop in
+    let q = c .before .before .before .before .before .before .before .before .before .ask-lower in
+    lowered-outputs 128 (length (a .lows .now)) (Allowed (a .lows .now) (a .highs .now)) (l .by) (l .out) (triedOf (l .dead)) _ (l .own .0) (a .i .0) (q .last .1 .1 .0) (q .last .1 .1 .1 .0) (l .inv .post .settled .good) (q .result) (q .ensures) ∙ sym (s .pre .2 .good .outputs)
+
+returns-2 : tie.Need-returns-2 Inv-loop μ-loop
+returns-2 c =
+    let s = c .before .before .before .before .before .before .before .before .before .before .before .before .before .before .before .before .before .before .before .before .before .before .before .before .before .before in
+    let a = s .args in
+    let l = c .before .before .before .before .before .before .before .before .before .before .before .before .before .before .before .before .loop in
+    let r = c .before .before .before .before .before .before .before .before .before .before .before .before .before .before .before .before .before .before .before .before .before .row-of in
+    let b = c .before .before .before .before .before .before .before .before .before .before .before .before .before .before .before .below in
+    let q = c .before .before .before .before .before .before .before .before .before .ask-lower in
+    let x = c .before .before .before .a .given in
+    lower-ends-stuck 128 (length (a .lows .now)) (Allowed (a .lows .now) (a .highs .now)) (a .out .now) (l .by) (l .out) (triedOf (a .firm .fixed)) (triedOf (l .dead)) (l .own .0) (a .i .0) (s .pre .1) (l .inv) (outputsOf (r .result)) (outputsOf (b .result)) (b .ensures) (λ k e. subst (λ (y : ℕ). In y k) (sym (r .ensures)) e) (triedOf (c .before .mark3 .result)) (c .before .mark3 .ensures) (q .last .1 .1 .0) (q .last .1 .1 .1 .0) (x .0 .0) (triedOf (c .mark4 .result))
+    (subst (Lowered 128 (length (a .lows .now)) (Allowed (a .lows .now) (a .highs .now)) (l .by) (l .out) (triedOf (l .dead)) (outputsOf (b .result)) (l .own .0) (a .i .0) (q .last .1 .1 .0) (q .last .1 .1 .1 .0)) (x .1) (q .ensures)) (c .mark4 .ensures)
+
+enum-known-a-2 : tie.Need-enum-known-a-2 Inv-loop μ-loop
+enum-known-a-2 c = search needs
+
+loop-less : tie.Need-loop-less Inv-loop μ-loop
+loop-less c =
+    let s = c .before .before .before .before .before .before .before .before .before .before .before .before .before .before .before .before .before .before .before .before .before .before .before .before .before in
+    let a = s .args in
+    let l = c .before .before .before .before .before .before .before .before .before .before .before .before .before .before .before .loop in
+    let r = c .before .before .before .before .before .before .before .before .before .before .before .before .before .before .before .before .before .before .before .before .row-of in
+    let b = c .before .before .before .before .before .before .before .before .before .before .before .before .before .before .below in
+    let q = c .before .before .before .before .before .before .before .before .ask-lower in
+    let x = c .before .before .a2 .given in
+    lower-again 128 (length (a .lows .now)) (Allowed (a .lows .now) (a .highs .now)) (a .out .now) (l .by) (l .out) (triedOf (a .firm .fixed)) (triedOf (l .dead)) (l .own .0) (a .i .0) (s .pre .1) (l .inv) (outputsOf (r .result)) (outputsOf (b .result)) (b .ensures) (q .last .1 .1 .0) (q .last .1 .1 .1 .0) (x .0 .0)
+    (subst (Lowered 128 (length (a .lows .now)) (Allowed (a .lows .now) (a .highs .now)) (l .by) (l .out) (triedOf (l .dead)) (outputsOf (b .result)) (l .own .0) (a .i .0) (q .last .1 .1 .0) (q .last .1 .1 .1 .0)) (x .1) (q .ensures)) .1
+
+loop-again : tie.Need-loop-again Inv-loop μ-loop
+loop-again c =
+    let s = c .before .before .before .before .before .before .before .before .before .before .before .before .before .before .before .before .before .before .before .before .before .before .before .before .before in
+    let a = s .args in
+    let l = c .before .before .before .before .before .before .before .before .before .before .before .before .before .before .before .loop in
+    let r = c .before .before .before .before .before .before .before .before .before .before .before .before .before .before .before .before .before .before .before .before .row-of in
+    let b = c .before .before .before .before .before .before .before .before .before .before .before .before .before .before .below in
+    let q = c .before .before .before .before .before .before .before .before .ask-lower in
+    let x = c .before .before .a2 .given in
+    lower-again 128 (length (a .lows .now)) (Allowed (a .lows .now) (a .highs .now)) (a .out .now) (l .by) (l .out) (triedOf (a .firm .fixed)) (triedOf (l .dead)) (l .own .0) (a .i .0) (s .pre .1) (l .inv) (outputsOf (r .result)) (outputsOf (b .result)) (b .ensures) (q .last .1 .1 .0) (q .last .1 .1 .1 .0) (x .0 .0)
+    (subst (Lowered 128 (length (a .lows .now)) (Allowed (a .lows .now) (a .highs .now)) (l .by) (l .out) (triedOf (l .dead)) (outputsOf (b .result)) (l .own .0) (a .i .0) (q .last .1 .1 .0) (q .last .1 .1 .1 .0)) (x .1) (q .ensures)) .0
 
 pub settle-spec : {M : Type 1} → statement M
 settle-spec =
     tie.close
     (tie.spec
-    output-of-requires
+    Inv-loop
+    μ-loop
     row-of-requires
-    release-requires
+    output-of-requires
+    dead-for-requires
+    loop-holds
     below-requires
-    blocked-requires
-    join-requires
+    next-requires
+    enum-told
+    enum-told-2
     mark-requires
+    mark-requires-2
     same-length
     same-length-2
     returns
-    every-requires
-    without-requires
-    ask-input-requires
-    output-of-requires-2
-    mark-requires-2
+    ask-lower-requires
+    enum-known-a
+    mark-requires-3
+    mark-requires-4
     same-length-3
     same-length-4
-    returns-2)
+    returns-2
+    enum-known-a-2
+    loop-less
+    loop-again)
