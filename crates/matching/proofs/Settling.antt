@@ -7,8 +7,8 @@ use native.Mathlib.Decide.{decLt}
 use native.Mathlib.Omega.{arith}
 use lib.ListN.{length, getD, set}
 use lib.Seq.{getD-set-same, set-getD}
-use Rattle.labels.specs.Label.{In, Sub, Marked, Cleared, Below}
-use Rattle.labels.proofs.Digits.{same-or}
+use Rattle.labels.specs.Label.{In, Sub, Marked, Cleared, Below, absent}
+use Rattle.labels.proofs.Digits.{same-or, absent-less}
 use Rattle.rules.specs.First.{Agree}
 use Rattle.matching.specs.declared.Asked.{Asked}
 use Rattle.matching.specs.declared.Asked.the-variants.{Freed, Stuck}
@@ -110,12 +110,12 @@ module _ (w n : ℕ) (E : ℕ → ℕ → Type 0) (by out : List ℕ) (fixed i o
 
   module _ (dead : ℕ) (d : Dead E by fixed dead) (loose : In dead own → ⊥) where
     -- it may ask for a lower one
-    pub may-lower : (row lower : ℕ) → ((k : ℕ) → In row k → E i k) → Below row own lower → Lowering w n E by out dead lower own i
-    may-lower row lower may b = record {
+    pub may-lower : (some : ℕ) → ((k : ℕ) → In some k → E i k) → Lowering w n E by out dead some own i
+    may-lower some may = record {
       good = s .good;
       here = here;
       held = own-held;
-      edge = λ k x. may k (b .less k x);
+      edge = may;
       loose = loose;
       all = λ k x. ⊎-elim (λ y. let h = fixed-held k y in (h .0, h .2)) (λ (y : Stays E by dead k). (y .0, y .1)) (d .closed k x);
     }
@@ -128,9 +128,18 @@ module _ (w n : ℕ) (E : ℕ → ℕ → Type 0) (by out : List ℕ) (fixed i o
     pub lower-dead : Closed E (set by own 0) fixed dead × Sub fixed dead
     lower-dead = (dead-closed, d .more)
 
-    -- none of them can be had
-    pub lower-stuck : (lower u : ℕ) (by' out' : List ℕ) → Unmoved E (set by own 0) out dead lower by' out' u → Closed E (set by own 0) fixed u × Sub fixed u
-    lower-stuck lower u by' out' m = (closed-through E (set by own 0) fixed dead u (m .more) dead-closed (m .closed), λ k x. m .more k (d .more k x))
+    -- none of these can be had: they are dead too
+    pub stuck-dead : (some u : ℕ) → Unmoved E (set by own 0) out dead some (set by own 0) out u → Dead E by fixed u × (In u own → ⊥)
+    stuck-dead some u m = (
+      record {
+        more = λ k x. m .more k (d .more k x);
+        closed = λ k x. ⊎-elim (λ y. inl y) (λ (y : Stays E (set by own 0) u k). inr (y .0, freed-back by own k (y .0) (held-in by own i own-held) (y .1) .1, y .2)) (c k x);
+      },
+      λ x. ⊎-elim own-loose (λ (y : Stays E (set by own 0) u own). freed-back by own own (y .0) (held-in by own i own-held) (y .1) .0 refl) (c own x),
+    )
+      where
+        c : Closed E (set by own 0) fixed u
+        c = closed-through E (set by own 0) fixed dead u (m .more) dead-closed (m .closed)
 
     -- it has a lower one: the inputs before it are settled as they were
     module _ (by' out' : List ℕ) (g : Matching w n E by' out') (o : Gained n (set by own 0) out dead i by' out') where
@@ -160,14 +169,15 @@ module _ (w n : ℕ) (E : ℕ → ℕ → Type 0) (by out : List ℕ) (fixed i o
         beyond = o .around .beyond;
       }
 
+  -- it holds nothing once its own is given up
+  pub lower-idle : Holds (set by own 0) i → ⊥
+  lower-idle = freed-idle w n E by out (s .good) own i own-held
+
   -- the lower ones are in a closed set: its own is the best, and fixed
   module _ (u row lower f v : ℕ) (c : Closed E (set by own 0) fixed u × Sub fixed u) (shut : (k : ℕ) → E i k → In row k) (b : Below row own lower) (sub : Sub lower u)
       (mf : Marked fixed own f) (mv : Marked u own v) where
     freed-good' : Matching w n E (set by own 0) out
     freed-good' = freed-good w n E by out (s .good) own own-in
-
-    own-idle : Holds (set by own 0) i → ⊥
-    own-idle = freed-idle w n E by out (s .good) own i own-held
 
     still-held : (k : ℕ) → In fixed k → (m : ℕ) × (m < i) × Held (set by own 0) k m
     still-held k x = let h = fixed-held k x in (h .0, h .1, freed-other by own k (h .0) (λ e. own-loose (subst (In fixed) e x)) (h .2))
@@ -184,7 +194,7 @@ module _ (w n : ℕ) (E : ℕ → ℕ → Type 0) (by out : List ℕ) (fixed i o
       where
         go : Dec (p i < joined out i) → joined out i ≤ p i
         go (yes l) =
-            absurd (not-there w n E (set by own 0) out fixed u i p freed-good' here own-idle (c .0) fits (λ k x. let h = still-held k x in (h .0, h .2)) (keeps p a)
+            absurd (not-there w n E (set by own 0) out fixed u i p freed-good' here lower-idle (c .0) fits (λ k x. let h = still-held k x in (h .0, h .2)) (keeps p a)
             (sub (p i) (b .all (p i) (omega (arith, is)) (shut (p i) (fits .used i here)))))
         go (no l) = omega arith
 
@@ -231,41 +241,36 @@ module _ (w n : ℕ) (E : ℕ → ℕ → Type 0) (out₀ by out : List ℕ) (fi
   lower-own = own-in w n E by out fixed i own (l .post .settled) here (l .is)
 
   module _ (row lower : ℕ) (b : Below row own lower) where
-    pub lower-may : ((k : ℕ) → In row k → E i k) → Lowering w n E by out dead lower own i
-    lower-may may = may-lower w n E by out fixed i own (l .post .settled) here (l .is) dead (l .dead-is) (l .loose) row lower may b
+    pub lower-may : (some : ℕ) → Sub some lower → ((k : ℕ) → In row k → E i k) → Lowering w n E by out dead some own i
+    lower-may some sub may = may-lower w n E by out fixed i own (l .post .settled) here (l .is) dead (l .dead-is) (l .loose) some (λ k x. may k (b .less k (sub k x)))
 
-    -- it has a lower one
-    pub lower-again : (by' out' : List ℕ) (g : Given) → Lowered w n E by out dead lower own i by' out' (Freed g) → Lower w n E out₀ by' out' fixed fixed (g .output .0) i × (g .output .0 < own)
-    lower-again by' out' g m = (record { post = settled-more w n E out₀ by out by' out' fixed i fixed i (l .post) t; is = sym (m .2); dead-is = y .0; loose = y .1 }, b .small (g .output .0) (m .3))
+    -- it has a lower one, and what was dead is
+    pub lower-again : (some : ℕ) (by' out' : List ℕ) (g : Given) → Sub some lower → Lowered w n E by out dead some own i by' out' (Freed g) → Lower w n E out₀ by' out' fixed dead (g .output .0) i × (g .output .0 < own)
+    lower-again some by' out' g sub m = (record { post = settled-more w n E out₀ by out by' out' fixed i fixed i (l .post) t; is = sym (m .2); dead-is = dead-moved; loose = loose }, b .small (g .output .0) (sub (g .output .0) (m .3)))
       where
         t : SettledPost w n E out by' out' fixed i
         t = lower-settled w n E by out fixed i own (l .post .settled) here (l .is) dead (l .dead-is) (l .loose) by' out' (m .0) (m .1)
 
-        y : Dead E by' fixed fixed × (In fixed (g .output .0) → ⊥)
-        y = dead-still w n E by' out' fixed i (g .output .0) (t .settled) here (sym (m .2)) fixed fixed (dead-start E by' fixed) (inr refl)
+        dead-moved : Dead E by' fixed dead
+        dead-moved = record {
+          more = l .dead-is .more;
+          closed = λ k x. ⊎-elim (λ y. inl y) (λ (y : Stays E by dead k). inr (y .0, m .1 .around .still k x ∙ freed-other by own k (y .0) (λ e. l .loose (subst (In dead) e x)) (y .1), y .2)) (l .dead-is .closed k x);
+        }
 
-    module _ (shut : (k : ℕ) → E i k → In row k) (f : ℕ) (mf : Marked fixed own f) where
-      -- the set u, which is closed, has all lower ones
-      ends : (u v : ℕ) → Closed E (set by own 0) fixed u × Sub fixed u → Sub lower u → Marked u own v → SettledPost w n E out₀ by out f (i + 1) × Dead E by f v
-      ends u v c sub mv = (
-        record { settled = own-settled w n E by out fixed i own (l .post .settled) here (l .is) u row lower f v c shut b sub mf mv; beyond = l .post .beyond },
-        own-dead w n E by out fixed i own (l .post .settled) here (l .is) u row lower f v c shut b sub mf mv,
-      )
+        loose : In dead (g .output .0) → ⊥
+        loose x = lower-idle w n E by out fixed i own (l .post .settled) here (l .is) (g .output .0, sym (m .1 .around .still (g .output .0) x) ∙ subst (λ (k : ℕ). Held by' k i) (m .2) (m .1 .holds))
 
-      -- all lower ones are dead
-      pub lower-ends : (v : ℕ) → Sub lower dead → Marked dead own v → SettledPost w n E out₀ by out f (i + 1) × Dead E by f v
-      lower-ends v = ends dead v (lower-dead w n E by out fixed i own (l .post .settled) here (l .is) dead (l .dead-is) (l .loose))
+    -- none of them can be had: they are dead too, and there is one more than were
+    pub lower-more : (some j : ℕ) (by' out' : List ℕ) (u : Tried) → In some j → j < w → (In dead j → ⊥) → Lowered w n E by out dead some own i by' out' (Stuck u) → Lower w n E out₀ by' out' fixed (triedOf u) own i × (absent w (triedOf u) < absent w dead)
+    lower-more some j by' out' u here' small new m = (rw (m .0, m .1) (record { post = l .post; is = l .is; dead-is = y .0; loose = y .1 }), absent-less dead (triedOf u) (m .2 .more) w j small new (m .2 .all j here'))
+      where
+        y : Dead E by fixed (triedOf u) × (In (triedOf u) own → ⊥)
+        y = stuck-dead w n E by out fixed i own (l .post .settled) here (l .is) dead (l .dead-is) (l .loose) some (triedOf u) (m .2)
 
-      -- none of them can be had
-      pub lower-ends-stuck : (by' out' : List ℕ) (u : Tried) (v : ℕ) → Lowered w n E by out dead lower own i by' out' (Stuck u) → Marked (triedOf u) own v → SettledPost w n E out₀ by' out' f (i + 1) × Dead E by' f v
-      lower-ends-stuck by' out' u v m mv = rw (m .0, m .1) (ends (triedOf u) v (lower-stuck w n E by out fixed i own (l .post .settled) here (l .is) dead (l .dead-is) (l .loose) lower (triedOf u) (set by own 0) out (m .2)) (m .2 .all) mv)
-
--- the tables stay as long as they were
-module _ (w n : ℕ) (E : ℕ → ℕ → Type 0) (by out : List ℕ) (dead lower own i : ℕ) (by' out' : List ℕ) (g : Matching w n E by out) where
-  pub lowered-holders : (a : Asked) → Lowered w n E by out dead lower own i by' out' a → length by' ≡ w
-  lowered-holders (Freed x) m = m .0 .holders
-  lowered-holders (Stuck u) m = ap length (m .0) ∙ g .holders
-
-  pub lowered-outputs : (a : Asked) → Lowered w n E by out dead lower own i by' out' a → length out' ≡ w
-  lowered-outputs (Freed x) m = m .0 .outputs
-  lowered-outputs (Stuck u) m = ap length (m .1) ∙ g .outputs
+    -- all lower ones are dead: its own is the best, and fixed
+    pub lower-ends : (f v : ℕ) → ((k : ℕ) → E i k → In row k) → Sub lower dead → Marked fixed own f → Marked dead own v → SettledPost w n E out₀ by out f (i + 1) × Dead E by f v
+    lower-ends f v shut sub mf mv =
+        let c = lower-dead w n E by out fixed i own (l .post .settled) here (l .is) dead (l .dead-is) (l .loose) in (
+          record { settled = own-settled w n E by out fixed i own (l .post .settled) here (l .is) dead row lower f v c shut b sub mf mv; beyond = l .post .beyond },
+          own-dead w n E by out fixed i own (l .post .settled) here (l .is) dead row lower f v c shut b sub mf mv,
+        )

@@ -11,7 +11,7 @@ ghost use mathlib.Core.Path.{_≡_};
 ghost use mathlib.Core.Logic.{_⊎_};
 ghost use Prim.Native.Nat.{ℕ, _+_, _<_, _≤_};
 ghost use lib.ListN.{length, set};
-ghost use Rattle.labels.specs.Label.{In, Marked, Lowest, Union};
+ghost use Rattle.labels.specs.Label.{In, Sub, Marked, Lowest, Union};
 ghost use Rattle.labels.specs.Wide.{outputsOf};
 ghost use Rattle.matching.specs.Tables.{triedOf, rowOf, Allowed, Rows, joined};
 ghost use Rattle.matching.specs.Search.{Ports, Reaches, Leads, AskPre, Wave, AskPost, Movable, Mover, Handed, Free};
@@ -271,7 +271,7 @@ fn settle_from(
 }
 
 // Input i takes the first output that leaves the inputs after it a setting, and that is fixed: it asks for a lower one than its own
-// until none can be had. What led nowhere for the input before leads nowhere now, unless it leads to the output of i.
+// until all of them lead nowhere. It asks for the lowest alone, which is often to be had, and after that one for all at once.
 fn settle(
     lows: &[u64],
     highs: &[u64],
@@ -287,29 +287,40 @@ fn settle(
     let fixed = firm.fixed;
     let mut own = output_of(out, i);
     let mut dead = dead_for(firm, own);
+    let mut alone = true;
     loop {
         let lower = row.below(own);
         let f = dead.next(lower);
-        let Found::At(_) = f else {
+        let Found::At(lowest) = f else {
             return Prefix {
                 fixed: fixed.mark(own),
                 dead: dead.mark(own),
             };
         };
-        let a = ask_lower(lows, highs, by, out, dead, lower, own, i);
+        let some = lowest_or_all(lower, lowest, alone);
+        let a = ask_lower(lows, highs, by, out, dead, some, own, i);
         match a {
             Asked::Stuck(seen) => {
-                return Prefix {
-                    fixed: fixed.mark(own),
-                    dead: seen.mark(own),
-                };
+                dead = seen;
+                alone = false;
             }
             Asked::Freed(g) => {
                 own = g.output;
-                dead = fixed;
+                alone = true;
             }
         }
     }
+}
+
+// The lowest of these outputs alone, or all of them.
+fn lowest_or_all(outputs: Wide, lowest: OutputPort, alone: bool) -> Wide
+    requires { ⌜ (lowest .0 < 128) × In (outputsOf outputs) (lowest .0) ⌝ }
+    ensures { λ r. ⌜ Sub (outputsOf r) (outputsOf outputs) × In (outputsOf r) (lowest .0) ⌝ }
+{
+    if alone {
+        return Wide::none().mark(lowest);
+    }
+    outputs
 }
 
 // What leads nowhere once output `own` is given up: all that did, or no more than what is fixed.
