@@ -53,10 +53,12 @@ struct Seats {
     seen: Tried,
 }
 
-// The outputs that are fixed, and with them those that lead nowhere else.
+// The outputs that are fixed, with them those that lead nowhere else, and whether the input before this one was well advised to ask
+// for its lowest output alone: a hint, on which no promise rests.
 struct Prefix {
     fixed: Tried,
     dead: Tried,
+    alone: bool,
 }
 
 impl Tried {
@@ -264,6 +266,7 @@ fn settle_from(
     let mut firm = Prefix {
         fixed: fixed,
         dead: fixed,
+        alone: true,
     };
     for i in from..lows.len() {
         firm = settle(lows, highs, by, out, firm, InputPort(i));
@@ -271,7 +274,7 @@ fn settle_from(
 }
 
 // Input i takes the first output that leaves the inputs after it a setting, and that is fixed: it asks for a lower one than its own
-// until all of them lead nowhere. It asks for the lowest alone, which is often to be had, and after that one for all at once.
+// until all of them lead nowhere: for the lowest alone while that is often to be had, and else for all at once.
 fn settle(
     lows: &[u64],
     highs: &[u64],
@@ -287,7 +290,7 @@ fn settle(
     let fixed = firm.fixed;
     let mut own = output_of(out, i);
     let mut dead = dead_for(firm, own);
-    let mut alone = true;
+    let mut alone = firm.alone;
     loop {
         let lower = row.below(own);
         let f = dead.next(lower);
@@ -295,6 +298,7 @@ fn settle(
             return Prefix {
                 fixed: fixed.mark(own),
                 dead: dead.mark(own),
+                alone: alone,
             };
         };
         let some = lowest_or_all(lower, lowest, alone);
