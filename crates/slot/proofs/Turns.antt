@@ -1,12 +1,13 @@
 -- An input's label has the outputs with slots left for it, so its lowest that is not taken is what the rule gives the input.
-use mathlib.Core.Path.{_≡_, sym, ap, _∙_, subst}
+use mathlib.Core.Path.{_≡_, sym, ap, ap₂, _∙_, subst}
 use mathlib.Core.Logic.{_≢_, inl, inr}
 use mathlib.Core.Bool.{true, false}
 use mathlib.Core.List.{List}
-use Prim.Native.Nat.{ℕ, _+_, _*_, _-_, _<_}
+use Prim.Native.Nat.{ℕ, _+_, _*_, _-_, _^_, _<_}
 use native.Mathlib.Decide.{ℕ-discrete}
 use native.Mathlib.Omega.{arith}
-use lib.ListN.{length, set, length-set}
+use lib.ListN.{length, getD, set, length-set}
+use lib.Seq.{set-getD}
 use lib.Dec.{T}
 use borrow.Author.Tests.{eq-eqb, ne-eqb}
 use Rattle.counting.specs.Matrix.{row}
@@ -14,8 +15,12 @@ use Rattle.counting.proofs.Sum.{sum-at}
 use Rattle.counting.proofs.Matrix.{Raised, raised-all}
 use Rattle.switch.specs.Demand.{cell}
 use Rattle.switch.proofs.Demand.{set-lowered}
-use Rattle.labels.specs.Label.{digit, In, Sub, hasOutput, Marked, LowestAt}
-use Rattle.labels.specs.Wide.{outputsOf}
+use Rattle.labels.specs.declared.Wide.{Wide}
+use Rattle.labels.specs.declared.Found.{Found}
+use Rattle.labels.specs.declared.Found.the-variants.{At, Nothing}
+use Rattle.labels.specs.Label.{digit, In, Sub, hasOutput, Marked, Cleared, Lowest, LowestAt}
+use Rattle.labels.specs.Wide.{two, outputsOf}
+use Rattle.labels.proofs.Words.{high, lowest-low, nothing}
 use Rattle.rules.specs.Search.{put}
 use Rattle.rules.specs.Peel.{peel}
 use Rattle.rules.specs.Quick.{may}
@@ -23,8 +28,9 @@ use Rattle.rules.proofs.Ports.{put-same, put-other}
 use Rattle.rules.proofs.Peel.{peel-at, peel-off}
 use Rattle.rules.proofs.Slot.{lowest-at, lowest-none, may-yes, may-is}
 use Rattle.slot.specs.declared.Turn.{Turn}
-use Rattle.work.specs.Labelled.{RowOf, TakePost}
-use Rattle.slot.specs.Filled.{leftIn, Copy, turnOf, Turned}
+use Rattle.work.specs.Labelled.{RowOf, TakePre, TakePost}
+use Rattle.work.proofs.Labels.{taken-zero, taken-some}
+use Rattle.slot.specs.Filled.{leftIn, Copy, turnOf, Turned, StillAsked}
 
 -- ---- sets and tests
 
@@ -52,6 +58,11 @@ marked-has l j r m b = go (ℕ-discrete b j) (ℕ-discrete (digit l b) 1)
       where
         only : In r b → ⊥
         only h = elim (m .only b h) [ inl x ↦ d x | inr x ↦ e x ]
+
+-- a set below 64 has nothing in the high word, so its low word alone is asked
+pub lowest-word : (a r b t : ℕ) → r < 2 ^ 64 → t < 2 ^ 64 → ((k : ℕ) → In (two a r) k → k < 64) → (f : Found) → Lowest 64 r t f → Lowest 128 (two a r) (two b t) f
+lowest-word a r b t hr ht s (At j) m = lowest-low a r b t hr ht (j .0) m
+lowest-word a r b t hr ht s Nothing m = nothing a r b t hr ht m (λ k h. absurd (omega (arith, s (64 + k) (high a r k hr ∙ h))))
 
 -- ---- what the rule gives
 
@@ -102,6 +113,21 @@ nothing-peel i M a b idle = sym (peel-off 1 (put (λ _. 255) i 255) M a b (λ e.
         go : Dec (a ≡ i) → put {A = ℕ} (λ _. 255) i 255 a ≡ 255
         go (yes x) = ap (put {A = ℕ} (λ _. 255) i 255) x ∙ put-same {A = ℕ} (λ _. 255) i 255
         go (no x) = put-other {A = ℕ} (λ _. 255) i 255 a x
+
+-- the label that is written is the one that the pair's cell, which stands at r, now asks for
+pub served : (N : ℕ) (w lows highs : List ℕ) (i j : ℕ) → TakePre N w lows highs i j 1 → (r : ℕ) → r ≡ i * N + j
+    → (row asked : Wide) → row .low .0 ≡ getD lows i 0 → row .high .0 ≡ getD highs i 0 → StillAsked row j (getD w r 0 - 1) asked
+    → TakePost N w i j 1 (set w r (getD w r 0 - 1)) (set lows i (asked .low .0)) (set highs i (asked .high .0))
+served N w lows highs i j p r e row asked l h q = go (ℕ-discrete (getD w r 0 - 1) 0)
+  where
+    go : Dec (getD w r 0 - 1 ≡ 0) → TakePost N w i j 1 (set w r (getD w r 0 - 1)) (set lows i (asked .low .0)) (set highs i (asked .high .0))
+    go (yes z) = taken-zero N w lows highs i j 1 p r e (asked .low .0) (asked .high .0) z (subst (λ (x : ℕ). Cleared x j (outputsOf asked)) (ap₂ two h l) (q .gone z))
+    go (no z) =
+        subst (λ (x : List ℕ). TakePost N w i j 1 (set w r (getD w r 0 - 1)) x (set highs i (asked .high .0)))
+        (sym (ap (λ (x : Wide). set lows i (x .low .0)) (q .same z) ∙ ap (set lows i) l ∙ set-getD lows i 0))
+        (subst (λ (x : List ℕ). TakePost N w i j 1 (set w r (getD w r 0 - 1)) lows x)
+        (sym (ap (λ (x : Wide). set highs i (x .high .0)) (q .same z) ∙ ap (set highs i) h ∙ set-getD highs i 0))
+        (taken-some N w lows highs i j 1 p r e z))
 
 -- ---- the turn
 

@@ -8,7 +8,8 @@ use Rattle.counting.specs.Sum.{sum}
 use Rattle.counting.specs.Matrix.{row}
 use Rattle.switch.specs.Demand.{cell}
 use Rattle.switch.specs.Plan.{Record}
-use Rattle.labels.specs.Label.{hasOutput}
+use Rattle.labels.specs.declared.Wide.{Wide}
+use Rattle.labels.specs.Label.{hasOutput, Cleared}
 use Rattle.labels.specs.Wide.{outputsOf}
 use Rattle.rules.specs.Search.{put}
 use Rattle.rules.specs.Peel.{peel}
@@ -46,6 +47,11 @@ pub record Turned (N i : ℕ) (w out : List ℕ) (turn : Turn) (w' lows' highs' 
   pub seated : out' ≡ set out i (turnOf N w (outputsOf (turn .taken)) i)
   pub cells : (a b : ℕ) → a < N → b < N → cell N w' a b ≡ peel 1 (put (λ _. 255) i (turnOf N w (outputsOf (turn .taken)) i)) (cell N w) a b
   pub taken : (b : ℕ) → b < N → hasOutput (outputsOf (turn' .taken)) b ≡ put (hasOutput (outputsOf (turn .taken))) (turnOf N w (outputsOf (turn .taken)) i) true b
+
+-- the label after a slot of output j: it loses the output just where nothing is left for that pair
+pub record StillAsked (row : Wide) (j left : ℕ) (r : Wide) : Type 0 where
+  pub gone : left ≡ 0 → Cleared (outputsOf row) j (outputsOf r)
+  pub same : (left ≡ 0 → ⊥) → r ≡ row
 
 -- slot s is filled: what was still to come is its record and what is still to come
 pub record Filled (N s : ℕ) (w w' lows' highs' out' : List ℕ) (left' : ℕ) : Type 0 where

@@ -2,16 +2,23 @@
 // takes the lowest free output with slots left for that pair, in one look at the label's two words.
 // It promises that what was still to come is this slot's record and what is still to come of the cells it leaves, for any number of ports
 // up to 128. When the slots end and where their records go is left to the crate above.
+use demand::cell_at;
 use labels::Found;
 use labels::Label;
 use labels::Wide;
 use records::IDLE;
 use switch::InputPort;
-use work::take;
+use switch::OutputPort;
 ghost use mathlib.Core.Path.{_≡_};
 ghost use Prim.Native.Nat.{ℕ, _+_, _%_, _<_, _≤_};
 ghost use lib.ListN.{length};
-ghost use Rattle.slot.specs.Filled.{Copy, Seats, Turned, Filled};
+ghost use Rattle.labels.specs.Label.{In, Lowest};
+ghost use Rattle.labels.specs.Wide.{outputsOf};
+ghost use Rattle.work.specs.Labelled.{TakePre, TakePost};
+ghost use Rattle.slot.specs.Filled.{Copy, Seats, Turned, StillAsked, Filled};
+
+// The outputs of one word of a label.
+const WORD: usize = 64;
 
 // What a turn leaves: which outputs are taken in this slot, and how many slots are left in all.
 pub struct Turn {
@@ -76,15 +83,66 @@ fn visit(
         low: Label(low),
         high: Label(high),
     };
-    let Found::At(j) = row.lowest_untried(taken) else {
+    let Found::At(j) = lowest_free(out.len(), row, taken) else {
         out[port] = IDLE;
         return turn;
     };
     out[port] = j.0 as u8;
-    take(work, n, lows, highs, i, j, 1);
+    serve(work, n, lows, highs, i, j);
     let left = turn.left - 1;
     Turn {
         taken: taken.mark(j),
         left: left,
     }
+}
+
+// The lowest output of a label that is not taken, of so many outputs: up to 64 of them stand in the low word alone.
+fn lowest_free(width: usize, row: Wide, taken: Wide) -> Found
+    requires { ⌜ ((k : ℕ) → In (outputsOf row) k → k < width) ⌝ }
+    ensures { λ r. ⌜ Lowest 128 (outputsOf row) (outputsOf taken) r ⌝ }
+{
+    if width <= WORD {
+        let l = row.low;
+        let t = taken.low;
+        return l.lowest_untried(t);
+    }
+    row.lowest_untried(taken)
+}
+
+// One slot of a pair is served. Nobody can foresee which slot of a pair is its last, so the label is written either way.
+fn serve(
+    work: &mut [u32],
+    n: usize,
+    lows: &mut [u64],
+    highs: &mut [u64],
+    i: InputPort,
+    j: OutputPort,
+)
+    requires { ⌜ TakePre n (now work) (now lows) (now highs) (i .0) (j .0) 1 ⌝ }
+    ensures { λ _. ⌜ TakePost n (now (work .entry)) (i .0) (j .0) 1 (now (work .exit)) (now (lows .exit)) (now (highs .exit)) ⌝ }
+{
+    let at = cell_at(n, i, j);
+    let left = work[at] - 1;
+    work[at] = left;
+    let k = i.0;
+    let row = Wide {
+        low: Label(lows[k]),
+        high: Label(highs[k]),
+    };
+    let asked = still_asked(row, j, left);
+    let low = asked.low;
+    let high = asked.high;
+    lows[k] = low.0;
+    highs[k] = high.0;
+}
+
+// The label after a slot of output j, with so many slots left for that pair.
+fn still_asked(row: Wide, j: OutputPort, left: u32) -> Wide
+    requires { ⌜ j .0 < 128 ⌝ }
+    ensures { λ r. ⌜ StillAsked row (j .0) left r ⌝ }
+{
+    if left == 0 {
+        return row.without(j);
+    }
+    row
 }

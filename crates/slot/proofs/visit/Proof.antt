@@ -24,8 +24,10 @@ mul-high c = search needs
 slice-read-high : tie.Need-slice-read-high
 slice-read-high c = search needs
 
-lowest-untried-requires : tie.Need-lowest-untried-requires
-lowest-untried-requires c κs = search needs
+lowest-free-requires : tie.Need-lowest-free-requires
+lowest-free-requires c κs =
+    let s = c .before .before .before .before .before .before .before in
+    λ k h. omega (arith, s .pre .0 .labels .row (s .args .i .0) (s .pre .1) .only k h .0, s .pre .2)
 
 enum-known-j : tie.Need-enum-known-j
 enum-known-j c = search needs
@@ -45,7 +47,7 @@ returns c =
     let a = s .args in
     turned-none (a .n) (a .i .0) (a .work .now) (a .lows .now) (a .highs .now) (a .out .now) (a .turn) (s .pre .0)
     (turn-none (a .n) (a .work .now) (a .i .0) (labelOf (a .lows .now) (a .highs .now) (a .i .0)) (outputsOf (a .turn .taken)) (s .pre .0 .labels .row (a .i .0) (s .pre .1))
-    (subst (λ (f : Found). Lowest 128 (labelOf (a .lows .now) (a .highs .now) (a .i .0)) (outputsOf (a .turn .taken)) f) (c .enum-told .given .1) (c .before .before .lowest-untried .ensures)))
+    (subst (λ (f : Found). Lowest 128 (labelOf (a .lows .now) (a .highs .now) (a .i .0)) (outputsOf (a .turn .taken)) f) (c .enum-told .given .1) (c .before .before .lowest-free .ensures)))
 
 -- an output was found
 abbrev start : tie.After-j → tie.Start
@@ -55,7 +57,7 @@ lowest : (c : tie.After-j)
     → LowestAt 128 (labelOf (start c .args .lows .now) (start c .args .highs .now) (start c .args .i .0)) (outputsOf (start c .args .turn .taken)) (c .j .given .0 .0 .0)
 lowest c =
     let a = start c .args in
-    subst (λ (f : Found). Lowest 128 (labelOf (a .lows .now) (a .highs .now) (a .i .0)) (outputsOf (a .turn .taken)) f) (c .j .given .1) (c .before .before .lowest-untried .ensures)
+    subst (λ (f : Found). Lowest 128 (labelOf (a .lows .now) (a .highs .now) (a .i .0)) (outputsOf (a .turn .taken)) f) (c .j .given .1) (c .before .before .lowest-free .ensures)
 
 -- it is one of N, with slots left for the pair
 left : (c : tie.After-j) → (c .j .given .0 .0 .0 < start c .args .n) × (0 < cell (start c .args .n) (start c .args .work .now) (start c .args .i .0) (c .j .given .0 .0 .0))
@@ -67,8 +69,8 @@ cast-out c = omega (arith, lowest (c .before .before) .small)
 slice-write-out-2 : tie.Need-slice-write-out-2
 slice-write-out-2 c = search needs
 
-take-requires : tie.Need-take-requires
-take-requires c κs =
+serve-requires : tie.Need-serve-requires
+serve-requires c κs =
     let b = c .before .before .before .before .before in
     record { sized = start b .pre .0 .sized; labels = start b .pre .0 .labels; input = start b .pre .1; output = left b .0; enough = left b .1 }
 
@@ -97,7 +99,7 @@ returns-2 : tie.Need-returns-2
 returns-2 c =
     let b = c .before .before .before .before .before .before .before .before .before .before .before .before .before .before in
     let a = start b .args in
-    let t = c .before .before .before .before .before .before .before .before .take in
+    let t = c .before .before .before .before .before .before .before .before .serve in
     let j = b .j .given .0 .0 .0 in
     turned-at (a .n) (a .i .0) (a .work .now) (a .lows .now) (a .highs .now) (a .out .now) (a .turn) (start b .pre .0) j (start b .pre .1) (left b .0) (left b .1)
     (turn-at (a .n) (a .work .now) (a .i .0) (labelOf (a .lows .now) (a .highs .now) (a .i .0)) (outputsOf (a .turn .taken)) (start b .pre .0 .labels .row (a .i .0) (start b .pre .1)) j (lowest b))
@@ -111,7 +113,7 @@ visit-spec =
     slice-read-low
     mul-high
     slice-read-high
-    lowest-untried-requires
+    lowest-free-requires
     enum-known-j
     enum-told
     slice-write-out
@@ -119,7 +121,7 @@ visit-spec =
     returns
     cast-out
     slice-write-out-2
-    take-requires
+    serve-requires
     sub-left
     mark-requires
     same-length-2
