@@ -11,58 +11,74 @@ use switch::InputPort;
 use switch::OutputPort;
 ghost use mathlib.Core.Path.{_≡_};
 ghost use Prim.Native.Nat.{ℕ, _+_, _%_, _<_, _≤_};
-ghost use lib.ListN.{length};
+ghost use lib.ListN.{length, getD};
 ghost use Rattle.labels.specs.Label.{In, Lowest};
 ghost use Rattle.labels.specs.Wide.{outputsOf};
 ghost use Rattle.work.specs.Labelled.{TakePre, TakePost};
-ghost use Rattle.slot.specs.Filled.{Copy, Seats, Turned, StillAsked, Filled};
+ghost use Rattle.slot.specs.Filled.{Copy, Turned, StillAsking, Filled};
 
 // The outputs of one word of a label.
 const WORD: usize = 64;
 
-// What a turn leaves: which outputs are taken in this slot, and how many slots are left in all.
-pub struct Turn {
-    pub taken: Wide,
+// What is left to serve: no input but these has slots left, and so many slots are left in all.
+pub struct Rest {
+    pub inputs: Wide,
     pub left: u64,
 }
 
-// Slot s: all inputs are visited, from input s mod N around. It answers how many slots are left.
+// What a turn leaves: which outputs are taken in this slot, and what is left to serve.
+pub struct Turn {
+    pub taken: Wide,
+    pub rest: Rest,
+}
+
+// Slot s: the inputs with slots left are visited, from input s mod N around. It answers what is left to serve.
 pub fn fill_slot(
     n: usize,
     work: &mut [u32],
     lows: &mut [u64],
     highs: &mut [u64],
-    left: u64,
+    rest: Rest,
     s: usize,
     out: &mut [u8],
-) -> u64
-    requires { ⌜ Copy n left (now work) (now lows) (now highs) × Seats n (now out) × (0 < left) ⌝ }
+) -> Rest
+    requires { ⌜ Copy n rest (now work) (now lows) (now highs) × (n ≤ length (now out)) × (0 < rest .left) ⌝ }
     ensures { λ r. ⌜ Filled n s (now (work .entry)) (now (work .exit)) (now (lows .exit)) (now (highs .exit)) (now (out .exit)) r ⌝ }
 {
+    idle_all(out);
+    let first = OutputPort(s % n);
+    let inputs = rest.inputs;
+    let earlier = inputs.below(first);
+    let mut ahead = inputs.from(first);
+    let mut around = false;
     let mut turn = Turn {
         taken: Wide::none(),
-        left: left,
+        rest: rest,
     };
-    let mut i = s % n;
-    for _ in 0..n {
-        turn = visit(n, work, lows, highs, InputPort(i), turn, out);
-        i = around(i, n);
+    loop {
+        let Found::At(i) = lowest_free(out.len(), ahead, Wide::none()) else {
+            if around {
+                return turn.rest;
+            }
+            around = true;
+            ahead = earlier;
+            continue;
+        };
+        turn = visit(n, work, lows, highs, InputPort(i.0), turn, out);
+        ahead = ahead.without_lowest();
     }
-    turn.left
 }
 
-// The port after i, around n of them.
-fn around(i: usize, n: usize) -> usize
-    requires { ⌜ i < n ⌝ }
-    ensures { λ r. ⌜ r ≡ (i + 1) % n ⌝ }
+// Every input is idle.
+fn idle_all(out: &mut [u8])
+    ensures { λ _. ⌜ ((i : ℕ) → getD (now (out .exit)) i 255 ≡ 255) ⌝ }
 {
-    if i + 1 == n {
-        return 0;
+    for i in 0..out.len() {
+        out[i] = IDLE;
     }
-    i + 1
 }
 
-// One input's turn: it takes the lowest free output with slots left for that pair, and one slot is subtracted; else it is idle.
+// One input's turn: it takes the lowest free output with slots left for that pair, and one slot is subtracted; else it stays idle.
 fn visit(
     n: usize,
     work: &mut [u32],
@@ -72,11 +88,13 @@ fn visit(
     turn: Turn,
     out: &mut [u8],
 ) -> Turn
-    requires { ⌜ Copy n (turn .left) (now work) (now lows) (now highs) × (i .0 < n) × (n ≤ length (now out)) ⌝ }
+    requires { ⌜ Copy n (turn .rest) (now work) (now lows) (now highs) × (i .0 < n) × (n ≤ length (now out)) × (getD (now out) (i .0) 255 ≡ 255) ⌝ }
     ensures { λ r. ⌜ Turned n (i .0) (now (work .entry)) (now (out .entry)) turn (now (work .exit)) (now (lows .exit)) (now (highs .exit)) (now (out .exit)) r ⌝ }
 {
     let port = i.0;
     let taken = turn.taken;
+    let rest = turn.rest;
+    let inputs = rest.inputs;
     let low = lows[port];
     let high = highs[port];
     let row = Wide {
@@ -84,16 +102,35 @@ fn visit(
         high: Label(high),
     };
     let Found::At(j) = lowest_free(out.len(), row, taken) else {
-        out[port] = IDLE;
-        return turn;
+        return Turn {
+            taken: taken,
+            rest: Rest {
+                inputs: still_asking(out.len(), inputs, i, row),
+                left: rest.left,
+            },
+        };
     };
     out[port] = j.0 as u8;
     serve(work, n, lows, highs, i, j);
-    let left = turn.left - 1;
+    let left = rest.left - 1;
     Turn {
         taken: taken.mark(j),
-        left: left,
+        rest: Rest {
+            inputs: inputs,
+            left: left,
+        },
     }
+}
+
+// The inputs without i, where its label is empty.
+fn still_asking(width: usize, inputs: Wide, i: InputPort, row: Wide) -> Wide
+    requires { ⌜ (i .0 < 128) × ((k : ℕ) → In (outputsOf row) k → k < width) ⌝ }
+    ensures { λ r. ⌜ StillAsking (outputsOf row) (i .0) (outputsOf inputs) (outputsOf r) ⌝ }
+{
+    let Found::At(j) = lowest_free(width, row, Wide::none()) else {
+        return inputs.without(OutputPort(i.0));
+    };
+    inputs
 }
 
 // The lowest output of a label that is not taken, of so many outputs: up to 64 of them stand in the low word alone.
@@ -129,20 +166,21 @@ fn serve(
         low: Label(lows[k]),
         high: Label(highs[k]),
     };
-    let asked = still_asked(row, j, left);
+    let asked = row.without_if(j, left == 0);
     let low = asked.low;
     let high = asked.high;
     lows[k] = low.0;
     highs[k] = high.0;
 }
 
-// The label after a slot of output j, with so many slots left for that pair.
-fn still_asked(row: Wide, j: OutputPort, left: u32) -> Wide
-    requires { ⌜ j .0 < 128 ⌝ }
-    ensures { λ r. ⌜ StillAsked row (j .0) left r ⌝ }
+// All inputs of a switch.
+pub fn all_inputs(n: usize) -> Wide
+    requires { ⌜ n ≤ 128 ⌝ }
+    ensures { λ r. ⌜ ((k : ℕ) → In (outputsOf r) k → k < n) × ((k : ℕ) → k < n → In (outputsOf r) k) ⌝ }
 {
-    if left == 0 {
-        return row.without(j);
+    let every = Wide::every();
+    if n == 128 {
+        return every;
     }
-    row
+    every.below(OutputPort(n))
 }

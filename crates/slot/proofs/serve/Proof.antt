@@ -43,8 +43,8 @@ mul-t21 c = search needs
 slice-read-t23 : tie.Need-slice-read-t23
 slice-read-t23 c = search needs
 
-still-asked-requires : tie.Need-still-asked-requires
-still-asked-requires c κs = search needs
+without-if-requires : tie.Need-without-if-requires
+without-if-requires c κs = search needs
 
 mul-lows : tie.Need-mul-lows
 mul-lows c = search needs
@@ -69,8 +69,9 @@ same-length-3 c = search needs
 
 returns : tie.Need-returns
 returns c =
-    served _ _ _ _ _ _ (c .before .before .before .before .before .before .before .before .before .before .pre) _ (c .before .before .before .before .before .before .cell-at .ensures) _ _ refl refl
-    (c .before .before .still-asked .ensures)
+    let s = c .before .before .before .before .before .before .before .before .before .before in
+    served _ _ _ _ _ _ (s .pre) _ (c .before .before .before .before .before .before .cell-at .ensures) _ _ (omega arith) (omega arith)
+    (omega (arith, c .before .before .before .before .slice-known5 .given (s .args .i .0))) (omega (arith, c .before .before .before .slice-known6 .given (s .args .i .0))) (c .before .before .without-if .ensures)
 
 pub serve-spec : {M : Type 1} → statement M
 serve-spec =
@@ -86,7 +87,7 @@ serve-spec =
     slice-read-t19
     mul-t21
     slice-read-t23
-    still-asked-requires
+    without-if-requires
     mul-lows
     slice-write-lows
     mul-highs

@@ -26,7 +26,7 @@ slice-read-high c = search needs
 
 lowest-free-requires : tie.Need-lowest-free-requires
 lowest-free-requires c κs =
-    let s = c .before .before .before .before .before .before .before in
+    let s = c .before .before .before .before .before .before .before .before .before in
     λ k h. omega (arith, s .pre .0 .labels .row (s .args .i .0) (s .pre .1) .only k h .0, s .pre .2)
 
 enum-known-j : tie.Need-enum-known-j
@@ -35,23 +35,23 @@ enum-known-j c = search needs
 enum-told : tie.Need-enum-told
 enum-told c = search needs
 
-slice-write-out : tie.Need-slice-write-out
-slice-write-out c = search needs
-
-same-length : tie.Need-same-length
-same-length c = search needs
+still-asking-requires : tie.Need-still-asking-requires
+still-asking-requires c κs =
+    let s = c .before .before .before .before .before .before .before .before .before .before .before .before in
+    (omega (arith, s .pre .1, s .pre .0 .sized .few), λ k h. omega (arith, s .pre .0 .labels .row (s .args .i .0) (s .pre .1) .only k h .0, s .pre .2))
 
 returns : tie.Need-returns
 returns c =
-    let s = c .before .before .before .before .before .before .before .before .before .before in
+    let s = c .before .before .before .before .before .before .before .before .before .before .before .before .before in
     let a = s .args in
     turned-none (a .n) (a .i .0) (a .work .now) (a .lows .now) (a .highs .now) (a .out .now) (a .turn) (s .pre .0)
     (turn-none (a .n) (a .work .now) (a .i .0) (labelOf (a .lows .now) (a .highs .now) (a .i .0)) (outputsOf (a .turn .taken)) (s .pre .0 .labels .row (a .i .0) (s .pre .1))
-    (subst (λ (f : Found). Lowest 128 (labelOf (a .lows .now) (a .highs .now) (a .i .0)) (outputsOf (a .turn .taken)) f) (c .enum-told .given .1) (c .before .before .lowest-free .ensures)))
+    (subst (λ (f : Found). Lowest 128 (labelOf (a .lows .now) (a .highs .now) (a .i .0)) (outputsOf (a .turn .taken)) f) (c .before .enum-told .given .1) (c .before .before .before .lowest-free .ensures)))
+    (s .pre .3) _ refl refl (c .still-asking .ensures)
 
 -- an output was found
 abbrev start : tie.After-j → tie.Start
-start c = c .before .before .before .before .before .before .before .before .before .before
+start c = c .before .before .before .before .before .before .before .before .before .before .before .before
 
 lowest : (c : tie.After-j)
     → LowestAt 128 (labelOf (start c .args .lows .now) (start c .args .highs .now) (start c .args .i .0)) (outputsOf (start c .args .turn .taken)) (c .j .given .0 .0 .0)
@@ -66,8 +66,8 @@ left c = start c .pre .0 .labels .row (start c .args .i .0) (start c .pre .1) .o
 cast-out : tie.Need-cast-out
 cast-out c = omega (arith, lowest (c .before .before) .small)
 
-slice-write-out-2 : tie.Need-slice-write-out-2
-slice-write-out-2 c = search needs
+slice-write-out : tie.Need-slice-write-out
+slice-write-out c = search needs
 
 serve-requires : tie.Need-serve-requires
 serve-requires c κs =
@@ -83,6 +83,9 @@ sub-left c =
 mark-requires : tie.Need-mark-requires
 mark-requires c κs = lowest (c .before .before .before .before .before .before .before .before .before .before .before .before .before) .small
 
+same-length : tie.Need-same-length
+same-length c = search needs
+
 same-length-2 : tie.Need-same-length-2
 same-length-2 c = search needs
 
@@ -92,9 +95,6 @@ same-length-3 c = search needs
 same-length-4 : tie.Need-same-length-4
 same-length-4 c = search needs
 
-same-length-5 : tie.Need-same-length-5
-same-length-5 c = search needs
-
 returns-2 : tie.Need-returns-2
 returns-2 c =
     let b = c .before .before .before .before .before .before .before .before .before .before .before .before .before .before in
@@ -103,7 +103,7 @@ returns-2 c =
     let j = b .j .given .0 .0 .0 in
     turned-at (a .n) (a .i .0) (a .work .now) (a .lows .now) (a .highs .now) (a .out .now) (a .turn) (start b .pre .0) j (start b .pre .1) (left b .0) (left b .1)
     (turn-at (a .n) (a .work .now) (a .i .0) (labelOf (a .lows .now) (a .highs .now) (a .i .0)) (outputsOf (a .turn .taken)) (start b .pre .0 .labels .row (a .i .0) (start b .pre .1)) j (lowest b))
-    (t .last .0) (t .last .1 .1 .0) (t .last .1 .1 .1 .0) _ (t .ensures) (c .mark .ensures) refl
+    (t .last .0) (t .last .1 .1 .0) (t .last .1 .1 .1 .0) _ (t .ensures) (c .mark .ensures) refl refl
 
 pub visit-spec : {M : Type 1} → statement M
 visit-spec =
@@ -116,16 +116,15 @@ visit-spec =
     lowest-free-requires
     enum-known-j
     enum-told
-    slice-write-out
-    same-length
+    still-asking-requires
     returns
     cast-out
-    slice-write-out-2
+    slice-write-out
     serve-requires
     sub-left
     mark-requires
+    same-length
     same-length-2
     same-length-3
     same-length-4
-    same-length-5
     returns-2)
