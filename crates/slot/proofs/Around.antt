@@ -1,15 +1,14 @@
 -- The inputs still ahead are visited lowest first, up to the last one and then from input 0 on; those that are passed over have no slots left.
 use mathlib.Core.Path.{_≡_, sym, ap, _∙_, subst}
-use mathlib.Core.Bool.{Bool, true, false, cond}
 use mathlib.Core.List.{List}
-use Prim.Native.Nat.{ℕ, zero, suc, _+_, _-_, _%_, _≤_, _<_}
+use Prim.Native.Nat.{ℕ, zero, suc, _+_, _*_, _-_, _%_, _≤_, _<_}
 use native.Mathlib.Nat.{mod-lt, mod-eq-of-lt, add-mod-mod, add-mod-right}
 use native.Mathlib.Omega.{arith}
 use lib.ListN.{length, getD}
 use Rattle.switch.specs.Demand.{cell}
 use Rattle.labels.specs.Label.{In, Sub, Cleared, Below, From, absent}
 use Rattle.labels.specs.Wide.{outputsOf}
-use Rattle.labels.proofs.Digits.{absent-less}
+use Rattle.labels.proofs.Digits.{digit-lt, absent-less}
 use Rattle.slot.specs.declared.Turn.{Turn}
 use Rattle.slot.specs.Filled.{Copy, Turned}
 use Rattle.slot.proofs.Visits.{Visiting, visiting-none, visiting-next, visiting-skips}
@@ -88,161 +87,154 @@ module _ (N s : ℕ) (S : ℕ) (w₀ w lows highs out : List ℕ) (turn : Turn) 
 
 -- ---- where a slot stands
 
--- the inputs of S that are ahead, after v visits: up to the last input, or from input 0 on
-pub data Stage (N f S v r : ℕ) : Bool → Type 0 where
-  on : v + f ≤ N → Cut S (v + f) N r → Stage N f S v r false
-  past : N ≤ v + f → v ≤ N → Cut S (v + f - N) f r → Stage N f S v r true
+-- the inputs of S still to be visited after v visits: r up to the last input and then those before the first one, or r alone
+pub data Stage (N f S v r later : ℕ) : Type 0 where
+  on : v + f ≤ N → Cut S (v + f) N r → Cut S 0 f later → Stage N f S v r later
+  past : N ≤ v + f → v ≤ N → Cut S (v + f - N) f r → ((k : ℕ) → In later k → ⊥) → Stage N f S v r later
 
-pub record Going (N s S : ℕ) (w₀ w lows highs out : List ℕ) (turn : Turn) (earlier r : ℕ) (around : Bool) : Type 0 where
+pub record Going (N s S : ℕ) (w₀ w lows highs out : List ℕ) (turn : Turn) (r later : ℕ) : Type 0 where
   pub made : ℕ
   pub visiting : Visiting N s made w₀ w lows highs out turn
   pub empty : (i : ℕ) → i < N → (In S i → ⊥) → (j : ℕ) → j < N → cell N w₀ i j ≡ 0
-  pub first : Cut S 0 (s % N) earlier
-  pub stage : Stage N (s % N) S made r around
+  pub stage : Stage N (s % N) S made r later
 
 -- no visit yet
 pub going-start : (N s : ℕ) (w lows highs out : List ℕ) (turn : Turn) → Copy N (turn .rest) w lows highs → N ≤ length out → ((i : ℕ) → getD out i 255 ≡ 255)
-    → ((k : ℕ) → In (outputsOf (turn .taken)) k → ⊥) → (earlier r : ℕ) → Below (outputsOf (turn .rest .inputs)) (s % N) earlier → From (outputsOf (turn .rest .inputs)) (s % N) r
-    → Going N s (outputsOf (turn .rest .inputs)) w w lows highs out turn earlier r false
-going-start N s w lows highs out turn c l o t earlier r b f = record {
+    → ((k : ℕ) → In (outputsOf (turn .taken)) k → ⊥) → (r later : ℕ) → From (outputsOf (turn .rest .inputs)) (s % N) r → Below (outputsOf (turn .rest .inputs)) (s % N) later
+    → Going N s (outputsOf (turn .rest .inputs)) w w lows highs out turn r later
+going-start N s w lows highs out turn c l o t r later f b = record {
   made = 0;
   visiting = visiting-none N s w lows highs out turn c l o t;
   empty = c .others;
-  first = cut-below (outputsOf (turn .rest .inputs)) (s % N) earlier b;
   stage = on (omega (arith, mod-lt s (c .sized .some)))
-      (subst (λ (x : ℕ). Cut (outputsOf (turn .rest .inputs)) x N r) (let e : s % N ≡ 0 + s % N = omega arith in e) (cut-from (outputsOf (turn .rest .inputs)) (s % N) N r (c .inside) f));
+      (subst (λ (x : ℕ). Cut (outputsOf (turn .rest .inputs)) x N r) (let e : s % N ≡ 0 + s % N = omega arith in e) (cut-from (outputsOf (turn .rest .inputs)) (s % N) N r (c .inside) f))
+      (cut-below (outputsOf (turn .rest .inputs)) (s % N) later b);
 }
 
-module _ (N s S : ℕ) (w₀ w lows highs out : List ℕ) (turn : Turn) (earlier r : ℕ) where
+module _ (N s S : ℕ) (w₀ w lows highs out : List ℕ) (turn : Turn) (r later : ℕ) (g : Going N s S w₀ w lows highs out turn r later) where
   abbrev f : ℕ
   f = s % N
 
-  -- the inputs after v visits that go on, and the run that they end
+  pos : 0 < N
+  pos = g .visiting .copy .sized .some
+
+  small : f < N
+  small = mod-lt s pos
+
+  on-port : (q : ℕ) → q < N - f → (q + s) % N ≡ q + f - 0
+  on-port q l = port-on N s pos q (omega arith) ∙ (let e : q + f ≡ q + f - 0 = omega arith in e)
+
+  past-port : (v q : ℕ) → N ≤ v + f → v ≤ q → q < N → (q + s) % N ≡ q + f - N
+  past-port v q h l t = port-past N s pos q t (omega arith)
+
+  -- the inputs ahead as a run of visits sees them
   on-cut : (v : ℕ) → v + f ≤ N → Cut S (v + f) N r → Cut S (v + f - 0) (N - f + f - 0) r
   on-cut v l c = subst (λ (x : ℕ). Cut S x (N - f + f - 0) r) (let e : v + f ≡ v + f - 0 = omega arith in e) (subst (λ (x : ℕ). Cut S (v + f) x r) (let e : N ≡ N - f + f - 0 = omega arith in e) c)
 
-  past-cut : (v : ℕ) → Cut S (v + f - N) f r → Cut S (v + f - N) (N + f - N) r
-  past-cut v c = subst (λ (x : ℕ). Cut S (v + f - N) x r) (let e : f ≡ N + f - N = omega arith in e) c
+  past-cut : (v x : ℕ) → Cut S (v + f - N) f x → Cut S (v + f - N) (N + f - N) x
+  past-cut v x c = subst (λ (y : ℕ). Cut S (v + f - N) y x) (let e : f ≡ N + f - N = omega arith in e) c
 
-  module _ (around : Bool) (g : Going N s S w₀ w lows highs out turn earlier r around) where
-    pos : 0 < N
-    pos = g .visiting .copy .sized .some
+  first-cut : Cut S 0 f later → Cut S (N - f + f - N) f later
+  first-cut c = subst (λ (x : ℕ). Cut S x f later) (let e : 0 ≡ N - f + f - N = omega (arith, small) in e) c
 
-    on-port : (q : ℕ) → q < N - f → (q + s) % N ≡ q + f - 0
-    on-port q l = port-on N s pos q (omega arith) ∙ (let e : q + f ≡ q + f - 0 = omega arith in e)
+  -- the lowest input that is ahead is the next one to be visited
+  module _ (i : ℕ) (here : In r i) (lowest : (k : ℕ) → k < i → In r k → ⊥) where
+    next : (q : ℕ) × Visiting N s q w₀ w lows highs out turn × (q < N) × ((q + s) % N ≡ i) × ((r' : ℕ) → Cleared r i r' → Stage N f S (q + 1) r' later)
+    next = go (g .stage)
+      where
+        go : Stage N f S (g .made) r later → (q : ℕ) × Visiting N s q w₀ w lows highs out turn × (q < N) × ((q + s) % N ≡ i) × ((r' : ℕ) → Cleared r i r' → Stage N f S (q + 1) r' later)
+        go (on l c b) =
+            let x = reached N s S w₀ w lows highs out turn (g .made) f 0 (N - f) r (omega arith) (omega arith) (omega arith) (λ q _ t. on-port q t) (g .visiting) (g .empty) (on-cut (g .made) l c) i here lowest in (
+              i + 0 - f,
+              x .0,
+              omega (arith, x .2),
+              x .3,
+              λ r' d. on (omega (arith, c .below i here, c .from i here))
+                  (subst (λ (y : ℕ). Cut S y N r') (let e : i + 1 ≡ i + 0 - f + 1 + f = omega (arith, c .from i here) in e) (cut-lowered S (g .made + f) N r i r' c here lowest d)) b,
+            )
+        go (past h l c b) =
+            let x = reached N s S w₀ w lows highs out turn (g .made) f N N r (omega arith) l h (λ q a t. past-port (g .made) q h a t) (g .visiting) (g .empty) (past-cut (g .made) r c) i here lowest in
+            let m : f < N = small in (
+              i + N - f,
+              x .0,
+              x .2,
+              x .3,
+              λ r' d. past (omega arith) (omega (arith, x .2))
+                  (subst (λ (y : ℕ). Cut S y f r') (let e : i + 1 ≡ i + N - f + 1 + f - N = omega arith in e) (cut-lowered S (g .made + f - N) f r i r' c here lowest d)) b,
+            )
 
-    past-port : (v q : ℕ) → N ≤ v + f → v ≤ q → q < N → (q + s) % N ≡ q + f - N
-    past-port v q h l t = port-past N s pos q t (omega arith)
+    -- it can be visited
+    pub going-ready : Copy N (turn .rest) w lows highs × (i < N) × (N ≤ length out) × (getD out i 255 ≡ 255)
+    going-ready =
+        let n = next in (
+          n .1 .copy,
+          subst (λ (x : ℕ). x < N) (n .3) (mod-lt (n .0 + s) pos),
+          n .1 .seats .wide,
+          subst (λ (x : ℕ). getD out x 255 ≡ 255) (n .3) (n .1 .ahead (n .0) (omega arith) (n .2)),
+        )
 
-    -- the lowest input that is ahead is the next one to be visited
-    abbrev Next : ℕ → Type 0
-    Next i = (q : ℕ) × Visiting N s q w₀ w lows highs out turn × (q < N) × ((q + s) % N ≡ i) × ((r' : ℕ) → Cleared r i r' → Stage N f S (q + 1) r' around)
+    -- and has been
+    pub going-next : (w' lows' highs' out' : List ℕ) (turn' : Turn) → Turned N i w out turn w' lows' highs' out' turn' → (r' : ℕ) → Cleared r i r'
+        → Going N s S w₀ w' lows' highs' out' turn' r' later
+    going-next w' lows' highs' out' turn' t r' d =
+        let n = next in
+        record {
+          made = n .0 + 1;
+          visiting = visiting-next N s (n .0) w₀ w lows highs out turn (n .2) (n .1) w' lows' highs' out' turn' (subst (λ (x : ℕ). Turned N x w out turn w' lows' highs' out' turn') (sym (n .3)) t);
+          empty = g .empty;
+          stage = n .4 r' d;
+        }
 
-    module _ (i : ℕ) (here : In r i) (lowest : (k : ℕ) → k < i → In r k → ⊥) where
-      next : Next i
-      next = go around (g .stage)
-        where
-          go : (b : Bool) → Stage N f S (g .made) r b → (q : ℕ) × Visiting N s q w₀ w lows highs out turn × (q < N) × ((q + s) % N ≡ i) × ((r' : ℕ) → Cleared r i r' → Stage N f S (q + 1) r' b)
-          go false (on l c) =
-              let x = reached N s S w₀ w lows highs out turn (g .made) f 0 (N - f) r (omega arith) (omega arith) (omega arith) (λ q _ t. on-port q t) (g .visiting) (g .empty) (on-cut (g .made) l c) i here lowest in (
-                i + 0 - f,
-                x .0,
-                omega (arith, x .2),
-                x .3,
-                λ r' d. on (omega (arith, c .below i here, c .from i here))
-                    (subst (λ (y : ℕ). Cut S y N r') (let e : i + 1 ≡ i + 0 - f + 1 + f = omega (arith, c .from i here) in e) (cut-lowered S (g .made + f) N r i r' c here lowest d)),
-              )
-          go true (past h l c) =
-              let x = reached N s S w₀ w lows highs out turn (g .made) f N N r (omega arith) l h (λ q a t. past-port (g .made) q h a t) (g .visiting) (g .empty) (past-cut (g .made) c) i here lowest in
-              let m : f < N = mod-lt s pos in (
-                i + N - f,
-                x .0,
-                x .2,
-                x .3,
-                λ r' d. past (omega arith) (omega (arith, x .2))
-                    (subst (λ (y : ℕ). Cut S y f r') (let e : i + 1 ≡ i + N - f + 1 + f - N = omega arith in e) (cut-lowered S (g .made + f - N) f r i r' c here lowest d)),
-              )
+  module _ (none : (k : ℕ) → In r k → ⊥) where
+    on-over : g .made + f ≤ N → Cut S (g .made + f) N r → Visiting N s (N - f) w₀ w lows highs out turn
+    on-over l c = over N s S w₀ w lows highs out turn (g .made) f 0 (N - f) r (omega arith) (omega arith) (omega arith) (λ q _ t. on-port q t) (g .visiting) (g .empty) (on-cut (g .made) l c) none
 
-      -- it can be visited
-      pub going-ready : Copy N (turn .rest) w lows highs × (i < N) × (N ≤ length out) × (getD out i 255 ≡ 255)
-      going-ready =
-          let n = next in (
-            n .1 .copy,
-            subst (λ (x : ℕ). x < N) (n .3) (mod-lt (n .0 + s) pos),
-            n .1 .seats .wide,
-            subst (λ (x : ℕ). getD out x 255 ≡ 255) (n .3) (n .1 .ahead (n .0) (omega arith) (n .2)),
-          )
+    -- none is left up to the last input: it goes on with those before the first one
+    pub going-around : (j : ℕ) → In later j → (r' : ℕ) → ((k : ℕ) → In r' k → ⊥) → Going N s S w₀ w lows highs out turn later r'
+    going-around j e r' no-one = go (g .stage)
+      where
+        go : Stage N f S (g .made) r later → Going N s S w₀ w lows highs out turn later r'
+        go (on l c b) = record { made = N - f; visiting = on-over l c; empty = g .empty; stage = past (omega (arith, small)) (omega arith) (first-cut b) no-one }
+        go (past h l c b) = absurd (b j e)
 
-      -- and has been
-      pub going-next : (w' lows' highs' out' : List ℕ) (turn' : Turn) → Turned N i w out turn w' lows' highs' out' turn' → (r' : ℕ) → Cleared r i r'
-          → Going N s S w₀ w' lows' highs' out' turn' earlier r' around
-      going-next w' lows' highs' out' turn' t r' d =
-          let n = next in
-          record {
-            made = n .0 + 1;
-            visiting = visiting-next N s (n .0) w₀ w lows highs out turn (n .2) (n .1) w' lows' highs' out' turn' (subst (λ (x : ℕ). Turned N x w out turn w' lows' highs' out' turn') (sym (n .3)) t);
-            empty = g .empty;
-            first = g .first;
-            stage = n .4 r' d;
-          }
+    -- none is left at all: every input has had its turn
+    pub going-end : ((k : ℕ) → In later k → ⊥) → Visiting N s N w₀ w lows highs out turn
+    going-end last = go (g .stage)
+      where
+        go : Stage N f S (g .made) r later → Visiting N s N w₀ w lows highs out turn
+        go (on l c b) =
+            over N s S w₀ w lows highs out turn (N - f) f N N later (omega arith) (omega arith) (omega (arith, small)) (λ q a t. past-port (N - f) q (omega (arith, small)) a t) (on-over l c) (g .empty)
+            (past-cut (N - f) later (first-cut b)) last
+        go (past h l c b) = over N s S w₀ w lows highs out turn (g .made) f N N r (omega arith) l h (λ q a t. past-port (g .made) q h a t) (g .visiting) (g .empty) (past-cut (g .made) r c) none
 
-  -- none is ahead of the last input: it goes on from input 0
-  pub going-around : (around : Bool) → around ≡ false → Going N s S w₀ w lows highs out turn earlier r around → ((k : ℕ) → In r k → ⊥) → Going N s S w₀ w lows highs out turn earlier earlier true
-  going-around around e h no-one =
-      record {
-        made = N - f;
-        visiting = go (g .stage);
-        empty = g .empty;
-        first = g .first;
-        stage = past (omega (arith, m)) (omega arith) (subst (λ (x : ℕ). Cut S x f earlier) (let z : 0 ≡ N - f + f - N = omega (arith, m) in z) (g .first));
-      }
+  -- they are all ports of the switch
+  pub going-inside : ((k : ℕ) → In r k → k < length out) × ((k : ℕ) → In later k → k < length out)
+  going-inside = go (g .stage)
     where
-      g : Going N s S w₀ w lows highs out turn earlier r false
-      g = subst (λ (x : Bool). Going N s S w₀ w lows highs out turn earlier r x) e h
+      go : Stage N f S (g .made) r later → ((k : ℕ) → In r k → k < length out) × ((k : ℕ) → In later k → k < length out)
+      go (on l c b) = (λ k h. omega (arith, c .below k h, g .visiting .seats .wide), λ k h. omega (arith, b .below k h, g .visiting .seats .wide, small))
+      go (past l t c b) = (λ k h. omega (arith, c .below k h, g .visiting .seats .wide, small), λ k h. absurd (b k h))
 
-      m : f < N
-      m = mod-lt s (g .visiting .copy .sized .some)
+-- ---- how many are left to visit: those that come later count twice, so that going on with them is a step too
 
-      go : Stage N f S (g .made) r false → Visiting N s (N - f) w₀ w lows highs out turn
-      go (on l c) = over N s S w₀ w lows highs out turn (g .made) f 0 (N - f) r (omega arith) (omega arith) (omega arith) (λ q _ t. on-port false g q t) (g .visiting) (g .empty) (on-cut (g .made) l c) no-one
+abbrev pub count : ℕ → ℕ
+count r = 128 - absent 128 r
 
-  -- none is ahead at all: every input has had its turn
-  pub going-end : (around : Bool) → around ≡ true → Going N s S w₀ w lows highs out turn earlier r around → ((k : ℕ) → In r k → ⊥) → Visiting N s N w₀ w lows highs out turn
-  going-end around e h no-one = go (g .stage)
-    where
-      g : Going N s S w₀ w lows highs out turn earlier r true
-      g = subst (λ (x : Bool). Going N s S w₀ w lows highs out turn earlier r x) e h
-
-      go : Stage N f S (g .made) r true → Visiting N s N w₀ w lows highs out turn
-      go (past h l c) = over N s S w₀ w lows highs out turn (g .made) f N N r (omega arith) l h (λ q a t. past-port true g (g .made) q h a t) (g .visiting) (g .empty) (past-cut (g .made) c) no-one
-
--- ---- how many are ahead
-
-abbrev pub ahead-count : ℕ → ℕ
-ahead-count r = 128 - absent 128 r
+abbrev pub to-visit : ℕ → ℕ → ℕ
+to-visit r later = count r + 2 * count later
 
 absent-most : (d l : ℕ) → absent d l ≤ d
 unfolding absent
 absent-most zero l = omega arith
 absent-most (suc d) l = omega (arith, absent-most d l)
 
-pub fewer-ahead : (r i r' : ℕ) → i < 128 → In r i → Cleared r i r' → ahead-count r' < ahead-count r
-fewer-ahead r i r' h e d = omega (arith, absent-most 128 r', absent-less r' r (d .less) 128 i h (d .gone) e)
+absent-all : (d l : ℕ) → ((k : ℕ) → In l k → ⊥) → absent d l ≡ d
+unfolding absent
+absent-all zero l h = omega arith
+absent-all (suc d) l h = omega (arith, absent-all d l h, digit-lt l d, h d)
 
--- before it goes around, more than can be ahead after it
-abbrev pub before-around : Bool → ℕ
-before-around around = cond around 0 129
+pub fewer-ahead : (r i r' later : ℕ) → i < 128 → In r i → Cleared r i r' → to-visit r' later < to-visit r later
+fewer-ahead r i r' later h e d = omega (arith, absent-most 128 r', absent-less r' r (d .less) 128 i h (d .gone) e)
 
-pub fewer-around : (around : Bool) → around ≡ false → (r r' : ℕ) → before-around true + ahead-count r' < before-around around + ahead-count r
-fewer-around around e r r' = subst (λ (x : Bool). before-around true + ahead-count r' < before-around x + ahead-count r) (sym e) (go (ahead-count r) (ahead-count r') (omega arith))
-  where
-    go : (x y : ℕ) → y ≤ 128 → before-around true + y < before-around false + x
-    go x y h = omega arith
-
--- and where they are
-pub ahead-inside : (N s S : ℕ) (w₀ w lows highs out : List ℕ) (turn : Turn) (earlier r : ℕ) (around : Bool) → Going N s S w₀ w lows highs out turn earlier r around → (k : ℕ) → In r k → k < length out
-ahead-inside N s S w₀ w lows highs out turn earlier r around g k h = go around (g .stage)
-  where
-    go : (b : Bool) → Stage N (s % N) S (g .made) r b → k < length out
-    go false (on l c) = omega (arith, c .below k h, g .visiting .seats .wide)
-    go true (past l t c) = omega (arith, c .below k h, g .visiting .seats .wide, mod-lt s (g .visiting .copy .sized .some))
+pub fewer-around : (r later j r' : ℕ) → j < 128 → In later j → ((k : ℕ) → In r' k → ⊥) → to-visit later r' < to-visit r later
+fewer-around r later j r' h e n = omega (arith, absent-all 128 r' n, absent-less r' later (λ k x. absurd (n k x)) 128 j h (n j) e)

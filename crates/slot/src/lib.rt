@@ -48,20 +48,19 @@ pub fn fill_slot(
     idle_all(out);
     let first = OutputPort(s % n);
     let inputs = rest.inputs;
-    let earlier = inputs.below(first);
     let mut ahead = inputs.from(first);
-    let mut around = false;
+    let mut later = inputs.below(first);
     let mut turn = Turn {
         taken: Wide::none(),
         rest: rest,
     };
     loop {
         let Found::At(i) = lowest_free(out.len(), ahead, Wide::none()) else {
-            if around {
+            let Found::At(j) = lowest_free(out.len(), later, Wide::none()) else {
                 return turn.rest;
-            }
-            around = true;
-            ahead = earlier;
+            };
+            ahead = later;
+            later = Wide::none();
             continue;
         };
         turn = visit(n, work, lows, highs, InputPort(i.0), turn, out);
