@@ -1,5 +1,5 @@
 // One slot of the quick cover, on a working copy with a label of outputs for each input: every input in turn, from one of them around,
-// takes the lowest free output with slots left for that pair, in one look at the label's two words.
+// takes the lowest free output with slots left for that pair. Inputs without slots left are passed over, by a set of those that may ask.
 // It promises that what was still to come is this slot's record and what is still to come of the cells it leaves, for any number of ports
 // up to 128. When the slots end and where their records go is left to the crate above.
 use demand::cell_at;
@@ -94,11 +94,9 @@ fn visit(
     let taken = turn.taken;
     let rest = turn.rest;
     let inputs = rest.inputs;
-    let low = lows[port];
-    let high = highs[port];
     let row = Wide {
-        low: Label(low),
-        high: Label(high),
+        low: Label(lows[port]),
+        high: Label(highs[port]),
     };
     let Found::At(j) = lowest_free(out.len(), row, taken) else {
         return Turn {
@@ -111,12 +109,11 @@ fn visit(
     };
     out[port] = j.0 as u8;
     serve(work, n, lows, highs, i, j);
-    let left = rest.left - 1;
     Turn {
         taken: taken.mark(j),
         rest: Rest {
             inputs: inputs,
-            left: left,
+            left: rest.left - 1,
         },
     }
 }

@@ -12,17 +12,17 @@ use borrow.Author.Needs.{needs}
 use Rattle.slot.proofs.visit.Statement.{statement}
 use Rattle.slot.proofs.visit.Tie as tie
 
-mul-low : tie.Need-mul-low
-mul-low c = search needs
+mul-t14 : tie.Need-mul-t14
+mul-t14 c = search needs
 
-slice-read-low : tie.Need-slice-read-low
-slice-read-low c = search needs
+slice-read-t16 : tie.Need-slice-read-t16
+slice-read-t16 c = search needs
 
-mul-high : tie.Need-mul-high
-mul-high c = search needs
+mul-t18 : tie.Need-mul-t18
+mul-t18 c = search needs
 
-slice-read-high : tie.Need-slice-read-high
-slice-read-high c = search needs
+slice-read-t20 : tie.Need-slice-read-t20
+slice-read-t20 c = search needs
 
 lowest-free-requires : tie.Need-lowest-free-requires
 lowest-free-requires c κs =
@@ -74,14 +74,14 @@ serve-requires c κs =
     let b = c .before .before .before .before .before in
     record { sized = start b .pre .0 .sized; labels = start b .pre .0 .labels; input = start b .pre .1; output = left b .0; enough = left b .1 }
 
-sub-left : tie.Need-sub-left
-sub-left c =
-    let b = c .before .before .before .before .before .before .before .before .before .before .before .before .before in
+mark-requires : tie.Need-mark-requires
+mark-requires c κs = lowest (c .before .before .before .before .before .before .before .before .before .before .before .before) .small
+
+sub-t16 : tie.Need-sub-t16
+sub-t16 c =
+    let b = c .before .before .before .before .before .before .before .before .before .before .before .before .before .before in
     let a = start b .args in
     omega (arith, start b .pre .0 .all, some-left (a .n) (a .work .now) (a .i .0) (b .j .given .0 .0 .0) (start b .pre .1) (left b .0) (left b .1))
-
-mark-requires : tie.Need-mark-requires
-mark-requires c κs = lowest (c .before .before .before .before .before .before .before .before .before .before .before .before .before) .small
 
 same-length : tie.Need-same-length
 same-length c = search needs
@@ -103,16 +103,16 @@ returns-2 c =
     let j = b .j .given .0 .0 .0 in
     turned-at (a .n) (a .i .0) (a .work .now) (a .lows .now) (a .highs .now) (a .out .now) (a .turn) (start b .pre .0) j (start b .pre .1) (left b .0) (left b .1)
     (turn-at (a .n) (a .work .now) (a .i .0) (labelOf (a .lows .now) (a .highs .now) (a .i .0)) (outputsOf (a .turn .taken)) (start b .pre .0 .labels .row (a .i .0) (start b .pre .1)) j (lowest b))
-    (t .last .0) (t .last .1 .1 .0) (t .last .1 .1 .1 .0) _ (t .ensures) (c .mark .ensures) refl refl
+    (t .last .0) (t .last .1 .1 .0) (t .last .1 .1 .1 .0) _ (t .ensures) (c .before .mark .ensures) refl refl
 
 pub visit-spec : {M : Type 1} → statement M
 visit-spec =
     tie.close
     (tie.spec
-    mul-low
-    slice-read-low
-    mul-high
-    slice-read-high
+    mul-t14
+    slice-read-t16
+    mul-t18
+    slice-read-t20
     lowest-free-requires
     enum-known-j
     enum-told
@@ -121,8 +121,8 @@ visit-spec =
     cast-out
     slice-write-out
     serve-requires
-    sub-left
     mark-requires
+    sub-t16
     same-length
     same-length-2
     same-length-3
