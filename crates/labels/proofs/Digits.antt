@@ -1,16 +1,18 @@
 -- The laws of sets as numbers: each operation on words works digit by digit, and the trailing zeros end at the lowest digit that is 1.
 use mathlib.Core.Path.{_≡_, refl, sym, ap, ap₂, _∙_, subst}
+use mathlib.Core.Bool.{Bool, true, false, true≢false}
 use mathlib.Core.Logic.{_⊎_, inl, inr, ⊎-elim}
 use Prim.Native.Nat.{ℕ, zero, suc, _+_, _-_, _*_, _/_, _%_, _^_, _≤_, _<_, min, max, zero-le, suc-le-suc}
-use native.Mathlib.Nat.{mod-lt, zero-lt-suc, not-suc-le-zero, le-of-suc-le-suc, div-add-mod', pow-suc, mul-mod-left, div-one, zero-div, one-mul, lt-of-le-of-lt}
+use native.Mathlib.Nat.{mod-lt, zero-lt-suc, not-suc-le-zero, le-of-suc-le-suc, div-add-mod', pow-suc, mul-mod-left, suc-mul, zero-mul, div-one, zero-div, one-mul, lt-of-le-of-lt}
 use native.Mathlib.Numerals.{add-one, one-add}
-use native.Mathlib.Decide.{ℕ-discrete, decLt}
+use native.Mathlib.Decide.{ℕ-discrete}
 use native.Mathlib.Omega.{arith}
 use lib.Arith.{digits-mod, lt-one}
 use lib.Pow.{shr-shr, shr-lt, high, shl-exact, pow-pos}
-use lib.Bits.{bitAnd, bitOr, bitXor, differ, and-step, or-step, xor-step, and-shr, or-shr, xor-shr, xor-lt, and-le-l, and-le-r, and-mask, block-half, block-odd, shifted-half}
+use lib.Bits.{bitAnd, bitOr, bitXor, differ, and-step, or-step, xor-step, and-shr, or-shr, xor-shr, xor-lt, and-le-l, and-mask, and-zero-r, xor-zero-r, block-half, block-odd, shifted-half}
+use mir.Val.{boolByte}
 use lib.Count.{trailingZeros, under, trailing-le}
-use Rattle.labels.specs.Label.{digit, In, Sub, Marked, Cleared, Union, But, Below, LowestAt, absent}
+use Rattle.labels.specs.Label.{digit, In, Sub, Marked, Cleared, ClearedIf, Union, But, Below, From, LowestAt, absent}
 
 two-pos : zero < 2
 two-pos = zero-lt-suc 1
@@ -115,6 +117,11 @@ cleared l j = record {
   kept = λ k h d. omega (arith, less-digit l (2 ^ j) k, one-other j k d);
 }
 
+-- the same where the shifted bit is 1 only if the output is gone
+pub cleared-if : (gone : Bool) (l j : ℕ) → j < 64 → ClearedIf gone l j (bitXor l (bitAnd l ((boolByte gone * 2 ^ j) % 2 ^ 64)))
+cleared-if true l j h = record { cleared = λ _. rw (one-shifted j h) (cleared l j); same = λ e. absurd (true≢false e) }
+cleared-if false l j h = record { cleared = λ e. absurd (true≢false (sym e)); same = λ _. ap (λ (x : ℕ). bitXor l (bitAnd l (x % 2 ^ 64))) (zero-mul (2 ^ j)) ∙ ap (bitXor l) (and-zero-r l) ∙ xor-zero-r l }
+
 pub union : (l m : ℕ) → Union l m (bitOr l m)
 union l m = record {
   left = λ k h. omega (arith, or-digit l m k, digit-lt m k);
@@ -191,54 +198,12 @@ module _ (row tried : ℕ) where
         past = λ k l e. omega (arith, less-digit row tried k, trailing 64 left .0 k l, digit-lt tried k);
       }
 
--- one less: the lowest digit that is 1 becomes 0, and those above it stay
-pred-digit : (j m : ℕ) → ((i : ℕ) → i < j → digit m i ≡ 0) → digit m j ≡ 1 → (digit (m - 1) j ≡ 0) × ((k : ℕ) → j < k → digit (m - 1) k ≡ digit m k)
-pred-digit zero m low at = (digit-zero (m - 1) ∙ omega (arith, digit-zero m, at, div-add-mod' m 2), above)
-  where
-    above : (k : ℕ) → 0 < k → digit (m - 1) k ≡ digit m k
-    above zero h = absurd (not-suc-le-zero h)
-    above (suc k) h = digit-suc (m - 1) k ∙ ap (λ (x : ℕ). digit x k) (omega (arith, digit-zero m, at, div-add-mod' m 2)) ∙ sym (digit-suc m k)
-pred-digit (suc j) m low at = go (pred-digit j (m / 2) (λ i l. sym (digit-suc m i) ∙ low (suc i) (suc-le-suc l)) (sym (digit-suc m j) ∙ at))
-  where
-    half : (m - 1) / 2 ≡ m / 2 - 1
-    half = omega (arith, digit-zero m, low 0 (zero-lt-suc j))
-
-    go : (digit (m / 2 - 1) j ≡ 0) × ((k : ℕ) → j < k → digit (m / 2 - 1) k ≡ digit (m / 2) k) → (digit (m - 1) (suc j) ≡ 0) × ((k : ℕ) → suc j < k → digit (m - 1) k ≡ digit m k)
-    go ih = (digit-suc (m - 1) j ∙ ap (λ (x : ℕ). digit x j) half ∙ ih .0, above)
-      where
-        above : (k : ℕ) → suc j < k → digit (m - 1) k ≡ digit m k
-        above zero h = absurd (not-suc-le-zero h)
-        above (suc k) h = digit-suc (m - 1) k ∙ ap (λ (x : ℕ). digit x k) half ∙ ih .1 k (le-of-suc-le-suc h) ∙ sym (digit-suc m k)
-
--- so that the set and one less have all in common but its lowest output
-pub rest : (l t j : ℕ) → ((k : ℕ) → In t k → ⊥) → LowestAt 64 l t j → Cleared l j (bitAnd l (l - 1))
-rest l t j none m = record {
-  gone = λ h. omega (arith, and-digit l (l - 1) j, pred .0);
-  less = λ k h. omega (arith, and-digit l (l - 1) k, digit-lt l k);
-  kept = λ k h d. omega (arith, and-digit l (l - 1) k, pred .1 k (over k h d), h);
-}
-  where
-    low : (i : ℕ) → i < j → digit l i ≡ 0
-    low i q = ⊎-elim (λ h. absurd (none i (m .past i q h))) (λ f. omega (arith, digit-lt l i)) (same-or (digit l i) 1)
-
-    pred : (digit (l - 1) j ≡ 0) × ((k : ℕ) → j < k → digit (l - 1) k ≡ digit l k)
-    pred = pred-digit j l low (m .here)
-
-    over : (k : ℕ) → In l k → (k ≡ j → ⊥) → j < k
-    over k h d = go (decLt k j)
-      where
-        go : Dec (k < j) → j < k
-        go (yes q) = absurd (none k (m .past k q h))
-        go (no q) = omega arith
-
--- a set with an output is not 0, and less without it
-pub rest-less : (l j : ℕ) → In l j → bitAnd l (l - 1) < l
-rest-less l j h = ⊎-elim (λ e. absurd (omega (arith, ap (λ (x : ℕ). digit x j) e, none-digit j))) (λ f. omega (arith, and-le-r l (l - 1))) (same-or l 0)
-
-pub some : (l j : ℕ) → In l j → 0 < l
-some l j h = ⊎-elim (λ e. absurd (omega (arith, ap (λ (x : ℕ). digit x j) e, none-digit j))) (λ f. omega arith) (same-or l 0)
-
 -- ---- the measure
+
+pub absent-most : (d l : ℕ) → absent d l ≤ d
+unfolding absent
+absent-most zero l = zero-le
+absent-most (suc d) l = omega (arith, absent-most d l)
 
 module _ (l m : ℕ) (s : Sub l m) where
   one-less : (k : ℕ) → 1 - digit m k ≤ 1 - digit l k
@@ -266,6 +231,10 @@ module _ (l m : ℕ) (s : Sub l m) where
 
       lt-of : (j ≡ d → ⊥) → j < d
       lt-of e = omega arith
+
+-- where an output is taken out, fewer are left
+pub fewer : (d l j r : ℕ) → j < d → In l j → Cleared l j r → d - absent d r < d - absent d l
+fewer d l j r h e c = omega (arith, absent-most d r, absent-less r l (c .less) d j h (c .gone) e)
 
 -- a mark of a new output leaves one fewer
 pub absent-mark : (l j r d : ℕ) → Marked l j r → (In l j → ⊥) → j < d → absent d r + 1 ≡ absent d l
@@ -327,6 +296,73 @@ below l j = record {
 
     same : (k : ℕ) → k < j → digit l k ≡ digit (l % 2 ^ j) k
     same k q = ap (λ (x : ℕ). digit x k) (sym (div-add-mod' l (2 ^ j))) ∙ cat-low j (l / 2 ^ j) (l % 2 ^ j) k q
+
+-- l less what is left of it by 2 ^ j has the digits of l from j on
+pub from-on : (l j : ℕ) → From l j (l - l % 2 ^ j)
+from-on l j = record {
+  less = λ k h. high-part (λ x. In (l - l % 2 ^ j) x → In l x) (λ x q h. absurd (omega (arith, low x q))) (λ i h. above i ∙ h) k h;
+  large = λ k h. high-part (λ x. In (l - l % 2 ^ j) x → j ≤ x) (λ x q h. absurd (omega (arith, low x q))) (λ i h. omega arith) k h;
+  all = λ k q h. high-part (λ x. j ≤ x → In l x → In (l - l % 2 ^ j) x) (λ x q l h. absurd (omega arith)) (λ i _ h. sym (above i) ∙ h) k q h;
+}
+  where
+    whole : l - l % 2 ^ j ≡ l / 2 ^ j * 2 ^ j + 0
+    whole = omega (arith, div-add-mod' l (2 ^ j))
+
+    low : (k : ℕ) → k < j → digit (l - l % 2 ^ j) k ≡ 0
+    low k q = ap (λ (x : ℕ). digit x k) whole ∙ cat-low j (l / 2 ^ j) 0 k q ∙ none-digit k
+
+    above : (i : ℕ) → digit l (j + i) ≡ digit (l - l % 2 ^ j) (j + i)
+    above i = ap (λ (x : ℕ). digit x (j + i)) (sym (div-add-mod' l (2 ^ j))) ∙ cat-high j (l / 2 ^ j) (l % 2 ^ j) i (mod-lt l (pow-pos j))
+        ∙ sym (ap (λ (x : ℕ). digit x (j + i)) whole ∙ cat-high j (l / 2 ^ j) 0 i (pow-pos j))
+
+    -- what holds of the digits below j and of those from j on holds of all
+    high-part : (P : ℕ → Type 0) → ((k : ℕ) → k < j → P k) → ((i : ℕ) → P (j + i)) → (k : ℕ) → P k
+    high-part P f g k = ⊎-elim (λ e. subst P e (g (k - j))) (λ e. f k (omega arith)) (same-or (j + (k - j)) k)
+
+-- l & (l - 1), where j is the lowest digit that is 1: no digit above j changes
+pub lowered-at : (l j : ℕ) → In l j → ((k : ℕ) → k < j → In l k → ⊥) → Cleared l j (bitAnd l (l - 1))
+lowered-at l j e f = record {
+  gone = λ h. omega (arith, and-digit l (l - 1) j, at-j);
+  less = λ k h. omega (arith, and-digit l (l - 1) k, digit-lt l k);
+  kept = λ k h d. omega (arith, and-digit l (l - 1) k, h, above k (over k h d) ∙ h);
+}
+  where
+    q : ℕ
+    q = l / 2 ^ j
+
+    bare : l % 2 ^ j ≡ 0
+    bare = all-zero j (l % 2 ^ j) (mod-lt l (pow-pos j)) (λ i h. ⊎-elim (λ z. absurd (f i h (below l j .less i z))) (λ z. omega (arith, digit-lt (l % 2 ^ j) i)) (same-or (digit (l % 2 ^ j) i) 1))
+
+    whole : l ≡ q * 2 ^ j + 0
+    whole = omega (arith, div-add-mod' l (2 ^ j), bare)
+
+    upper : (i : ℕ) → digit l (j + i) ≡ digit q i
+    upper i = ap (λ (x : ℕ). digit x (j + i)) whole ∙ cat-high j q 0 i (pow-pos j)
+
+    odd : q % 2 ≡ 1
+    odd = sym (digit-zero q) ∙ sym (upper 0) ∙ ap (digit l) (let z : j + 0 ≡ j = omega arith in z) ∙ e
+
+    less-one : l - 1 ≡ (q - 1) * 2 ^ j + (2 ^ j - 1)
+    less-one = ap (λ (x : ℕ). x - 1) whole ∙ borrowed q odd
+      where
+        borrowed : (x : ℕ) → x % 2 ≡ 1 → x * 2 ^ j + 0 - 1 ≡ (x - 1) * 2 ^ j + (2 ^ j - 1)
+        borrowed zero z = absurd (omega arith)
+        borrowed (suc x) z = omega (arith, pow-pos j, suc-mul x (2 ^ j), ap (λ (y : ℕ). y * 2 ^ j) (let y : suc x - 1 ≡ x = omega arith in y))
+
+    lower : (i : ℕ) → digit (l - 1) (j + i) ≡ digit (q - 1) i
+    lower i = ap (λ (x : ℕ). digit x (j + i)) less-one ∙ cat-high j (q - 1) (2 ^ j - 1) i (omega (arith, pow-pos j))
+
+    at-j : digit (l - 1) j ≡ 0
+    at-j = ap (digit (l - 1)) (let z : j ≡ j + 0 = omega arith in z) ∙ lower 0 ∙ digit-zero (q - 1) ∙ omega (arith, odd)
+
+    above : (k : ℕ) → j < k → digit (l - 1) k ≡ digit l k
+    above k h =
+        let z : k ≡ j + suc (k - j - 1) = omega arith in
+        ap (digit (l - 1)) z ∙ lower (suc (k - j - 1)) ∙ digit-suc (q - 1) (k - j - 1) ∙ ap (λ (x : ℕ). digit x (k - j - 1)) (let y : (q - 1) / 2 ≡ q / 2 = omega (arith, odd) in y)
+        ∙ sym (digit-suc q (k - j - 1)) ∙ sym (upper (suc (k - j - 1))) ∙ sym (ap (digit l) z)
+
+    over : (k : ℕ) → In l k → (k ≡ j → ⊥) → j < k
+    over k h d = ⊎-elim (λ z. absurd (f k (omega arith) h)) (λ z. omega (arith, d)) (same-or (suc k - j) 0)
 
 -- every digit below w of the last number below 2 ^ w
 pub every : (w k : ℕ) → k < w → In (2 ^ w - 1) k

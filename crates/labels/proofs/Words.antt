@@ -1,11 +1,11 @@
 -- The laws of sets of two words: output k is in the low word, or output k - 64 in the high one.
 use mathlib.Core.Path.{_≡_, sym, ap, _∙_, subst}
 use mathlib.Core.Logic.{_⊎_, inl, inr, ⊎-elim}
-use Prim.Native.Nat.{ℕ, _+_, _-_, _^_, _<_}
+use Prim.Native.Nat.{ℕ, _+_, _-_, _^_, _≤_, _<_}
 use native.Mathlib.Decide.{decLt}
 use native.Mathlib.Omega.{arith}
-use Rattle.labels.specs.Label.{digit, In, Sub, Marked, Cleared, Union, But, Below, LowestAt}
-use Rattle.labels.proofs.Digits.{cat-low, cat-high}
+use Rattle.labels.specs.Label.{digit, In, Sub, Marked, Cleared, Lowered, Union, But, Below, From, LowestAt}
+use Rattle.labels.proofs.Digits.{digit-lt, same-or, all-zero, cat-low, cat-high}
 use Rattle.labels.specs.Wide.{two}
 
 pub low : (a r k : ℕ) → k < 64 → digit (two a r) k ≡ digit r k
@@ -116,6 +116,36 @@ below-high a r c j hr b = record {
   less = by-word (λ k. In (two c r) k → In (two a r) k) (λ k q x. low a r k q ∙ sym (low c r k q) ∙ x) (λ i x. high a r i hr ∙ b .less i (sym (high c r i hr) ∙ x));
   small = by-word (λ k. In (two c r) k → k < 64 + j) (λ k q x. omega arith) (λ i x. let l : i < j = b .small i (sym (high c r i hr) ∙ x) in omega arith);
   all = by-word (λ k. k < 64 + j → In (two a r) k → In (two c r) k) (λ k q l x. low c r k q ∙ sym (low a r k q) ∙ x) (λ i l x. high c r i hr ∙ b .all i (omega arith) (sym (high a r i hr) ∙ x));
+}
+
+pub from-low : (a r s j : ℕ) → r < 2 ^ 64 → s < 2 ^ 64 → j < 64 → From r j s → From (two a r) j (two a s)
+from-low a r s j hr hs hj f = record {
+  less = by-word (λ k. In (two a s) k → In (two a r) k) (λ k q x. low a r k q ∙ f .less k (sym (low a s k q) ∙ x)) (λ i x. high a r i hr ∙ sym (high a s i hs) ∙ x);
+  large = by-word (λ k. In (two a s) k → j ≤ k) (λ k q x. f .large k (sym (low a s k q) ∙ x)) (λ i x. omega arith);
+  all = by-word (λ k. j ≤ k → In (two a r) k → In (two a s) k) (λ k q l x. low a s k q ∙ f .all k l (sym (low a r k q) ∙ x)) (λ i l x. high a s i hs ∙ sym (high a r i hr) ∙ x);
+}
+
+pub from-high : (a r c s j : ℕ) → r < 2 ^ 64 → s < 2 ^ 64 → ((k : ℕ) → In s k → ⊥) → From a j c → From (two a r) (64 + j) (two c s)
+from-high a r c s j hr hs ns f = record {
+  less = by-word (λ k. In (two c s) k → In (two a r) k) (λ k q x. absurd (ns k (sym (low c s k q) ∙ x))) (λ i x. high a r i hr ∙ f .less i (sym (high c s i hs) ∙ x));
+  large = by-word (λ k. In (two c s) k → 64 + j ≤ k) (λ k q x. absurd (ns k (sym (low c s k q) ∙ x))) (λ i x. let l : j ≤ i = f .large i (sym (high c s i hs) ∙ x) in omega arith);
+  all = by-word (λ k. 64 + j ≤ k → In (two a r) k → In (two c s) k) (λ k q l x. absurd (omega arith)) (λ i l x. high c s i hs ∙ f .all i (omega arith) (sym (high a r i hr) ∙ x));
+}
+
+-- the lowest output stands in the low word where that has one
+pub lowered-low : (a r s : ℕ) → r < 2 ^ 64 → s < 2 ^ 64 → (r ≡ 0 → ⊥) → Lowered r s → Lowered (two a r) (two a s)
+lowered-low a r s hr hs some m = record { cleared = by-word (λ j. In (two a r) j → ((k : ℕ) → k < j → In (two a r) k → ⊥) → Cleared (two a r) j (two a s)) here past }
+  where
+    here : (j : ℕ) → j < 64 → In (two a r) j → ((k : ℕ) → k < j → In (two a r) k → ⊥) → Cleared (two a r) j (two a s)
+    here j q e f = cleared-low a r s j hr hs q (m .cleared j (sym (low a r j q) ∙ e) (λ k l h. f k l (low a r k (omega arith) ∙ h)))
+
+    past : (i : ℕ) → In (two a r) (64 + i) → ((k : ℕ) → k < 64 + i → In (two a r) k → ⊥) → Cleared (two a r) (64 + i) (two a s)
+    past i e f = absurd (some (all-zero 64 r hr (λ k q. ⊎-elim (λ z. absurd (f k (omega arith) (low a r k q ∙ z))) (λ z. omega (arith, digit-lt r k)) (same-or (digit r k) 1))))
+
+pub lowered-high : (a b r : ℕ) → r < 2 ^ 64 → ((k : ℕ) → In r k → ⊥) → Lowered a b → Lowered (two a r) (two b r)
+lowered-high a b r hr nr m = record {
+  cleared = by-word (λ j. In (two a r) j → ((k : ℕ) → k < j → In (two a r) k → ⊥) → Cleared (two a r) j (two b r)) (λ j q e f. absurd (nr j (sym (low a r j q) ∙ e)))
+      (λ i e f. cleared-high a b r i hr (m .cleared i (sym (high a r i hr) ∙ e) (λ k l h. f (64 + k) (omega arith) (high a r k hr ∙ h))));
 }
 
 pub every : (a r : ℕ) → r < 2 ^ 64 → ((k : ℕ) → k < 64 → In a k) → ((k : ℕ) → k < 64 → In r k) → (k : ℕ) → k < 128 → In (two a r) k

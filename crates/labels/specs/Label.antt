@@ -1,8 +1,8 @@
 -- A set of outputs is a number: output j is in the set where binary digit j is 1. Definitions only.
 use mathlib.Core.Path.{_≡_}
-use mathlib.Core.Bool.{Bool}
+use mathlib.Core.Bool.{Bool, true, false}
 use mathlib.Core.Logic.{_⊎_}
-use Prim.Native.Nat.{ℕ, zero, suc, _+_, _-_, _/_, _%_, _^_, _<_}
+use Prim.Native.Nat.{ℕ, zero, suc, _+_, _-_, _/_, _%_, _^_, _≤_, _<_}
 use lib.Dec.{eqb}
 use Rattle.labels.specs.declared.Found.{Found}
 use Rattle.labels.specs.declared.Found.the-variants.{At, Nothing}
@@ -35,6 +35,15 @@ pub record Cleared (l j r : ℕ) : Type 0 where
   pub less : Sub r l
   pub kept : (k : ℕ) → In l k → (k ≡ j → ⊥) → In r k
 
+-- r is l without output j where that is gone, and else l
+pub record ClearedIf (gone : Bool) (l j r : ℕ) : Type 0 where
+  pub cleared : gone ≡ true → Cleared l j r
+  pub same : gone ≡ false → r ≡ l
+
+-- r is l without its lowest output
+pub record Lowered (l r : ℕ) : Type 0 where
+  pub cleared : (j : ℕ) → In l j → ((k : ℕ) → k < j → In l k → ⊥) → Cleared l j r
+
 -- r is l and m together
 pub record Union (l m r : ℕ) : Type 0 where
   pub left : Sub l r
@@ -52,6 +61,12 @@ pub record Below (l j r : ℕ) : Type 0 where
   pub less : Sub r l
   pub small : (k : ℕ) → In r k → k < j
   pub all : (k : ℕ) → k < j → In l k → In r k
+
+-- r is what l has from j on
+pub record From (l j r : ℕ) : Type 0 where
+  pub less : Sub r l
+  pub large : (k : ℕ) → In r k → j ≤ k
+  pub all : (k : ℕ) → j ≤ k → In l k → In r k
 
 -- j is the lowest output of the row that is not tried, of w outputs
 pub record LowestAt (w row tried j : ℕ) : Type 0 where

@@ -4,7 +4,7 @@
 use switch::OutputPort;
 ghost use mathlib.Core.Path.{_≡_};
 ghost use Prim.Native.Nat.{ℕ, _<_};
-ghost use Rattle.labels.specs.Label.{In, Marked, Cleared, Union, But, Below, LowestAt, Lowest, hasOutput};
+ghost use Rattle.labels.specs.Label.{In, Marked, Cleared, ClearedIf, Lowered, Union, But, Below, From, Lowest, hasOutput};
 ghost use Rattle.labels.specs.Wide.{outputsOf};
 
 // Every output of a word.
@@ -67,6 +67,26 @@ impl Label {
         Label(self.0 ^ (self.0 & (1u64 << k)))
     }
 
+    // The set without output j, where that is gone. No branch waits for the answer.
+    pub fn without_if(self, j: OutputPort, gone: bool) -> Label
+        requires { ⌜ j .0 < 64 ⌝ }
+        ensures { λ r. ⌜ ClearedIf gone (self .0) (j .0) (r .0) ⌝ }
+    {
+        let k = j.0;
+        let one = gone as u64;
+        Label(self.0 ^ (self.0 & (one << k)))
+    }
+
+    // The set without its lowest output, in a step that need not know which it is.
+    pub fn without_lowest(self) -> Label
+        ensures { λ r. ⌜ Lowered (self .0) (r .0) ⌝ }
+    {
+        if self.0 == 0 {
+            return self;
+        }
+        Label(self.0 & (self.0 - 1))
+    }
+
     // The outputs of both sets.
     pub fn with(self, other: Label) -> Label
         ensures { λ r. ⌜ Union (self .0) (other .0) (r .0) ⌝ }
@@ -81,14 +101,6 @@ impl Label {
         Label(self.0 ^ (self.0 & other.0))
     }
 
-    // The set without its lowest output.
-    pub fn rest(self) -> Label
-        requires { ⌜ ((j : ℕ) × In (self .0) j) ⌝ }
-        ensures { λ r. ⌜ (r .0 < self .0) × ((t j : ℕ) → ((k : ℕ) → In t k → ⊥) → LowestAt 64 (self .0) t j → Cleared (self .0) j (r .0)) ⌝ }
-    {
-        Label(self.0 & (self.0 - 1))
-    }
-
     // The outputs of the set that are lower than j.
     pub fn below(self, j: OutputPort) -> Label
         requires { ⌜ j .0 < 64 ⌝ }
@@ -97,6 +109,16 @@ impl Label {
         let k = j.0;
         let first = 1u64 << k;
         Label(self.0 % first)
+    }
+
+    // The outputs of the set that are not lower than j.
+    pub fn from(self, j: OutputPort) -> Label
+        requires { ⌜ j .0 < 64 ⌝ }
+        ensures { λ r. ⌜ From (self .0) (j .0) (r .0) ⌝ }
+    {
+        let k = j.0;
+        let first = 1u64 << k;
+        Label(self.0 - self.0 % first)
     }
 
     // The lowest output of the set that is not tried.
@@ -186,6 +208,44 @@ impl Wide {
         }
     }
 
+    // The set without output j, where that is gone.
+    pub fn without_if(self, j: OutputPort, gone: bool) -> Wide
+        requires { ⌜ j .0 < 128 ⌝ }
+        ensures { λ r. ⌜ ClearedIf gone (outputsOf self) (j .0) (outputsOf r) ⌝ }
+    {
+        let k = j.0;
+        let l = self.low;
+        let h = self.high;
+        if k < 64 {
+            return Wide {
+                low: l.without_if(j, gone),
+                high: h,
+            };
+        }
+        Wide {
+            low: l,
+            high: h.without_if(OutputPort(k - 64), gone),
+        }
+    }
+
+    // The set without its lowest output.
+    pub fn without_lowest(self) -> Wide
+        ensures { λ r. ⌜ Lowered (outputsOf self) (outputsOf r) ⌝ }
+    {
+        let l = self.low;
+        let h = self.high;
+        if l.0 == 0 {
+            return Wide {
+                low: l,
+                high: h.without_lowest(),
+            };
+        }
+        Wide {
+            low: l.without_lowest(),
+            high: h,
+        }
+    }
+
     // The outputs of both sets.
     pub fn with(self, other: Wide) -> Wide
         ensures { λ r. ⌜ Union (outputsOf self) (outputsOf other) (outputsOf r) ⌝ }
@@ -231,6 +291,26 @@ impl Wide {
         Wide {
             low: l,
             high: h.below(OutputPort(k - 64)),
+        }
+    }
+
+    // The outputs of the set that are not lower than j.
+    pub fn from(self, j: OutputPort) -> Wide
+        requires { ⌜ j .0 < 128 ⌝ }
+        ensures { λ r. ⌜ From (outputsOf self) (j .0) (outputsOf r) ⌝ }
+    {
+        let k = j.0;
+        let l = self.low;
+        let h = self.high;
+        if k < 64 {
+            return Wide {
+                low: l.from(j),
+                high: h,
+            };
+        }
+        Wide {
+            low: Label::none(),
+            high: h.from(OutputPort(k - 64)),
         }
     }
 

@@ -489,7 +489,7 @@ fn word_leads_to(
         }
         let w = v as usize;
         outputs = outputs.with(row_of(lows, highs, InputPort(w - 1)));
-        rest = rest.rest();
+        rest = rest.without_lowest();
     }
 }
 
@@ -518,9 +518,9 @@ fn mover(lows: &[u64], highs: &[u64], by: &[u8], wave: Wide, wanted: OutputPort)
     requires { ⌜ Rows 128 (now lows) (now highs) × (wanted .0 < 128) × Movable 128 (length (now lows)) (Allowed (now lows) (now highs)) (now by) (outputsOf wave) (wanted .0) ⌝ }
     ensures { λ r. ⌜ Mover (Allowed (now (lows .entry)) (now (highs .entry))) (now (by .entry)) (outputsOf wave) (wanted .0) (r .0) ⌝ }
 {
-    let mut met = Wide::none();
+    let mut rest = wave;
     loop {
-        let f = wave.lowest_untried(met);
+        let f = rest.lowest_untried(Wide::none());
         let Found::At(j) = f else {
             return wanted;
         };
@@ -530,7 +530,7 @@ fn mover(lows: &[u64], highs: &[u64], by: &[u8], wave: Wide, wanted: OutputPort)
         if row.has(wanted) {
             return j;
         }
-        met = met.mark(j);
+        rest = rest.without_lowest();
     }
 }
 

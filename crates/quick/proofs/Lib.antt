@@ -1,3 +1,5 @@
 pub mod Standing
+pub mod Filling
 pub mod Loading
 pub mod Planning
+pub mod Rounds

@@ -13,12 +13,16 @@ use Rattle.rules.specs.Quick.{quickPlan}
 use Rattle.rules.proofs.QuickFrom.{quick-cong}
 use Rattle.work.specs.Level.{Sized}
 use Rattle.work.specs.Labelled.{Labelled}
+use Rattle.labels.specs.Label.{In}
+use Rattle.labels.specs.Wide.{outputsOf}
+use Rattle.slot.specs.declared.Rest.{Rest}
 use Rattle.slot.specs.Filled.{leftIn, leftover}
 use Rattle.quick.specs.Lent.{Small, Loaded}
 
 module _ (N : ℕ) (d w : List ℕ) (m : Small N d) where
-  pub loaded : (w' lows' highs' : List ℕ) (left : ℕ) → w' ≡ d ++ w → Sized N w' → Labelled N w' lows' highs' → left ≡ allSlots N (cell N d) → Loaded N d w' lows' highs' left
-  loaded w' lows' highs' left e s l a = record { copy = record { sized = s; labels = l; all = a ∙ all }; same = same }
+  pub loaded : (w' lows' highs' : List ℕ) (rest : Rest) → w' ≡ d ++ w → Sized N w' → Labelled N w' lows' highs' → rest .left ≡ allSlots N (cell N d)
+      → ((k : ℕ) → In (outputsOf (rest .inputs)) k → k < N) → ((k : ℕ) → k < N → In (outputsOf (rest .inputs)) k) → Loaded N d w' lows' highs' rest
+  loaded w' lows' highs' rest e s l a i o = record { copy = record { sized = s; labels = l; all = a ∙ all; inside = i; others = λ k q n j _. absurd (n (o k q)) }; same = same }
     where
       same : (i j : ℕ) → i < N → j < N → cell N w' i j ≡ cell N d i j
       same = subst (λ (x : List ℕ). (i j : ℕ) → i < N → j < N → cell N x i j ≡ cell N d i j) (sym e) (cell-append N d w (m .size))
@@ -26,8 +30,8 @@ module _ (N : ℕ) (d w : List ℕ) (m : Small N d) where
       all : allSlots N (cell N d) ≡ leftIn N w'
       all = unfold leftIn allSlots in sum-cong N (row N (cell N d)) (row N (cell N w')) (row-cong N (cell N d) (cell N w') (λ i j li lj. sym (same i j li lj)))
 
-pub loaded-plan : (W N : ℕ) (d w lows highs : List ℕ) (left : ℕ) → Loaded N d w lows highs left → leftover W N 0 w ≡ quickPlan W N d
+pub loaded-plan : (W N : ℕ) (d w lows highs : List ℕ) (rest : Rest) → Loaded N d w lows highs rest → leftover W N 0 w ≡ quickPlan W N d
 unfolding leftover quickPlan
-loaded-plan W N d w lows highs left l =
+loaded-plan W N d w lows highs rest l =
     let z : Sized N w = l .copy .sized in
     quick-cong W N (z .some) (omega (arith, z .few)) 0 (cell N w) (cell N d) (l .same)

@@ -5,7 +5,7 @@ use mathlib.Core.List.{List, [], _∷_}
 use Prim.Native.Nat.{ℕ, zero, suc, _+_, _*_, _-_, _≤_, _<_}
 use native.Mathlib.Nat.{mul-le-mul, le-div-iff-mul-le}
 use native.Mathlib.Omega.{arith}
-use lib.ListN.{length, take, getD, replicate}
+use lib.ListN.{length, take}
 use lib.Seq.{length-take-le}
 use lib.Dec.{eqb}
 use Rattle.counting.specs.Sum.{sum}
@@ -29,8 +29,8 @@ use Rattle.rules.specs.Quick.{slot, slots, quickFrom, quickPlan}
 use Rattle.rules.proofs.Peels.{length-tab}
 use Rattle.rules.proofs.Quick.{quick-total, quick-at-most}
 use Rattle.rules.proofs.Empty.{quick-empty-slots}
-use Rattle.planner.specs.Planned.{Planned, plannedUpTo, Gives, shortage}
-use Rattle.planner.proofs.Planned.{limited-faulty, limited-long, limited-short, limited-done, written-outcome, written-bytes, gives, gives-one, shortage-none, shortage-some}
+use Rattle.planner.specs.Planned.{Planned, plannedUpTo, Gives}
+use Rattle.planner.proofs.Planned.{limited-faulty, limited-long, limited-short, limited-done, written-outcome, written-bytes, gives, gives-one}
 use Rattle.quick.specs.Lent.{Lent, Space}
 
 -- room for 2T - 1 records is always enough
@@ -71,23 +71,19 @@ module _ (W e N : ℕ) (d buf : List ℕ) where
     pub gives-longest : 1024 < T → Gives answer (Refused Longest) buf
     gives-longest l = gives answer _ (limited-long 1024 W e N d (quickPlan W N d) buf T fine l) _ _ refl refl
 
-    module _ (small : T ≤ 1024) (need : ℕ) (short : need ≡ shortage (whole W buf) (length (quickPlan W N d))) where
+    module _ (small : T ≤ 1024) (r : ℕ) (count : r ≡ length (quickPlan W N d)) where
       -- code 5
-      pub gives-room : (need ≡ 0 → ⊥) → Gives answer (Refused (Room need)) buf
+      pub gives-room : whole W buf < r → Gives answer (Refused (Room r)) buf
       gives-room h =
-          let m = shortage-some _ _ (λ z. h (short ∙ z)) in
-          gives answer _ (limited-short 1024 W e N d (quickPlan W N d) buf T fine small (m .0)) _ _ (ap {B = Outcome} (λ (k : ℕ). Refused (Room k)) (short ∙ m .1)) refl
-
-      pub enough-room : need ≡ 0 → length (quickPlan W N d) ≤ whole W buf
-      enough-room z = shortage-none _ _ (sym short ∙ z)
+          gives answer _ (limited-short 1024 W e N d (quickPlan W N d) buf T fine small (omega (arith, count))) _ _ (ap {B = Outcome} (λ (k : ℕ). Refused (Room k)) count) refl
 
       -- as many records as the plan has, each held for one slot, and no slot empty
-      pub gives-plan : W ≤ 128 → need ≡ 0 → (r : ℕ) (after : List ℕ) → r ≡ length (quickPlan W N d) → after ≡ laid buf 0 (bytes e N (quickPlan W N d))
+      pub gives-plan : W ≤ 128 → length (quickPlan W N d) ≤ whole W buf → (after : List ℕ) → after ≡ laid buf 0 (bytes e N (quickPlan W N d))
           → Gives answer (Done (planCounts r T r)) after
-      gives-plan w z r after q b =
+      gives-plan w fits after b =
           let k = fine-asked W N T d fine in
-          gives answer _ (limited-done 1024 W e N d (quickPlan W N d) buf T fine small (enough-room z)) _ _
-          (written-outcome e N T (emptySlots N (cell N d) (quickPlan W N d)) r r 0 (quickPlan W N d) buf q (q ∙ sym (quick-total W N (k .some) (k .few) (omega (arith, k .few)) d))
+          gives answer _ (limited-done 1024 W e N d (quickPlan W N d) buf T fine small fits) _ _
+          (written-outcome e N T (emptySlots N (cell N d) (quickPlan W N d)) r r 0 (quickPlan W N d) buf count (count ∙ sym (quick-total W N (k .some) (k .few) (omega (arith, k .few)) d))
           (sym (quick-empty-slots W N (k .some) (k .few) (omega (arith, k .few)) d)))
           (b ∙ written-bytes e N T (emptySlots N (cell N d) (quickPlan W N d)) (quickPlan W N d) buf)
 
@@ -96,11 +92,6 @@ pub one-result : (N : ℕ) (d buf : List ℕ) (r s : Outcome) (after later : Lis
 one-result N d buf = gives-one (answer 64 0 N d buf)
 
 -- ---- what is lent
-
-pub all-idle : (n i : ℕ) → getD {A = ℕ} (replicate n 255) i 255 ≡ 255
-all-idle zero i = refl
-all-idle (suc n) zero = refl
-all-idle (suc n) (suc i) = all-idle n i
 
 -- as many labels as ports are lent of those that there are
 pub lends : (N T : ℕ) (d w lows highs out : List ℕ) → Lent w lows highs out → checkDemand (length out) N d ≡ Fine T → (N ≤ length lows) × (N ≤ length highs) × Space N w (take N lows) (take N highs) out
@@ -115,6 +106,6 @@ lends N T d w lows highs out l f =
         low = length-take-le N lows a;
         high = length-take-le N highs b;
         wide = l .few;
-        seats = record { wide = k .few; idle = λ i _. l .idle i };
+        seats = k .few;
       },
     )

@@ -9,6 +9,8 @@ use records::EDITION;
 use records::HEAD;
 use records::IDLE;
 use records::put_record;
+use slot::Rest;
+use slot::all_inputs;
 use slot::fill_slot;
 use switch::Counts;
 use switch::Outcome;
@@ -17,16 +19,17 @@ use switch::Refusal;
 use work::copy;
 use work::label_rows;
 ghost use mathlib.Core.Path.{_≡_};
+ghost use mathlib.Core.Bool.{true};
 ghost use Prim.Native.Nat.{ℕ, _+_, _*_, _-_, _%_, _<_, _≤_};
 ghost use lib.ListN.{length};
-ghost use Rattle.demand.specs.Check.{checkDemand, Asked};
+ghost use Rattle.demand.specs.Check.{checkDemand};
 ghost use Rattle.demand.specs.declared.Checked.the-variants.{Fine};
-ghost use Rattle.records.specs.Bytes.{bytes, laid};
+ghost use Rattle.records.specs.Bytes.{bytes};
 ghost use Rattle.rules.specs.Quick.{quickPlan};
-ghost use Rattle.planner.specs.Planned.{plannedUpTo, Gives, shortage};
+ghost use Rattle.planner.specs.Planned.{plannedUpTo, Gives};
 ghost use Rattle.work.specs.Level.{Sized};
-ghost use Rattle.slot.specs.Filled.{leftover, Copy, Seats};
-ghost use Rattle.quick.specs.Lent.{Space, Lent, Small, Loaded};
+ghost use Rattle.slot.specs.Filled.{leftover, Copy};
+ghost use Rattle.quick.specs.Lent.{Space, Lent, Small, Loaded, laidIf, LaidOne};
 
 // T is at most 1,024 here.
 pub const MOST_SLOTS: u64 = 1024;
@@ -90,7 +93,8 @@ fn plan_with(
     }
 }
 
-// The same for a demand that nothing but the room can refuse.
+// The same for a demand that nothing but the room can refuse. Room for 2T - 1 records is always enough; with less they are counted
+// first, and nothing is written.
 fn plan_checked(
     n: usize,
     cells: &[u32],
@@ -106,44 +110,24 @@ fn plan_checked(
     ensures { λ r. ⌜ Gives (plannedUpTo 1024 (length (now (out .entry))) edition n (now (cells .entry)) (quickPlan (length (now (out .entry))) n (now (cells .entry))) (now (plan .entry))) r (now (plan .exit)) ⌝ }
 {
     let room = plan.len() / (out.len() + HEAD);
-    let needed = short_of(n, cells, longest, room, work, lows, highs, out);
-    if needed != 0 {
-        return Outcome::Refused(Refusal::Room(needed));
+    let mut writes = most_records(longest) <= room;
+    loop {
+        let rest = load(n, cells, work, lows, highs);
+        let records = fill_slots(n, edition, plan, writes, work, lows, highs, rest, out);
+        if writes {
+            return Outcome::Done(Counts {
+                records: records,
+                longest: longest,
+                total: records as u64,
+                length: 0,
+                empty: 0,
+            });
+        }
+        if room < records {
+            return Outcome::Refused(Refusal::Room(records));
+        }
+        writes = true;
     }
-    let left = load(n, cells, work, lows, highs);
-    let records = write(n, edition, plan, work, lows, highs, left, out);
-    Outcome::Done(Counts {
-        records: records,
-        longest: longest,
-        total: records as u64,
-        length: 0,
-        empty: 0,
-    })
-}
-
-// How many records the plan has, where the room is too small for it; and 0 where it fits. Room for 2T - 1 is always enough.
-fn short_of(
-    n: usize,
-    cells: &[u32],
-    longest: u64,
-    room: usize,
-    work: &mut [u32],
-    lows: &mut [u64],
-    highs: &mut [u64],
-    out: &mut [u8],
-) -> usize
-    requires { ⌜ Asked (length (now out)) n longest (now cells) × (longest ≤ 1024) × Space n (now work) (now lows) (now highs) (now out) ⌝ }
-    ensures { λ r. ⌜ (r ≡ shortage room (length (quickPlan (length (now (out .entry))) n (now (cells .entry))))) × Seats n (now (out .exit)) ⌝ }
-{
-    if most_records(longest) <= room {
-        return 0;
-    }
-    let left = load(n, cells, work, lows, highs);
-    let records = count(n, work, lows, highs, left, out);
-    if room < records {
-        return records;
-    }
-    0
 }
 
 // The number of records that always suffices: 2T - 1, or 0 when T is 0.
@@ -157,60 +141,55 @@ fn most_records(longest: u64) -> usize
     (2 * longest - 1) as usize
 }
 
-// How many slots it takes until nothing is left. The working copy is spent.
-fn count(
-    n: usize,
-    work: &mut [u32],
-    lows: &mut [u64],
-    highs: &mut [u64],
-    all: u64,
-    out: &mut [u8],
-) -> usize
-    requires { ⌜ Copy n all (now work) (now lows) (now highs) × Seats n (now out) ⌝ }
-    ensures { λ r. ⌜ (r ≡ length (leftover (length (now (out .entry))) n 0 (now (work .entry)))) × Seats n (now (out .exit)) ⌝ }
-{
-    let mut left = all;
-    let mut s: usize = 0;
-    while left != 0 {
-        left = fill_slot(n, work, lows, highs, left, s, out);
-        s += 1;
-    }
-    s
-}
-
-// The records of all slots at the plan's start; and how many. The working copy is spent.
-fn write(
+// All slots, until nothing is left: how many they are, and their records at the plan's start where they are to be written.
+// The working copy is spent.
+fn fill_slots(
     n: usize,
     edition: u8,
     plan: &mut [u8],
+    writes: bool,
     work: &mut [u32],
     lows: &mut [u64],
     highs: &mut [u64],
-    all: u64,
+    all: Rest,
     out: &mut [u8],
 ) -> usize
-    requires { ⌜ Copy n all (now work) (now lows) (now highs) × Seats n (now out) × (length (bytes edition n (leftover (length (now out)) n 0 (now work))) ≤ length (now plan)) ⌝ }
-    ensures { λ r. ⌜ (r ≡ length (leftover (length (now (out .entry))) n 0 (now (work .entry)))) × (now (plan .exit) ≡ laid (now (plan .entry)) 0 (bytes edition n (leftover (length (now (out .entry))) n 0 (now (work .entry))))) ⌝ }
+    requires { ⌜ Copy n all (now work) (now lows) (now highs) × (n ≤ length (now out)) × (writes ≡ true → length (bytes edition n (leftover (length (now out)) n 0 (now work))) ≤ length (now plan)) ⌝ }
+    ensures { λ r. ⌜ (r ≡ length (leftover (length (now (out .entry))) n 0 (now (work .entry)))) × (now (plan .exit) ≡ laidIf writes (now (plan .entry)) 0 (bytes edition n (leftover (length (now (out .entry))) n 0 (now (work .entry))))) ⌝ }
 {
-    let size = out.len() + HEAD;
-    let mut left = all;
+    let mut rest = all;
     let mut s: usize = 0;
     let mut at: usize = 0;
-    while left != 0 {
-        left = fill_slot(n, work, lows, highs, left, s, out);
-        put_record(plan, at, edition, 1, n, out);
-        at += size;
+    while rest.left != 0 {
+        rest = fill_slot(n, work, lows, highs, rest, s, out);
+        at = lay(plan, at, writes, edition, n, out);
         s += 1;
     }
     s
 }
 
-// The demand copied in, with its labels. It answers how many slots are asked for in all.
-fn load(n: usize, cells: &[u32], work: &mut [u32], lows: &mut [u64], highs: &mut [u64]) -> u64
+// One slot's record over the plan from `at` on, where it is to be written; and where the next one goes.
+fn lay(plan: &mut [u8], at: usize, writes: bool, edition: u8, n: usize, out: &[u8]) -> usize
+    requires { ⌜ (n < 256) × (writes ≡ true → at + (length (now out) + 4) ≤ length (now plan)) ⌝ }
+    ensures { λ r. ⌜ LaidOne writes edition n (now (out .entry)) (now (plan .entry)) at (now (plan .exit)) r ⌝ }
+{
+    if writes {
+        put_record(plan, at, edition, 1, n, out);
+        return at + (out.len() + HEAD);
+    }
+    at
+}
+
+// The demand copied in, with its labels. It answers what there is to serve: any input may ask.
+fn load(n: usize, cells: &[u32], work: &mut [u32], lows: &mut [u64], highs: &mut [u64]) -> Rest
     requires { ⌜ Small n (now cells) × Sized n (now work) × (length (now lows) ≡ n) × (length (now highs) ≡ n) ⌝ }
     ensures { λ r. ⌜ Loaded n (now (cells .entry)) (now (work .exit)) (now (lows .exit)) (now (highs .exit)) r ⌝ }
 {
     copy(cells, work);
     label_rows(work, n, lows, highs);
-    asked_slots(n, cells)
+    let inputs = all_inputs(n);
+    Rest {
+        inputs: inputs,
+        left: asked_slots(n, cells),
+    }
 }

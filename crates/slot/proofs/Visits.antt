@@ -1,11 +1,11 @@
 -- Turn by turn the working copy, the taken outputs and the outputs by input are what the rule's visits give; after N visits, its slot.
-use mathlib.Core.Path.{_≡_, sym, ap, ap₂, _∙_, subst}
+use mathlib.Core.Path.{_≡_, refl, sym, ap, ap₂, _∙_, subst}
 use mathlib.Core.Logic.{_≢_}
 use mathlib.Core.Bool.{true}
 use mathlib.Core.List.{List, _∷_}
-use Prim.Native.Nat.{ℕ, suc, _+_, _*_, _-_, _%_, _≤_, _<_}
+use Prim.Native.Nat.{ℕ, zero, suc, _+_, _*_, _-_, _%_, _≤_, _<_}
 use native.Mathlib.Decide.{ℕ-discrete, decLt}
-use native.Mathlib.Nat.{mod-lt, mod-add-mod}
+use native.Mathlib.Nat.{mod-lt}
 use native.Mathlib.Numerals.{add-one}
 use native.Mathlib.Omega.{arith}
 use lib.ListN.{length, getD, set, length-set}
@@ -27,30 +27,28 @@ use Rattle.rules.proofs.Slot.{lowest-cong, may-cong, visits-idle, slot-idle}
 use Rattle.rules.proofs.QuickFrom.{visits-next, quick-step, quick-cong}
 use Rattle.slot.specs.declared.Turn.{Turn}
 use Rattle.slot.specs.Filled.{leftIn, leftover, Copy, Seats, turnOf, Turned, Filled}
-use Rattle.slot.proofs.Turns.{none-has}
+use Rattle.slot.proofs.Turns.{none-has, asking-same, turn-idle, turned-none}
 
 -- the first v visits of slot s, begun with the working copy w₀
 pub record Visiting (N s v : ℕ) (w₀ w lows highs out : List ℕ) (turn : Turn) : Type 0 where
-  pub copy : Copy N (turn .left) w lows highs
+  pub copy : Copy N (turn .rest) w lows highs
   pub cells : (a b : ℕ) → a < N → b < N → cell N w a b ≡ peel 1 (visits N (cell N w₀) s v .outputs) (cell N w₀) a b
   pub taken : (b : ℕ) → b < N → hasOutput (outputsOf (turn .taken)) b ≡ visits N (cell N w₀) s v .taken b
   pub seated : (q : ℕ) → q < v → getD out ((q + s) % N) 255 ≡ visits N (cell N w₀) s v .outputs ((q + s) % N)
+  pub ahead : (q : ℕ) → v ≤ q → q < N → getD out ((q + s) % N) 255 ≡ 255
   pub seats : Seats N out
 
-pub visiting-none : (N s : ℕ) (w lows highs out : List ℕ) (turn : Turn) → Copy N (turn .left) w lows highs → Seats N out
+pub visiting-none : (N s : ℕ) (w lows highs out : List ℕ) (turn : Turn) → Copy N (turn .rest) w lows highs → N ≤ length out → ((i : ℕ) → getD out i 255 ≡ 255)
     → ((k : ℕ) → In (outputsOf (turn .taken)) k → ⊥) → Visiting N s 0 w w lows highs out turn
 unfolding visits
-visiting-none N s w lows highs out turn c o h = record {
+visiting-none N s w lows highs out turn c l o h = record {
   copy = c;
   cells = λ a b la lb. sym (peel-off 1 (λ _. 255) (cell N w) a b (omega (arith, c .sized .few)));
   taken = λ b lb. none-has (outputsOf (turn .taken)) h b;
   seated = λ q l. absurd (omega arith);
-  seats = o;
+  ahead = λ q _ _. o ((q + s) % N);
+  seats = record { wide = l; idle = λ i _. o i };
 }
-
--- the next input
-pub next-port : (N s v : ℕ) → ((v + s) % N + 1) % N ≡ (v + 1 + s) % N
-next-port N s v = mod-add-mod (v + s) N 1 ∙ ap (λ (x : ℕ). x % N) (let e : v + s + 1 ≡ v + 1 + s = omega arith in e)
 
 module _ (N s v : ℕ) (w₀ w lows highs out : List ℕ) (turn : Turn) (lv : v < N) (g : Visiting N s v w₀ w lows highs out turn) where
   abbrev M : ℕ → ℕ → ℕ
@@ -119,6 +117,12 @@ module _ (N s v : ℕ) (w₀ w lows highs out : List ℕ) (turn : Turn) (lv : v 
             let n : (q + s) % N ≢ i = earlier q (omega arith) in
             getD-set-other out i ((q + s) % N) j 255 n ∙ g .seated q (omega arith) ∙ sym (put-other (x .outputs) i j ((q + s) % N) n)
 
+    ahead' : (q : ℕ) → v + 1 ≤ q → q < N → getD out' ((q + s) % N) 255 ≡ 255
+    ahead' q l h =
+        ap (λ (o : List ℕ). getD o ((q + s) % N) 255) (t .seated)
+        ∙ getD-set-other out i ((q + s) % N) j 255 (λ e. omega (arith, around-full N (g .copy .sized .some) s .once q v h lv e))
+        ∙ g .ahead q (omega arith) h
+
     idle' : (a : ℕ) → N ≤ a → getD out' a 255 ≡ 255
     idle' a l = ap (λ (o : List ℕ). getD o a 255) (t .seated) ∙ getD-set-other out i a j 255 (λ e. omega (arith, li)) ∙ g .seats .idle a l
 
@@ -129,8 +133,24 @@ module _ (N s v : ℕ) (w₀ w lows highs out : List ℕ) (turn : Turn) (lv : v 
       cells = λ a b la lb. peeled a b la lb ∙ ap (λ (y : Slot). peel 1 (y .outputs) M a b) (sym next);
       taken = λ b lb. taken' b lb ∙ ap (λ (y : Slot). y .taken b) (sym next);
       seated = λ q l. seated' q l ∙ ap (λ (y : Slot). y .outputs ((q + s) % N)) (sym next);
+      ahead = ahead';
       seats = record { wide = omega (arith, g .seats .wide, long); idle = idle' };
     }
+
+  -- an input without slots left need not be visited
+  pub visiting-skip : ((b : ℕ) → b < N → cell N w₀ ((v + s) % N) b ≡ 0) → Visiting N s (v + 1) w₀ w lows highs out turn
+  visiting-skip empty =
+      visiting-next w lows highs out turn
+      (turned-none N i w lows highs out turn (g .copy) (turn-idle N w (outputsOf (turn .taken)) i (λ b lb. fresh b lb ∙ empty b lb)) (g .ahead v (omega arith) lv) turn refl refl
+      (asking-same _ i _))
+
+-- nor need any number of them
+pub visiting-skips : (N s : ℕ) (w₀ w lows highs out : List ℕ) (turn : Turn) (v k : ℕ) → v + k ≤ N → ((q : ℕ) → v ≤ q → q < v + k → (b : ℕ) → b < N → cell N w₀ ((q + s) % N) b ≡ 0)
+    → Visiting N s v w₀ w lows highs out turn → Visiting N s (v + k) w₀ w lows highs out turn
+visiting-skips N s w₀ w lows highs out turn v zero l e g = subst (λ (x : ℕ). Visiting N s x w₀ w lows highs out turn) (let z : v ≡ v + 0 = omega arith in z) g
+visiting-skips N s w₀ w lows highs out turn v (suc k) l e g =
+    subst (λ (x : ℕ). Visiting N s x w₀ w lows highs out turn) (let z : v + k + 1 ≡ v + suc k = omega arith in z)
+    (visiting-skip N s (v + k) w₀ w lows highs out turn (omega arith) (visiting-skips N s w₀ w lows highs out turn v k (omega arith) (λ q a b. e q a (omega arith)) g) (e (v + k) (omega arith) (omega arith)))
 
 -- all inputs are visited
 module _ (N s : ℕ) (w₀ w lows highs out : List ℕ) (turn : Turn) (g : Visiting N s N w₀ w lows highs out turn) where
@@ -150,7 +170,7 @@ module _ (N s : ℕ) (w₀ w lows highs out : List ℕ) (turn : Turn) (g : Visit
           subst (λ (z : ℕ). getD out z 255 ≡ visits N (cell N w₀) s N .outputs z) (r .2) (g .seated (r .0) (r .1))
       at k (no h) = g .seats .idle k (omega arith) ∙ sym (slot-idle N pos small' (cell N w₀) s k (omega arith))
 
-  pub visited-all : leftIn N w₀ ≢ 0 → Filled N s w₀ w lows highs out (turn .left)
+  pub visited-all : leftIn N w₀ ≢ 0 → Filled N s w₀ w lows highs out (turn .rest)
   visited-all ne = record { copy = g .copy; seats = g .seats; more = more }
     where
       more : leftover (length out) N s w₀ ≡ record { hold = 1; outputs = out } ∷ leftover (length out) N (s + 1) w

@@ -8,11 +8,12 @@ use Rattle.counting.specs.Sum.{sum}
 use Rattle.counting.specs.Matrix.{row}
 use Rattle.switch.specs.Demand.{cell}
 use Rattle.switch.specs.Plan.{Record}
-use Rattle.labels.specs.Label.{hasOutput}
+use Rattle.labels.specs.Label.{In, Sub, hasOutput}
 use Rattle.labels.specs.Wide.{outputsOf}
 use Rattle.rules.specs.Search.{put}
 use Rattle.rules.specs.Peel.{peel}
 use Rattle.rules.specs.Quick.{lowest, may, quickFrom}
+use Rattle.slot.specs.declared.Rest.{Rest}
 use Rattle.slot.specs.declared.Turn.{Turn}
 use Rattle.work.specs.Level.{Sized}
 use Rattle.work.specs.Labelled.{Labelled}
@@ -25,11 +26,13 @@ leftIn N w = sum N (row N (cell N w))
 unfoldable pub leftover : ℕ → ℕ → ℕ → List ℕ → List Record
 leftover W N s w = quickFrom W N s (cell N w)
 
--- a working copy with its labels, and so many slots left in all
-pub record Copy (N left : ℕ) (w lows highs : List ℕ) : Type 0 where
+-- a working copy with its labels, and what is left of it to serve
+pub record Copy (N : ℕ) (rest : Rest) (w lows highs : List ℕ) : Type 0 where
   pub sized : Sized N w
   pub labels : Labelled N w lows highs
-  pub all : left ≡ leftIn N w
+  pub all : rest .left ≡ leftIn N w
+  pub inside : (i : ℕ) → In (outputsOf (rest .inputs)) i → i < N
+  pub others : (i : ℕ) → i < N → (In (outputsOf (rest .inputs)) i → ⊥) → (j : ℕ) → j < N → cell N w i j ≡ 0
 
 -- the outputs of a slot have room for N inputs, and are idle past them
 pub record Seats (N : ℕ) (out : List ℕ) : Type 0 where
@@ -42,13 +45,18 @@ turnOf N w taken i = lowest N 0 (may (cell N w) (hasOutput taken) i)
 
 -- input i has had its turn: what it takes stands among the outputs, one slot of that pair is subtracted, and the output is taken
 pub record Turned (N i : ℕ) (w out : List ℕ) (turn : Turn) (w' lows' highs' out' : List ℕ) (turn' : Turn) : Type 0 where
-  pub copy : Copy N (turn' .left) w' lows' highs'
+  pub copy : Copy N (turn' .rest) w' lows' highs'
   pub seated : out' ≡ set out i (turnOf N w (outputsOf (turn .taken)) i)
   pub cells : (a b : ℕ) → a < N → b < N → cell N w' a b ≡ peel 1 (put (λ _. 255) i (turnOf N w (outputsOf (turn .taken)) i)) (cell N w) a b
   pub taken : (b : ℕ) → b < N → hasOutput (outputsOf (turn' .taken)) b ≡ put (hasOutput (outputsOf (turn .taken))) (turnOf N w (outputsOf (turn .taken)) i) true b
 
+-- r has the inputs of l, but i may be gone where its label is empty
+pub record StillAsking (row i l r : ℕ) : Type 0 where
+  pub less : Sub r l
+  pub gone : (k : ℕ) → In l k → (In r k → ⊥) → (k ≡ i) × ((j : ℕ) → In row j → ⊥)
+
 -- slot s is filled: what was still to come is its record and what is still to come
-pub record Filled (N s : ℕ) (w w' lows' highs' out' : List ℕ) (left' : ℕ) : Type 0 where
-  pub copy : Copy N left' w' lows' highs'
+pub record Filled (N s : ℕ) (w w' lows' highs' out' : List ℕ) (rest' : Rest) : Type 0 where
+  pub copy : Copy N rest' w' lows' highs'
   pub seats : Seats N out'
   pub more : leftover (length out') N s w ≡ record { hold = 1; outputs = out' } ∷ leftover (length out') N (s + 1) w'

@@ -3,8 +3,9 @@ use mathlib.Core.Path.{refl, sym, subst}
 use Prim.Native.Nat.{ℕ, _+_, _-_}
 use native.Mathlib.Omega.{arith}
 use lib.ListN.{getD}
-use Rattle.labels.specs.Label.{In, LowestAt}
+use Rattle.labels.specs.Label.{In, absent}
 use Rattle.labels.specs.Wide.{outputsOf}
+use Rattle.labels.proofs.Digits.{fewer}
 use Rattle.matching.specs.Tables.{Allowed}
 use Rattle.matching.proofs.Search.{lowest-at, none-left, one-up}
 use Rattle.matching.proofs.Waves.{Part, part-start, part-more, part-end}
@@ -15,7 +16,7 @@ use Rattle.matching.proofs.word_leads_to.Reads as reads
 use Rattle.matching.proofs.word_leads_to.Lts as lts
 use Rattle.labels.proofs.Label.lowest_untried.Reads as lowest-untried-reads
 use Rattle.labels.proofs.Label.none.Reads as none-reads
-use Rattle.labels.proofs.Label.rest.Reads as rest-reads
+use Rattle.labels.proofs.Label.without_lowest.Reads as without-lowest-reads
 use Rattle.labels.proofs.Wide.with.Reads as with-reads
 use Rattle.matching.proofs.row_of.Reads as row-of-reads
 
@@ -23,7 +24,7 @@ abbrev Inv-loop : tie.InvT-loop
 Inv-loop lows highs by base rest₀ outputs₀ rest outputs = Part (Allowed lows highs) by (rest₀ .0) base (outputsOf outputs₀) (rest .0) (outputsOf outputs)
 
 abbrev μ-loop : tie.MeasureT-loop
-μ-loop lows highs by base rest₀ outputs₀ rest outputs = rest .0
+μ-loop lows highs by base rest₀ outputs₀ rest outputs = 64 - absent 64 (rest .0)
 
 loop-holds : tie.Need-loop-holds Inv-loop μ-loop
 loop-holds c = part-start _ _ _ _ _
@@ -87,15 +88,18 @@ row-of-requires c κs =
 with-requires : tie.Need-with-requires Inv-loop μ-loop
 with-requires c κs = search needs
 
-rest-requires : tie.Need-rest-requires Inv-loop μ-loop
-rest-requires c κs =
-    let l = c .before .before .before .before .before .before .before .before .before .before .loop in
-    let f = c .before .before .before .before .before .before .before .before .lowest-untried in
-    let x = c .before .before .before .before .before .before .f .given in
-    (x .0 .0 .0, lowest-at 64 (l .rest .0) (c .before .before .before .before .before .before .before .before .before .none .result .0) (f .result) (x .0 .0) (f .ensures) (x .1) .here)
+without-lowest-requires : tie.Need-without-lowest-requires Inv-loop μ-loop
+without-lowest-requires c κs = search needs
 
 loop-less : tie.Need-loop-less Inv-loop μ-loop
-loop-less c = c .rest .ensures .0
+loop-less c =
+    let l = c .before .before .before .before .before .before .before .before .before .before .before .loop in
+    let n = c .before .before .before .before .before .before .before .before .before .before .none in
+    let f = c .before .before .before .before .before .before .before .before .before .lowest-untried in
+    let x = c .before .before .before .before .before .before .before .f .given in
+    let w = c .without-lowest in
+    let low = lowest-at 64 (l .rest .0) (n .result .0) (f .result) (x .0 .0) (f .ensures) (x .1) in
+    fewer 64 (l .rest .0) (x .0 .0 .0) (w .result .0) (low .small) (low .here) (w .ensures .cleared (x .0 .0 .0) (low .here) (λ k q h. n .ensures k (low .past k q h)))
 
 loop-again : tie.Need-loop-again Inv-loop μ-loop
 loop-again c =
@@ -108,8 +112,8 @@ loop-again c =
     let low = lowest-at 64 (l .rest .0) (n .result .0) (f .result) (x .0 .0) (f .ensures) (x .1) in
     let r = c .before .before .row-of in
     let v = getD (a .by .now) (a .base + j) 0 in
-    part-more (Allowed (a .lows .now) (a .highs .now)) (a .by .now) (a .word .0) (a .base) (outputsOf (a .before)) (l .rest .0) (outputsOf (l .outputs)) (outputsOf (r .result)) (c .rest .result .0) (outputsOf (c .before .with .result)) j (v - 1)
-    (l .inv) (low .here) (c .rest .ensures .1 (n .result .0) j (n .ensures) low) (c .before .with .ensures) (one-up v (c .before .before .before .if1 .left))
+    part-more (Allowed (a .lows .now) (a .highs .now)) (a .by .now) (a .word .0) (a .base) (outputsOf (a .before)) (l .rest .0) (outputsOf (l .outputs)) (outputsOf (r .result)) (c .without-lowest .result .0) (outputsOf (c .before .with .result)) j (v - 1)
+    (l .inv) (low .here) (c .without-lowest .ensures .cleared j (low .here) (λ k q h. n .ensures k (low .past k q h))) (c .before .with .ensures) (one-up v (c .before .before .before .if1 .left))
     (λ k e. subst (λ (q : ℕ). In q k) (sym (r .ensures)) e) (λ k e. subst (λ (q : ℕ). In q k) (r .ensures) e)
 
 pub word-leads-to-spec : {M : Type 1} → statement M
@@ -131,6 +135,6 @@ word-leads-to-spec =
     sub-t22
     row-of-requires
     with-requires
-    rest-requires
+    without-lowest-requires
     loop-less
     loop-again)

@@ -1,4 +1,4 @@
--- The demand is copied in, its rows labelled, and its cells summed.
+-- The demand is copied in, its rows labelled, and its cells summed; any input may ask.
 use mathlib.Core.Path.{sym}
 use native.Mathlib.Nat.{le-of-eq}
 use lib.ListN.{length, drop}
@@ -17,9 +17,12 @@ label-rows-requires c κs =
     let k = c .before .before .before .before .before .copy in
     (sized-as (s .args .n) (s .args .work .now) (k .last .1 .0) (k .kept .1 .0) (s .pre .1), s .pre .2, s .pre .3)
 
+all-inputs-requires : tie.Need-all-inputs-requires
+all-inputs-requires c κs = c .before .before .before .before .before .before .before .before .before .before .before .before .before .before .before .before .pre .0 .few
+
 asked-slots-requires : tie.Need-asked-slots-requires
 asked-slots-requires c κs =
-    let m = c .before .before .before .before .before .before .before .before .before .before .before .before .before .before .before .before .pre .0 in
+    let m = c .before .before .before .before .before .before .before .before .before .before .before .before .before .before .before .before .before .pre .0 in
     record { sized = record { few = m .few; room = le-of-eq (sym (m .size)) }; lines = m .lines }
 
 same-length : tie.Need-same-length
@@ -33,12 +36,12 @@ same-length-3 c = search needs
 
 returns : tie.Need-returns
 returns c =
-    let s = c .before .before .before .before .before .before .before .before .before .before .before .before .before .before .before .before .before in
-    let k = c .before .before .before .before .before .before .before .before .before .before .before .copy in
-    let r = c .before .before .before .before .before .label-rows in
+    let s = c .before .before .before .before .before .before .before .before .before .before .before .before .before .before .before .before .before .before in
+    let k = c .before .before .before .before .before .before .before .before .before .before .before .before .copy in
+    let r = c .before .before .before .before .before .before .label-rows in
     let a = s .args in
-    loaded (a .n) (a .cells .now) (drop (length (a .cells .now)) (a .work .now)) (s .pre .0) (k .last .1 .0) (r .last .1 .1 .0) (r .last .1 .1 .1 .0) (c .asked-slots .result)
-    (k .ensures) (sized-as (a .n) (a .work .now) (k .last .1 .0) (k .kept .1 .0) (s .pre .1)) (r .ensures) (c .asked-slots .ensures)
+    loaded (a .n) (a .cells .now) (drop (length (a .cells .now)) (a .work .now)) (s .pre .0) (k .last .1 .0) (r .last .1 .1 .0) (r .last .1 .1 .1 .0) _
+    (k .ensures) (sized-as (a .n) (a .work .now) (k .last .1 .0) (k .kept .1 .0) (s .pre .1)) (r .ensures) (c .asked-slots .ensures) (c .before .all-inputs .ensures .0) (c .before .all-inputs .ensures .1)
 
 pub load-spec : {M : Type 1} → statement M
 load-spec =
@@ -46,6 +49,7 @@ load-spec =
     (tie.spec
     copy-requires
     label-rows-requires
+    all-inputs-requires
     asked-slots-requires
     same-length
     same-length-2

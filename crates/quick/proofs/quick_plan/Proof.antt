@@ -1,7 +1,6 @@
 -- The first edition has room for 64 ports.
 use mathlib.Core.Path.{refl}
 use native.Mathlib.Omega.{arith}
-use Rattle.quick.proofs.Planning.{all-idle}
 use borrow.Author.Needs.{needs}
 use Rattle.quick.proofs.quick_plan.Statement.{statement}
 use Rattle.quick.proofs.quick_plan.Tie as tie
@@ -19,7 +18,7 @@ slice-aggregate-plan-with-4 : tie.Need-slice-aggregate-plan-with-4
 slice-aggregate-plan-with-4 c = refl
 
 plan-with-requires : tie.Need-plan-with-requires
-plan-with-requires c κs = record { few = omega arith; cells = omega arith; low = omega arith; high = omega arith; idle = all-idle 64 }
+plan-with-requires c κs = record { few = omega arith; cells = omega arith; low = omega arith; high = omega arith }
 
 same-length : tie.Need-same-length
 same-length c = search needs

@@ -1,0 +1,25 @@
+-- The set less what is left of it by 1 << j: the digits from j on stay, and there are no others.
+use native.Mathlib.Omega.{arith}
+use native.Mathlib.Nat.{mod-le}
+use lib.Pow.{pow-pos}
+use Rattle.labels.proofs.Digits.{from-on, one-shifted}
+use borrow.Author.Needs.{needs}
+use Rattle.labels.proofs.Label.from.Statement.{statement}
+use Rattle.labels.proofs.Label.from.Tie as tie
+
+shl-first : tie.Need-shl-first
+shl-first c = search needs
+
+rem-t5 : tie.Need-rem-t5
+rem-t5 c = let j = c .before .args .j .0 in omega (arith, one-shifted j (c .before .pre), pow-pos j)
+
+sub-t6 : tie.Need-sub-t6
+sub-t6 c = mod-le _ _
+
+returns : tie.Need-returns
+returns c =
+    let a = c .before .before .args in
+    rw (one-shifted (a .j .0) (c .before .before .pre)) (from-on (a .self .0) (a .j .0))
+
+pub from-spec : {M : Type 1} → statement M
+from-spec = tie.close (tie.spec shl-first rem-t5 sub-t6 returns)

@@ -1,0 +1,23 @@
+-- One less than the set has other digits up to the lowest that is 1, and the same above it.
+use mathlib.Core.Path.{sym, ap, _∙_}
+use Prim.Native.Nat.{ℕ}
+use native.Mathlib.Omega.{arith}
+use Rattle.labels.specs.Label.{digit}
+use Rattle.labels.proofs.Digits.{none-digit, lowered-at}
+use borrow.Author.Needs.{needs}
+use Rattle.labels.proofs.Label.without_lowest.Statement.{statement}
+use Rattle.labels.proofs.Label.without_lowest.Tie as tie
+
+returns : tie.Need-returns
+returns c =
+    let a = c .before .before .args in
+    record { cleared = λ j e f. absurd (omega (arith, e, ap (λ (x : ℕ). digit x j) (c .if1 .taken), none-digit j)) }
+
+sub-t3 : tie.Need-sub-t3
+sub-t3 c = search needs
+
+returns-2 : tie.Need-returns-2
+returns-2 c = record { cleared = λ j e f. lowered-at _ j e f }
+
+pub without-lowest-spec : {M : Type 1} → statement M
+without-lowest-spec = tie.close (tie.spec returns sub-t3 returns-2)
