@@ -26,16 +26,16 @@ short-of-requires : tie.Need-short-of-requires
 short-of-requires c κs = let s = c .before .before .before .before .before .before .before .before .before .before in (fine-asked _ _ _ _ (s .pre .0), s .pre .1, s .pre .2)
 
 same-length : tie.Need-same-length
-same-length c = search needs
+same-length c = c .before .before .before .before .before .before .before .before .before .short-of .kept .1 .1 .1 .1 .0
 
 same-length-2 : tie.Need-same-length-2
-same-length-2 c = search needs
+same-length-2 c = c .before .before .before .before .before .before .before .before .before .short-of .kept .1 .1 .1 .1 .1 .0
 
 same-length-3 : tie.Need-same-length-3
-same-length-3 c = search needs
+same-length-3 c = c .before .before .before .before .before .before .before .before .before .short-of .kept .1 .1 .1 .1 .1 .1 .0
 
 same-length-4 : tie.Need-same-length-4
-same-length-4 c = search needs
+same-length-4 c = c .before .before .before .before .before .before .before .before .before .short-of .kept .1 .1 .1 .1 .1 .1 .1 .0
 
 -- the places before: where the call starts, and where the room was looked at
 abbrev start : tie.After-short-of → tie.Start
@@ -83,25 +83,31 @@ write-requires c κs =
           (enough-room (length (a .out .now)) (a .edition) (a .n) (a .cells .now) (a .plan .now) (a .longest) (s .pre .0) (s .pre .1) _ (q .ensures .0) (c .before .before .before .before .before .before .before .before .before .before .before .before .before .before .before .if1 .left))),
     )
 
+abbrev wrote : tie.After-slice-known17 → tie.After-write
+wrote c = c .before .before .before .before .before .before .before .before .before .before
+
+abbrev copied : tie.After-slice-known17 → tie.After-load
+copied c = wrote c .before .before .before .before .before .before .before .before .before .before .before .before
+
 same-length-5 : tie.Need-same-length-5
-same-length-5 c = search needs
+same-length-5 c = wrote c .write .kept .1 .1 .0
 
 same-length-6 : tie.Need-same-length-6
-same-length-6 c = search needs
+same-length-6 c = wrote c .write .kept .1 .1 .1 .0 ∙ copied c .load .kept .1 .1 .0 ∙ looked (copied c) .short-of .kept .1 .1 .1 .1 .0
 
 same-length-7 : tie.Need-same-length-7
-same-length-7 c = search needs
+same-length-7 c = wrote c .write .kept .1 .1 .1 .1 .0 ∙ copied c .load .kept .1 .1 .1 .0 ∙ looked (copied c) .short-of .kept .1 .1 .1 .1 .1 .0
 
 same-length-8 : tie.Need-same-length-8
-same-length-8 c = search needs
+same-length-8 c = wrote c .write .kept .1 .1 .1 .1 .1 .0 ∙ copied c .load .kept .1 .1 .1 .1 .0 ∙ looked (copied c) .short-of .kept .1 .1 .1 .1 .1 .1 .0
 
 same-length-9 : tie.Need-same-length-9
-same-length-9 c = search needs
+same-length-9 c = wrote c .write .kept .1 .1 .1 .1 .1 .1 .1 .0 ∙ looked (copied c) .short-of .kept .1 .1 .1 .1 .1 .1 .1 .0
 
 returns-2 : tie.Need-returns-2
 returns-2 c =
-    let w = c .before .before .before .before .before .before .before .before .before .before in
-    let l = w .before .before .before .before .before .before .before .before .before .before .before .before in
+    let w = wrote c in
+    let l = copied c in
     let s = start (looked l) in
     let a = s .args in
     gives-plan (length (a .out .now)) (a .edition) (a .n) (a .cells .now) (a .plan .now) (a .longest) (s .pre .0) (s .pre .1) _ (looked l .short-of .ensures .0) (s .pre .2 .wide) (w .before .before .before .before .before .before .before .before .before .before .before .before .before .before .before .before .if1 .left)
