@@ -1,8 +1,7 @@
 #!/usr/bin/env python3
 """The stored vectors of the grating calls: demands and plans of every shape, N odd and even, the edges, and every refusal.
 
-python3 makers/grating_vectors.py stdin > crates/grating_vectors/stdin
-python3 makers/grating_vectors.py stdout > crates/grating_vectors/stdout
+python3 makers/grating_vectors.py stdin|stdout
 """
 import random
 

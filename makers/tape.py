@@ -7,16 +7,17 @@ laid. Tapes may be put one after the other, and so may the lines that they give.
 
 | letter | call | first | second | small | laid |
 |---|---|---|---|---|---|
-| x, d, e, q | exact, doubled, doubled with every rotation, quick | N | whole records of room | bytes of room more | cells |
+| x, d, e, q, g | exact, doubled, doubled with every rotation, quick, grating | N | whole records of room | bytes of room more | cells |
 | k | check | N | cells, of those laid the first | 0 | cells, then the plan |
 | l | length | N | d | 0 | the plan |
 | j | join | N | whole records of room | bytes of room more | the plan |
 | r | open, and every step | N | 0 | 0 | the plan |
 | w | write one record | N | hold | bytes of room | 64 outputs |
+| f | report the wavelengths | N | bytes of room | 0 | the plan |
 | t | the lister's text | 0 | 0 | 0 | standard input |
 
 A case's line is its name and what the call answered; planners, joining and the writer add a checksum of the lent buffer, which is filled
-with the byte 170 before the call.
+with the byte 170 before the call. A plan that g wrote is reported in the lines after it.
 """
 import sys
 

@@ -5,6 +5,7 @@ python3 makers/vectors.py stdin > crates/vectors/stdin
 python3 makers/vectors.py stdout > crates/vectors/stdout
 """
 import check_vectors
+import grating_vectors
 import join_vectors
 import plan_vectors
 import record_vectors
@@ -14,4 +15,4 @@ import tape
 if __name__ == "__main__":
     ref.examples()  # document 01's own plans, and its edges, among them the bytes of P1's first record
     ref.edges()
-    tape.main([*record_vectors.cases(), *check_vectors.cases(), *join_vectors.cases(), *plan_vectors.cases()])
+    tape.main([*record_vectors.cases(), *check_vectors.cases(), *join_vectors.cases(), *plan_vectors.cases(), *grating_vectors.cases()])

@@ -1,11 +1,10 @@
 -- Anti-rotations: settings whose inputs are taken by wavelengths that differ. Definitions only.
-use mathlib.Core.Path.{_≡_}
 use mathlib.Core.Bool.{cond}
 use mathlib.Core.List.{List}
-use Prim.Native.Nat.{ℕ, _+_, _*_, _-_, _%_, _≤_}
-use lib.ListN.{length, getD}
+use Prim.Native.Nat.{ℕ, _+_, _-_, _%_, _≤_}
+use lib.ListN.{getD}
 use lib.Dec.{ltb, eqb}
-use Rattle.switch.specs.Plan.{Record, total}
+use Rattle.switch.specs.Plan.{Record}
 use Rattle.rules.specs.Doubled.{turns}
 use Rattle.wavelengths.specs.Shared.{sharing}
 
@@ -24,12 +23,3 @@ allowed N = cond (eqb (N % 2) 0) 2 1
 -- a record that uses no wavelength more often
 pub record Spread (N : ℕ) (r : Record) : Type 0 where
   pub uses : (w : ℕ) → sharing N r w ≤ allowed N
-
--- ---- what the code is told
-
--- so many records and so long in all, whatever the records' width
-pub record Measured (N : ℕ) (holds : List ℕ) (records sum : ℕ) : Type 0 where
-  pub few : records ≤ N
-  pub small : sum ≤ N * 65535
-  pub count : (W : ℕ) → records ≡ length (antiRotations W N holds)
-  pub held : (W : ℕ) → sum ≡ total (antiRotations W N holds)

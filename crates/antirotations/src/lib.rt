@@ -1,6 +1,6 @@
 // The second part of a plan for the grating fabric: N anti-rotations, input i to output (k - i) mod N, which between them join every pair
-// and of which each uses a wavelength at most once when N is odd and at most twice when N is even. It promises how long each is held,
-// how many records they are, their total, and every byte that they lay over a plan. The first part is left to the crate above.
+// and of which each uses a wavelength at most once when N is odd and at most twice when N is even. It promises how long each is held and
+// every byte that they lay over a plan. What they come to is measured by the crate rotations; the first part is left to the crate above.
 use demand::cell_at;
 use records::EDITION;
 use records::IDLE;
@@ -10,18 +10,12 @@ use records::put_record;
 use switch::InputPort;
 use switch::OutputPort;
 ghost use mathlib.Core.Path.{_≡_};
-ghost use Prim.Native.Nat.{ℕ, _+_, _*_, _<_, _≤_};
+ghost use Prim.Native.Nat.{_+_, _*_, _<_, _≤_};
 ghost use lib.ListN.{length};
 ghost use Rattle.rules.specs.Exact.{tab};
 ghost use Rattle.rules.specs.Doubled.{held, tight};
 ghost use Rattle.records.specs.Bytes.{bytes, laid};
-ghost use Rattle.antirotations.specs.Opposite.{opposite, antiRotations, Measured};
-
-// What a part of a plan comes to: its records and their total hold.
-pub struct Part {
-    pub records: usize,
-    pub total: u64,
-}
+ghost use Rattle.antirotations.specs.Opposite.{opposite, antiRotations};
 
 // How long each anti-rotation is held, at the start of a table: for the largest remainder among its pairs.
 pub fn find_holds(n: usize, cells: &[u32], unit: u32, holds: &mut [u16])
@@ -30,24 +24,6 @@ pub fn find_holds(n: usize, cells: &[u32], unit: u32, holds: &mut [u16])
 {
     for k in 0..n {
         holds[k] = hold_of(n, cells, unit, k);
-    }
-}
-
-// What the anti-rotations come to.
-pub fn measure(n: usize, holds: &[u16]) -> Part
-    requires { ⌜ (n ≤ 128) × (n ≤ length (now holds)) ⌝ }
-    ensures { λ r. ⌜ Measured n (now (holds .entry)) (r .records) (r .total) ⌝ }
-{
-    let mut records: usize = 0;
-    let mut total: u64 = 0;
-    for k in 0..n {
-        let hold = holds[k];
-        records += records_of(hold);
-        total += hold as u64;
-    }
-    Part {
-        records: records,
-        total: total,
     }
 }
 
@@ -84,16 +60,6 @@ fn opposite_of(n: usize, k: usize, i: InputPort) -> OutputPort
     ensures { λ r. ⌜ (r .0 ≡ opposite n k (i .0)) × (r .0 < n) ⌝ }
 {
     OutputPort((k + (n - i.0)) % n)
-}
-
-// How many records a setting of that hold is: it is left out where the hold is 0.
-fn records_of(hold: u16) -> usize
-    ensures { λ r. ⌜ ((W : ℕ) (o : ℕ → ℕ) → r ≡ length (held W hold o)) ⌝ }
-{
-    if 0 < hold {
-        return 1;
-    }
-    0
 }
 
 // Anti-rotation k, where it is held at all; and where the next record goes.

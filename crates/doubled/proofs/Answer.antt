@@ -57,7 +57,7 @@ empty-answer r W e N d plan fine = laid-answer W e N 0 0 0 0 d (doubledRule r W 
 
 module _ (W N T u : ℕ) (d q H : List ℕ) (v : Divided W N T u d q) (e : ℕ) (plan : List ℕ) (turns sum : ℕ) (m : Measures N H turns sum) where
   records : length (parts W N u q H) ≡ length (exactPlan W N q) + turns
-  records = omega (arith, parts-records W N u q H, m .count W)
+  records = omega (arith, parts-records W N u q H, m .count W (rotate N))
 
   module _ (need : ℕ) (s : Needs (whole W plan) need (length (exactPlan W N q) + turns)) where
     -- code 5, with the records needed
@@ -86,7 +86,7 @@ module _ (W N T u : ℕ) (d q H : List ℕ) (v : Divided W N T u d q) (e : ℕ) 
 
       -- what both come to
       pub both-total : S * u + sum ≡ total (parts W N u q H)
-      both-total = omega (arith, parts-total W N S u q H (quotient-cells W N T u d q v S longest-is) (asked W N T u d q v .few), m .held W)
+      both-total = omega (arith, parts-total W N S u q H (quotient-cells W N T u d q v S longest-is) (asked W N T u d q v .few), m .held W (rotate N))
 
       -- T is no more than that, and twice T is
       pub both-counted : Doubled N d (parts W N u q H) → Short N d × (longest N (cell N d) ≤ S * u + sum) × (S * u + sum ≤ 131070)

@@ -1,9 +1,12 @@
 -- One turn of the writing loop lays the first record of what is left behind those before it, so that the rest completes the same plan.
 use mathlib.Core.Path.{_≡_, refl, sym, ap, _∙_, subst}
 use mathlib.Core.List.{List, [], _∷_, map}
-use Prim.Native.Nat.{ℕ, _+_, _*_, _≤_}
+use Prim.Native.Nat.{ℕ, _+_, _*_, _-_, _≤_, _<_}
 use native.Mathlib.Omega.{arith}
 use native.Mathlib.Nat.{mul-le-mul}
+use mir.Syntax.{w64}
+use mir.Val.{Fits}
+use mir.Facts.{fits-le, fits-lit}
 use lib.ListN.{length, take}
 use Rattle.switch.specs.Demand.{cell}
 use Rattle.switch.specs.Plan.{Record}
@@ -21,6 +24,27 @@ parts-small a h b u k e l =
     let y : h ≤ b = omega arith in
     let z : u ≤ u = omega arith in
     (omega (arith, mul-le-mul x z), omega (arith, mul-le-mul y z))
+
+-- a turn takes hold h off what remains of every line, and counts one record more
+module _ (remains l l' h : ℕ) (is : remains ≡ l) (falls : l' + h ≡ l) where
+  pub turn-within : h ≤ remains
+  turn-within = omega (arith, is, falls)
+
+  pub turn-left : remains - h ≡ l'
+  turn-left = omega (arith, is, falls)
+
+  module _ (records longest : ℕ) (most : records + remains ≤ longest) where
+    pub turn-small : longest ≤ 65535 → Fits w64 h
+    turn-small s = fits-le {n = 65535} (omega (arith, is, falls, most, s)) (fits-lit tt)
+
+    pub turn-most : 0 < h → records + 1 + (remains - h) ≤ longest
+    turn-most some = omega (arith, is, falls, most, some)
+
+pub turn-less : (remains h : ℕ) → 0 < h → 0 < remains → remains - h < remains
+turn-less remains h some left = omega (arith, some, left)
+
+pub turn-counted : (records remains longest : ℕ) → records + remains ≤ longest → longest ≤ 65535 → Fits w64 (records + 1)
+turn-counted records remains longest most small = fits-le {n = 65536} (omega (arith, most, small)) (fits-lit tt)
 
 -- one record fewer is left
 pub one-fewer : {p q : List Record} {r : Record} → p ≡ r ∷ q → length p ≡ length q + 1

@@ -4,7 +4,6 @@
 // does to the wavelengths is told by the crate wavelengths.
 use antirotations::find_holds;
 use antirotations::lay;
-use antirotations::measure;
 use demand::Checked;
 use demand::check_demand;
 use exact::exact_plan;
@@ -15,6 +14,7 @@ use records::OUTPUTS;
 use records::RECORD;
 use records::hold_of;
 use records::put_record;
+use rotations::measure;
 use switch::Counts;
 use switch::Outcome;
 use switch::PORTS;

@@ -35,9 +35,9 @@ pub record Turning (N : ℕ) (H : List ℕ) : Type 0 where
   pub few : N ≤ 128
   pub size : length H ≡ N
 
--- so many records and so long in all, whatever the records' width
+-- so many records and so long in all, whatever the records' width and whichever settings the holds are of
 pub record Measures (N : ℕ) (H : List ℕ) (records sum : ℕ) : Type 0 where
   pub few : records ≤ N
   pub small : sum ≤ N * 65535
-  pub count : (W : ℕ) → records ≡ length (rotations W N H)
-  pub held : (W : ℕ) → sum ≡ total (rotations W N H)
+  pub count : (W : ℕ) (τ : ℕ → ℕ → ℕ) → records ≡ length (turns W τ (λ k. getD H k 0) N 0)
+  pub held : (W : ℕ) (τ : ℕ → ℕ → ℕ) → sum ≡ total (turns W τ (λ k. getD H k 0) N 0)

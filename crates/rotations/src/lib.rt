@@ -43,9 +43,9 @@ pub fn fill_holds(rule: Rule, n: usize, cells: &[u32], unit: u32, holds: &mut [u
     }
 }
 
-// What the rotations come to.
+// What settings of those holds come to, rotations or others.
 pub fn measure(n: usize, holds: &[u16]) -> Part
-    requires { ⌜ Turning n (now holds) ⌝ }
+    requires { ⌜ (n ≤ 128) × (n ≤ length (now holds)) ⌝ }
     ensures { λ r. ⌜ Measures n (now (holds .entry)) (r .records) (r .total) ⌝ }
 {
     let mut records: usize = 0;

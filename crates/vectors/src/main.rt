@@ -3,6 +3,7 @@
 // shares nothing with the code that is run here; makers/tape.py says what each letter of a tape calls.
 // It promises that every case of any tape is run safely; that the answers are right is for the comparison.
 mod check;
+mod fabric;
 mod join;
 mod plan;
 mod record;
@@ -13,7 +14,7 @@ ghost use Prim.Native.Nat.{_≤_, _<_};
 ghost use lib.ListN.{length};
 
 // The most bytes of a tape.
-const TAPE: usize = 524288;
+const TAPE: usize = 1048576;
 
 // The most bytes laid for one call: 65 × 65 cells, or 64 × 64 and a plan of a record more than may be read.
 const LAID: usize = 573600;
@@ -53,10 +54,11 @@ fn run(step: Step, laid: &[u8])
 {
     let letter = step.letter;
     match letter {
-        b'x' | b'd' | b'e' | b'q' => plan::plan(step, laid),
+        b'x' | b'd' | b'e' | b'q' | b'g' => plan::plan(step, laid),
         b'k' => check::check(step.first, laid, step.second),
         b'l' => check::length(step.first, laid, step.second as u16),
         b'j' => join::join(step, laid),
+        b'f' => fabric::report(step.first, laid, step.second),
         b'r' => record::read(step.first, laid, step.second),
         b'w' => record::write(step, laid),
         _ => show::text(b" no such call\n"),

@@ -1,7 +1,8 @@
-// The planners: a demand into lent bytes.
+// The planners: a demand into lent bytes. A plan for the grating fabric is reported too.
 use switch::Outcome;
 use tape::Step;
 ghost use Prim.Native.Nat.{_≤_};
+ghost use lib.ListN.{length};
 
 // The most cells that are lent.
 const CELLS: usize = 4225;
@@ -27,25 +28,27 @@ fn plan_within(letter: u8, n: usize, cells: &[u32], size: usize) {
 }
 
 // Plans into lent bytes, and prints what comes of it.
-fn plan_into(letter: u8, n: usize, cells: &[u32], lent: &mut [u8]) {
+fn plan_into(letter: u8, n: usize, cells: &[u32], lent: &mut [u8])
+    requires { ⌜ length (now lent) ≤ 278783 ⌝ }
+{
     tape::blank(lent);
     let outcome = planned(letter, n, cells, lent);
     show::answer(outcome);
     show::sum(lent);
     show::text(b"\n");
     show::plan(n, outcome, lent);
+    if letter == b'g' {
+        crate::fabric::report_written(n, outcome, lent);
+    }
 }
 
 // The planner that the letter stands for.
 fn planned(letter: u8, n: usize, cells: &[u32], lent: &mut [u8]) -> Outcome {
-    if letter == b'x' {
-        return exact::exact_plan(n, cells, lent);
+    match letter {
+        b'x' => exact::exact_plan(n, cells, lent),
+        b'd' => doubled::doubled_plan(n, cells, lent),
+        b'e' => doubled::doubled_plan_every_rotation(n, cells, lent),
+        b'g' => grating::grating_doubled(n, cells, lent),
+        _ => quick::quick_plan(n, cells, lent),
     }
-    if letter == b'd' {
-        return doubled::doubled_plan(n, cells, lent);
-    }
-    if letter == b'e' {
-        return doubled::doubled_plan_every_rotation(n, cells, lent);
-    }
-    quick::quick_plan(n, cells, lent)
 }

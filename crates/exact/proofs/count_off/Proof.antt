@@ -7,7 +7,7 @@ use Rattle.peel.specs.Standing.{left, rest, Standing}
 use Rattle.switch.specs.Demand.{cell}
 use Rattle.rules.proofs.ExactFrom.{exact-end}
 use Rattle.peel.proofs.Starting.{standing, table-length}
-use Rattle.exact.proofs.Turn.{one-fewer}
+use Rattle.exact.proofs.Turn.{turn-within, turn-left, turn-small, turn-most, turn-less, turn-counted, one-fewer}
 use Rattle.exact.proofs.count_off.Statement.{statement}
 use Rattle.exact.proofs.count_off.Tie as tie
 
@@ -32,24 +32,24 @@ take-off-requires : tie.Need-take-off-requires Inv-loop μ-loop
 take-off-requires c κs = let l = c .before .before .before .before .before .before .loop in (l .inv .0, omega (arith, l .inv .1))
 
 cast-remains : tie.Need-cast-remains Inv-loop μ-loop
-cast-remains c = omega (arith, c .before .before .before .before .before .before .before .before .before .before .before .take-off .ensures .falls, c .before .before .before .before .before .before .before .before .before .before .before .before .before .before .before .before .before .before .before .before .before .before .before .before .before .before .before .before .before .before .before .before .before .before .pre .0 .small, c .before .before .before .before .before .before .before .before .before .before .before .before .before .before .before .before .before .before .loop .inv .1)
+cast-remains c = let l = c .before .before .before .before .before .before .before .before .before .before .before .before .before .before .before .before .before .before .loop in turn-small _ _ _ _ (l .inv .1) (c .before .before .before .before .before .before .before .before .before .before .before .take-off .ensures .falls) _ _ (l .inv .2) (c .before .before .before .before .before .before .before .before .before .before .before .before .before .before .before .before .before .before .before .before .before .before .before .before .before .before .before .before .before .before .before .before .before .before .pre .0 .small)
 
 sub-remains : tie.Need-sub-remains Inv-loop μ-loop
-sub-remains c = omega (arith, c .before .before .before .before .before .before .before .before .before .before .before .take-off .ensures .falls, c .before .before .before .before .before .before .before .before .before .before .before .before .before .before .before .before .before .before .loop .inv .1)
+sub-remains c = turn-within _ _ _ _ (c .before .before .before .before .before .before .before .before .before .before .before .before .before .before .before .before .before .before .loop .inv .1) (c .before .before .before .before .before .before .before .before .before .before .before .take-off .ensures .falls)
 
 add-records : tie.Need-add-records Inv-loop μ-loop
-add-records c = omega (arith, c .before .before .before .before .before .before .before .before .before .before .before .before .before .before .before .before .before .before .before .before .before .before .before .before .before .before .before .before .before .before .before .before .before .before .pre .0 .small)
+add-records c = turn-counted _ _ _ (c .before .before .before .before .before .before .before .before .before .before .before .before .before .before .before .before .before .before .loop .inv .2) (c .before .before .before .before .before .before .before .before .before .before .before .before .before .before .before .before .before .before .before .before .before .before .before .before .before .before .before .before .before .before .before .before .before .before .pre .0 .small)
 
 loop-less : tie.Need-loop-less Inv-loop μ-loop
-loop-less c = omega (arith, c .before .before .before .before .before .before .before .before .before .before .before .take-off .ensures .some)
+loop-less c = turn-less _ _ (c .before .before .before .before .before .before .before .before .before .before .before .take-off .ensures .some) (c .before .before .before .before .before .before .before .before .before .before .before .before .before .before .before .before .before .loop-test .taken)
 
 loop-again : tie.Need-loop-again Inv-loop μ-loop
 loop-again c =
     let l = c .before .before .before .before .before .before .before .before .before .before .before .before .before .before .before .before .before .before .loop in
     let s = c .before .before .before .before .before .before .before .before .before .before .before .take-off .ensures in (
       s .standing,
-      omega (arith, s .falls, l .inv .1),
-      omega (arith, s .some, s .falls, l .inv .1, l .inv .2),
+      turn-left _ _ _ _ (l .inv .1) (s .falls),
+      turn-most _ _ _ _ (l .inv .1) (s .falls) _ _ (l .inv .2) (s .some),
       λ W wide narrow. omega (arith, l .inv .3 W wide narrow, one-fewer (s .more W wide narrow)),
       c .before .before .before .before .before .before .before .before .before .before .before .take-off .kept .0 ∙ l .inv .4,
     )

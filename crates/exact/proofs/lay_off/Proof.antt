@@ -3,6 +3,7 @@ use mathlib.Core.Path.{_≡_, refl, sym, ap, _∙_, subst}
 use mathlib.Core.List.{List, map}
 use Prim.Native.Nat.{ℕ, _+_, _*_, _≤_}
 use native.Mathlib.Omega.{arith}
+use mir.Facts.{fits-le, fits-lit}
 use lib.ListN.{length}
 use Rattle.switch.specs.Plan.{Record}
 use Rattle.rules.specs.Doubled.{stretch}
@@ -12,7 +13,7 @@ use Rattle.switch.specs.Demand.{cell}
 use Rattle.rules.proofs.ExactFrom.{exact-end, from-peels}
 use Rattle.peel.proofs.Left.{record-long}
 use Rattle.peel.proofs.Starting.{standing, table-length}
-use Rattle.exact.proofs.Turn.{parts-small, Written, written-none, written-all, next-room, written-next}
+use Rattle.exact.proofs.Turn.{parts-small, turn-within, turn-left, turn-small, turn-most, turn-less, turn-counted, Written, written-none, written-all, next-room, written-next}
 use Rattle.exact.proofs.lay_off.Statement.{statement}
 use Rattle.exact.proofs.lay_off.Tie as tie
 
@@ -46,16 +47,16 @@ take-off-requires : tie.Need-take-off-requires Inv-loop μ-loop
 take-off-requires c κs = let l = c .before .before .before .before .before .before .loop in (l .inv .0, omega (arith, l .inv .1))
 
 cast-remains : tie.Need-cast-remains Inv-loop μ-loop
-cast-remains c = omega (arith, c .before .before .before .before .before .before .before .before .before .before .before .take-off .ensures .falls, c .before .before .before .before .before .before .before .before .before .before .before .before .before .before .before .before .before .before .before .before .before .before .before .before .before .before .before .before .before .before .before .before .before .before .before .pre .0 .small, c .before .before .before .before .before .before .before .before .before .before .before .before .before .before .before .before .before .before .loop .inv .1)
+cast-remains c = let l = c .before .before .before .before .before .before .before .before .before .before .before .before .before .before .before .before .before .before .loop in turn-small _ _ _ _ (l .inv .1) (c .before .before .before .before .before .before .before .before .before .before .before .take-off .ensures .falls) _ _ (l .inv .2) (c .before .before .before .before .before .before .before .before .before .before .before .before .before .before .before .before .before .before .before .before .before .before .before .before .before .before .before .before .before .before .before .before .before .before .before .pre .0 .small)
 
 sub-remains : tie.Need-sub-remains Inv-loop μ-loop
-sub-remains c = omega (arith, c .before .before .before .before .before .before .before .before .before .before .before .take-off .ensures .falls, c .before .before .before .before .before .before .before .before .before .before .before .before .before .before .before .before .before .before .loop .inv .1)
+sub-remains c = turn-within _ _ _ _ (c .before .before .before .before .before .before .before .before .before .before .before .before .before .before .before .before .before .before .loop .inv .1) (c .before .before .before .before .before .before .before .before .before .before .before .take-off .ensures .falls)
 
 mul-hold : tie.Need-mul-hold Inv-loop μ-loop
-mul-hold c = omega (arith, parts-small _ _ _ (c .before .before .before .before .before .before .before .before .before .before .before .before .before .before .before .before .before .before .before .before .before .before .before .before .before .before .before .before .before .before .before .before .before .before .before .before .args .unit) _ (c .before .before .before .before .before .before .before .before .before .before .before .before .take-off .ensures .falls) (c .before .before .before .before .before .before .before .before .before .before .before .before .before .before .before .before .before .before .before .loop .inv .3))
+mul-hold c = fits-le (parts-small _ _ _ (c .before .before .before .before .before .before .before .before .before .before .before .before .before .before .before .before .before .before .before .before .before .before .before .before .before .before .before .before .before .before .before .before .before .before .before .before .args .unit) _ (c .before .before .before .before .before .before .before .before .before .before .before .before .take-off .ensures .falls) (c .before .before .before .before .before .before .before .before .before .before .before .before .before .before .before .before .before .before .before .loop .inv .3) .1) (fits-lit tt)
 
 cast-hold : tie.Need-cast-hold Inv-loop μ-loop
-cast-hold c = omega (arith, parts-small _ _ _ (c .before .before .before .before .before .before .before .before .before .before .before .before .before .before .before .before .before .before .before .before .before .before .before .before .before .before .before .before .before .before .before .before .before .before .before .before .args .unit) _ (c .before .before .before .before .before .before .before .before .before .before .before .before .take-off .ensures .falls) (c .before .before .before .before .before .before .before .before .before .before .before .before .before .before .before .before .before .before .before .loop .inv .3))
+cast-hold c = fits-le (parts-small _ _ _ (c .before .before .before .before .before .before .before .before .before .before .before .before .before .before .before .before .before .before .before .before .before .before .before .before .before .before .before .before .before .before .before .before .before .before .before .before .args .unit) _ (c .before .before .before .before .before .before .before .before .before .before .before .before .take-off .ensures .falls) (c .before .before .before .before .before .before .before .before .before .before .before .before .before .before .before .before .before .before .before .loop .inv .3) .1) (fits-lit tt)
 
 slice-reshare-prefix-put-record : tie.Need-slice-reshare-prefix-put-record Inv-loop μ-loop
 slice-reshare-prefix-put-record c = omega (arith, c .before .before .before .before .before .before .before .before .before .before .before .before .before .before .before .before .before .before .before .before .before .before .before .before .before .before .before .before .before .before .before .before .before .before .before .before .before .pre .2 .narrow, c .before .before .before .before .before .before .before .before .before .before .before .before .before .take-off .ensures .standing .good .outputs)
@@ -80,10 +81,10 @@ add-next-2 c =
     omega (arith, next-room _ _ (c .before .before .before .before .before .before .before .before .before .before .before .before .before .before .before .before .before .before .before .before .before .before .before .before .before .before .before .before .before .before .before .before .before .before .before .before .before .before .before .before .before .args .unit) _ _ _ _ _ _ _ _ l _ _ _ (s .more _ (p .2 .wide) (p .2 .narrow)), record-long _ (p .2 .narrow) (s .standing), l .size, c .before .before .before .before .before .before .before .before .before .before .before .before .before .before .before .before .before .before .before .before .before .before .before .before .before .before .before .before .before .before .before .before .before .before .before .before .before .before .before .before .before .good .1 .1 .1 .1 .1 .1 .1 .1 .1 .1 .0 .0)
 
 add-records : tie.Need-add-records Inv-loop μ-loop
-add-records c = omega (arith, c .before .before .before .before .before .before .before .before .before .before .before .before .before .before .before .before .before .before .before .before .before .before .before .before .before .before .before .before .before .before .before .before .before .before .before .before .before .before .before .before .before .pre .0 .small)
+add-records c = turn-counted _ _ _ (c .before .before .before .before .before .before .before .before .before .before .before .before .before .before .before .before .before .before .before .before .before .before .before .before .loop .inv .2) (c .before .before .before .before .before .before .before .before .before .before .before .before .before .before .before .before .before .before .before .before .before .before .before .before .before .before .before .before .before .before .before .before .before .before .before .before .before .before .before .before .before .pre .0 .small)
 
 loop-less : tie.Need-loop-less Inv-loop μ-loop
-loop-less c = omega (arith, c .before .before .before .before .before .before .before .before .before .before .before .before .before .before .before .before .before .take-off .ensures .some)
+loop-less c = turn-less _ _ (c .before .before .before .before .before .before .before .before .before .before .before .before .before .before .before .before .before .take-off .ensures .some) (c .before .before .before .before .before .before .before .before .before .before .before .before .before .before .before .before .before .before .before .before .before .before .before .loop-test .taken)
 
 loop-again : tie.Need-loop-again Inv-loop μ-loop
 loop-again c =
@@ -91,8 +92,8 @@ loop-again c =
     let l = c .before .before .before .before .before .before .before .before .before .before .before .before .before .before .before .before .before .before .before .before .before .before .before .before .loop in
     let s = c .before .before .before .before .before .before .before .before .before .before .before .before .before .before .before .before .before .take-off .ensures in (
       s .standing,
-      omega (arith, s .falls, l .inv .1),
-      omega (arith, s .some, s .falls, l .inv .1, l .inv .2),
+      turn-left _ _ _ _ (l .inv .1) (s .falls),
+      turn-most _ _ _ _ (l .inv .1) (s .falls) _ _ (l .inv .2) (s .some),
       parts-small _ _ _ (c .before .before .before .before .before .before .before .before .before .before .before .before .before .before .before .before .before .before .before .before .before .before .before .before .before .before .before .before .before .before .before .before .before .before .before .before .before .before .before .before .before .args .unit) _ (s .falls) (l .inv .3) .0,
       c .before .before .before .before .before .before .before .before .before .before .before .before .before .before .before .before .before .take-off .kept .0 ∙ l .inv .4,
       written-next _ _ (c .before .before .before .before .before .before .before .before .before .before .before .before .before .before .before .before .before .before .before .before .before .before .before .before .before .before .before .before .before .before .before .before .before .before .before .before .before .before .before .before .before .args .unit) _ _ _ _ _ _ _ _ (l .inv .5) _ _ _ (s .more _ (p .2 .wide) (p .2 .narrow)) _ (c .before .before .put-record .ensures) (record-long _ (p .2 .narrow) (s .standing)),

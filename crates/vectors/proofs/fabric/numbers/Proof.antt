@@ -2,15 +2,8 @@
 use Prim.Native.Nat.{_≤_, _-_}
 use lib.ListN.{length}
 use borrow.Author.Needs.{needs}
-use Rattle.grating_vectors.proofs.numbers.Statement.{statement}
-use Rattle.grating_vectors.proofs.numbers.Tie as tie
-use Rattle.grating_vectors.proofs.numbers.Reads as reads
-use Rattle.grating_vectors.proofs.numbers.Lts as lts
-use Rattle.grating_vectors.proofs.wide.Reads as wide-reads
-use Rattle.show.proofs.field.Reads as field-reads
-use Rattle.show.proofs.text.Reads as text-reads
-use Rattle.switch.proofs.counts_of.Reads as counts-of-reads
-use Rattle.tape.proofs.within.Reads as within-reads
+use Rattle.vectors.proofs.fabric.numbers.Statement.{statement}
+use Rattle.vectors.proofs.fabric.numbers.Tie as tie
 
 abbrev Inv-loop : tie.InvT-loop
 Inv-loop report records count k₀ t6 t7 k = count ≤ length report
@@ -18,59 +11,45 @@ Inv-loop report records count k₀ t6 t7 k = count ≤ length report
 abbrev μ-loop : tie.MeasureT-loop
 μ-loop report records count k₀ t6 t7 k = count - k
 
--- src/main.rt:117:19
 counts-of-requires : tie.Need-counts-of-requires Inv-loop μ-loop
 counts-of-requires c κs = search needs
 
--- src/main.rt:119:9
 returns : tie.Need-returns Inv-loop μ-loop
 returns c = search needs
 
--- src/main.rt:121:9
 within-requires : tie.Need-within-requires Inv-loop μ-loop
 within-requires c κs = search needs
 
--- src/main.rt:122:5
 loop-holds : tie.Need-loop-holds Inv-loop μ-loop
 loop-holds c = search needs
 
--- src/main.rt:123:21
 slice-aggregate-field : tie.Need-slice-aggregate-field Inv-loop μ-loop
 slice-aggregate-field c = search needs
 
--- src/main.rt:123:32
 shared-slice-read-wide : tie.Need-shared-slice-read-wide Inv-loop μ-loop
 shared-slice-read-wide c = search needs
 
--- src/main.rt:123:27
 wide-requires : tie.Need-wide-requires Inv-loop μ-loop
 wide-requires c κs = search needs
 
--- src/main.rt:123:9
 field-requires : tie.Need-field-requires Inv-loop μ-loop
 field-requires c κs = search needs
 
--- src/main.rt:122:9
 add-k : tie.Need-add-k Inv-loop μ-loop
 add-k c = search needs
 
--- src/main.rt:122:5
 loop-less : tie.Need-loop-less Inv-loop μ-loop
 loop-less c = search needs
 
--- src/main.rt:122:5
 loop-again : tie.Need-loop-again Inv-loop μ-loop
 loop-again c = search needs
 
--- src/main.rt:125:16
 slice-aggregate-text : tie.Need-slice-aggregate-text Inv-loop μ-loop
 slice-aggregate-text c = search needs
 
--- src/main.rt:125:5
 text-requires : tie.Need-text-requires Inv-loop μ-loop
 text-requires c κs = search needs
 
--- src/main.rt:116:1
 returns-2 : tie.Need-returns-2 Inv-loop μ-loop
 returns-2 c = search needs
 
