@@ -10,7 +10,7 @@ use records::IDLE;
 use switch::InputPort;
 use switch::OutputPort;
 ghost use mathlib.Core.Path.{_≡_};
-ghost use Prim.Native.Nat.{ℕ, _+_, _%_, _<_, _≤_};
+ghost use Prim.Native.Nat.{ℕ, _<_, _≤_};
 ghost use lib.ListN.{length, getD};
 ghost use Rattle.labels.specs.Label.{In, Lowest};
 ghost use Rattle.labels.specs.Wide.{outputsOf};

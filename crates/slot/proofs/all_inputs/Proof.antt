@@ -1,5 +1,4 @@
 -- Every output below 128, cut at N.
-use mathlib.Core.Path.{sym, subst}
 use native.Mathlib.Omega.{arith}
 use Rattle.slot.proofs.Turns.{in-words}
 use borrow.Author.Needs.{needs}

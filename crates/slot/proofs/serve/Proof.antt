@@ -1,5 +1,5 @@
 -- The cell is at least 1, and the label that is written is the one that the cell now asks for.
-use mathlib.Core.Path.{refl, ap}
+use mathlib.Core.Path.{ap}
 use Prim.Native.Nat.{ℕ}
 use native.Mathlib.Omega.{arith}
 use lib.ListN.{getD}

@@ -1,9 +1,5 @@
 -- Only where the label has no output at all does the input leave.
-use mathlib.Core.Path.{_≡_, subst}
-use mathlib.Core.Logic.{_≢_}
-use Prim.Native.Nat.{ℕ}
-use native.Mathlib.Decide.{ℕ-discrete}
-use native.Mathlib.Omega.{arith}
+use mathlib.Core.Path.{subst}
 use Rattle.labels.specs.declared.Found.{Found}
 use Rattle.labels.specs.Label.{Lowest}
 use Rattle.labels.specs.Wide.{outputsOf}

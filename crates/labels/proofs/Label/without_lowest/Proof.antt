@@ -1,5 +1,5 @@
 -- One less than the set has other digits up to the lowest that is 1, and the same above it.
-use mathlib.Core.Path.{sym, ap, _∙_}
+use mathlib.Core.Path.{ap}
 use Prim.Native.Nat.{ℕ}
 use native.Mathlib.Omega.{arith}
 use Rattle.labels.specs.Label.{digit}
