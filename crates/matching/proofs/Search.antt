@@ -14,7 +14,7 @@ use Rattle.switch.specs.declared.OutputPort.{OutputPort}
 use Rattle.matching.specs.declared.Asked.{Asked}
 use Rattle.matching.specs.declared.Asked.the-variants.{Freed, Stuck}
 use Rattle.matching.specs.Tables.{Held, Holds, joined, Matching}
-use Rattle.matching.specs.Search.{Stays, Closed, Ports, Further, Mover, Movable, Handed, Spare, AskPre, Wave, Around, Gained, OutMoved, Moved, Unmoved, AskPost}
+use Rattle.matching.specs.Search.{Stays, Closed, Ports, Further, Movable, Handed, AskPre, Wave, Around, Gained, OutMoved, Moved, Unmoved, AskPost}
 use Rattle.matching.proofs.Tables.{Here, Other, stored, held-in, held-not-free, one-holder, freed-back, freed-good, freed-idle, taken-good}
 
 -- ---- closed sets

@@ -1,12 +1,12 @@
 -- A wave is asked word by word, each word output by output; the rows of the holders met are what it leads to.
-use mathlib.Core.Path.{_≡_, refl, sym, ap, subst, _∙_}
+use mathlib.Core.Path.{_≡_, sym, ap, subst, _∙_}
 use mathlib.Core.Logic.{_⊎_, inl, inr, ⊎-elim}
 use mathlib.Core.List.{List}
 use lib.ListN.{getD, set}
 use Prim.Native.Nat.{ℕ, _+_, _-_, _^_, _<_}
 use native.Mathlib.Decide.{decLt}
 use native.Mathlib.Omega.{arith}
-use Rattle.labels.specs.Label.{digit, In, Sub, Cleared, Union}
+use Rattle.labels.specs.Label.{In, Sub, Cleared, Union}
 use Rattle.labels.specs.Wide.{two}
 use Rattle.labels.specs.declared.Found.{Found}
 use Rattle.labels.specs.declared.Found.the-variants.{At, Nothing}

@@ -3,7 +3,7 @@ use mathlib.Core.Path.{_≡_}
 use mathlib.Core.Bool.{Bool, true, false}
 use mathlib.Core.List.{List}
 use Prim.Native.Nat.{ℕ, _<_, _≤_}
-use lib.ListN.{length, set}
+use lib.ListN.{set}
 use Rattle.labels.specs.Label.{In, Sub}
 use Rattle.rules.specs.First.{Fits, Agree, First}
 use Rattle.matching.specs.Tables.{triedOf, Held, Holds, joined, Matching}

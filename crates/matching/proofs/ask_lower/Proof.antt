@@ -2,7 +2,7 @@
 use mathlib.Core.Path.{sym, ap, subst, _∙_}
 use Prim.Native.Nat.{ℕ, _<_}
 use native.Mathlib.Nat.{lt-of-lt-of-le}
-use lib.ListN.{length, set, length-set}
+use lib.ListN.{length, length-set}
 use Rattle.labels.specs.Wide.{outputsOf}
 use Rattle.matching.specs.Tables.{triedOf, Allowed}
 use Rattle.matching.specs.Search.{AskPost}
@@ -11,13 +11,6 @@ use Rattle.matching.proofs.Settling.{own-place, given-up, lower-asks, l
 use borrow.Author.Needs.{needs}
 use Rattle.matching.proofs.ask_lower.Statement.{statement}
 use Rattle.matching.proofs.ask_lower.Tie as tie
-use Rattle.matching.proofs.ask_lower.Reads as reads
-use Rattle.matching.proofs.ask_lower.Lts as lts
-use Rattle.labels.proofs.Wide.every.Reads as every-reads
-use Rattle.labels.proofs.Wide.without.Reads as without-reads
-use Rattle.matching.proofs.ask_inputs.Reads as ask-inputs-reads
-use Rattle.matching.proofs.join.Reads as join-reads
-use Rattle.matching.proofs.release.Reads as release-reads
 
 release-requires : tie.Need-release-requires
 release-requires c κs =

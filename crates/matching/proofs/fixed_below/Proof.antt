@@ -1,21 +1,15 @@
 -- The outputs of the inputs passed are marked, and no others.
-use Prim.Native.Nat.{ℕ, _+_, _-_, _≤_}
-use mathlib.Core.Path.{_≡_, sym, subst}
-use lib.ListN.{length}
+use Prim.Native.Nat.{ℕ, _-_, _≤_}
+use mathlib.Core.Path.{subst}
 use native.Mathlib.Nat.{le-antisymm}
 use native.Mathlib.Omega.{arith}
 use Rattle.labels.specs.Label.{Marked}
-use Rattle.matching.specs.Tables.{triedOf, joined}
+use Rattle.matching.specs.Tables.{triedOf}
 use Rattle.matching.specs.Chosen.{Fixed}
 use Rattle.matching.proofs.Completing.{fixed-none, fixed-more}
 use borrow.Author.Needs.{needs}
 use Rattle.matching.proofs.fixed_below.Statement.{statement}
 use Rattle.matching.proofs.fixed_below.Tie as tie
-use Rattle.matching.proofs.fixed_below.Reads as reads
-use Rattle.matching.proofs.fixed_below.Lts as lts
-use Rattle.matching.proofs.Tried.mark.Reads as mark-reads
-use Rattle.matching.proofs.Tried.none.Reads as none-reads
-use Rattle.matching.proofs.output_of.Reads as output-of-reads
 
 abbrev Inv-loop : tie.InvT-loop
 Inv-loop out kept fixed₀ i₀ fixed i = (i ≤ kept) × Fixed out i (triedOf fixed)

@@ -1,5 +1,5 @@
 -- It only goes down, and it goes down once at least.
-use Prim.Native.Nat.{_≤_, _<_}
+use Prim.Native.Nat.{_≤_}
 use native.Mathlib.Omega.{arith}
 use borrow.Author.Needs.{needs}
 use Rattle.matching.proofs.give_way.Statement.{statement}

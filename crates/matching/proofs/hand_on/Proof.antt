@@ -1,14 +1,12 @@
 -- The output is given up before its holder takes the other, so that nobody holds two.
 use mathlib.Core.Path.{ap, _∙_}
-use Prim.Native.Nat.{ℕ, _-_}
 use native.Mathlib.Nat.{lt-of-lt-of-le}
 use native.Mathlib.Omega.{arith}
-use lib.ListN.{length, getD, length-set}
+use lib.ListN.{length, length-set}
 use Rattle.labels.specs.Wide.{outputsOf}
 use Rattle.matching.specs.Tables.{Allowed}
 use Rattle.matching.proofs.Tables.{held-in}
-use Rattle.matching.proofs.Waves.{holder-of, holder-port, handed}
-use borrow.Author.Needs.{needs}
+use Rattle.matching.proofs.Waves.{holder-port, handed}
 use Rattle.matching.proofs.hand_on.Statement.{statement}
 use Rattle.matching.proofs.hand_on.Tie as tie
 

@@ -1,6 +1,6 @@
 -- An output is taken out of the set of all where nobody holds it.
 use mathlib.Core.Logic.{⊎-elim}
-use Prim.Native.Nat.{_-_, _≤_}
+use Prim.Native.Nat.{_-_}
 use native.Mathlib.Omega.{arith}
 use Rattle.labels.specs.Wide.{outputsOf}
 use Rattle.matching.specs.Search.{Free}
@@ -8,10 +8,6 @@ use Rattle.matching.proofs.Completing.{free-none, free-one}
 use borrow.Author.Needs.{needs}
 use Rattle.matching.proofs.held_outputs.Statement.{statement}
 use Rattle.matching.proofs.held_outputs.Tie as tie
-use Rattle.matching.proofs.held_outputs.Reads as reads
-use Rattle.matching.proofs.held_outputs.Lts as lts
-use Rattle.labels.proofs.Wide.every.Reads as every-reads
-use Rattle.labels.proofs.Wide.without.Reads as without-reads
 
 abbrev Inv-loop : tie.InvT-loop
 Inv-loop by n held₀ k₀ held k = Free 128 by (outputsOf held)

@@ -4,9 +4,6 @@ use Rattle.matching.proofs.Completing.{holds-out, holds-test}
 use borrow.Author.Needs.{needs}
 use Rattle.matching.proofs.holds.Statement.{statement}
 use Rattle.matching.proofs.holds.Tie as tie
-use Rattle.matching.proofs.holds.Reads as reads
-use Rattle.matching.proofs.holds.Lts as lts
-use Rattle.matching.proofs.output_of.Reads as output-of-reads
 
 output-of-requires : tie.Need-output-of-requires
 output-of-requires c κs = search needs

@@ -1,7 +1,6 @@
 -- The lowest is one of them.
 use mathlib.Core.Path.{sym, subst}
 use mathlib.Core.Logic.{⊎-elim}
-use Prim.Native.Nat.{ℕ}
 use Rattle.labels.specs.Label.{In}
 use Rattle.labels.specs.Wide.{outputsOf}
 use borrow.Author.Needs.{needs}

@@ -14,13 +14,6 @@ use Rattle.matching.proofs.Waves.{holder-of, holder-port, not-mover}
 use borrow.Author.Needs.{needs}
 use Rattle.matching.proofs.mover.Statement.{statement}
 use Rattle.matching.proofs.mover.Tie as tie
-use Rattle.matching.proofs.mover.Reads as reads
-use Rattle.matching.proofs.mover.Lts as lts
-use Rattle.labels.proofs.Wide.has.Reads as has-reads
-use Rattle.labels.proofs.Wide.lowest_untried.Reads as lowest-untried-reads
-use Rattle.labels.proofs.Wide.without_lowest.Reads as without-lowest-reads
-use Rattle.labels.proofs.Wide.none.Reads as none-reads
-use Rattle.matching.proofs.row_of.Reads as row-of-reads
 
 -- what is looked for is left
 abbrev Inv-loop : tie.InvT-loop

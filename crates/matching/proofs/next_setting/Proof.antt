@@ -1,13 +1,11 @@
 -- As many inputs in front as can be keep their outputs; the others are joined around them and settled.
 use mathlib.Core.Path.{sym, _∙_}
 use native.Mathlib.Omega.{arith}
-use borrow.Author.Tests.{not-false}
 use lib.ListN.{length}
 use Rattle.labels.specs.Wide.{outputsOf}
 use Rattle.matching.specs.Tables.{triedOf, Allowed}
 use Rattle.matching.specs.Search.{Free}
 use Rattle.matching.proofs.Firm.{Firm, firm-start, firm-place, firm-completes, firm-settles, firm-some, firm-place', firm-less, firm-ends}
-use borrow.Author.Needs.{needs}
 use Rattle.matching.proofs.next_setting.Statement.{statement}
 use Rattle.matching.proofs.next_setting.Tie as tie
 

@@ -4,8 +4,6 @@ use Rattle.matching.proofs.Tables.{in-range}
 use borrow.Author.Needs.{needs}
 use Rattle.matching.proofs.output_of.Statement.{statement}
 use Rattle.matching.proofs.output_of.Tie as tie
-use Rattle.matching.proofs.output_of.Reads as reads
-use Rattle.matching.proofs.output_of.Lts as lts
 
 shared-slice-read-t5 : tie.Need-shared-slice-read-t5
 shared-slice-read-t5 c = search needs

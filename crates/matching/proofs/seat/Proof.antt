@@ -1,5 +1,5 @@
 -- An input that holds nothing asks; one that is stuck shows that no full setting keeps what is fixed.
-use mathlib.Core.Path.{refl, sym, ap, subst, _∙_}
+use mathlib.Core.Path.{sym, ap, subst, _∙_}
 use Prim.Native.Nat.{ℕ}
 use native.Mathlib.Nat.{lt-of-lt-of-le}
 use lib.ListN.{length, length-set}
@@ -13,13 +13,6 @@ use Rattle.matching.proofs.Completing.{holds-none, seat-holds, seat-ask
 use borrow.Author.Needs.{needs}
 use Rattle.matching.proofs.seat.Statement.{statement}
 use Rattle.matching.proofs.seat.Tie as tie
-use Rattle.matching.proofs.seat.Reads as reads
-use Rattle.matching.proofs.seat.Lts as lts
-use Rattle.labels.proofs.Wide.mark.Reads as mark-reads
-use Rattle.matching.proofs.ask_inputs.Reads as ask-inputs-reads
-use Rattle.matching.proofs.holds.Reads as holds-reads
-use Rattle.matching.proofs.join.Reads as join-reads
-use Rattle.matching.proofs.row_of.Reads as row-of-reads
 
 holds-requires : tie.Need-holds-requires
 holds-requires c κs = let s = c .before .before .before .before .before .before in (has-place 128 (length (s .args .lows .now)) (s .args .i .0) (s .args .out .now) (s .pre .0 .few) (s .pre .1) (s .pre .2 .good .outputs), s .pre .2 .good .holders)

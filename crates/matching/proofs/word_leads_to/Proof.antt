@@ -12,13 +12,6 @@ use Rattle.matching.proofs.Waves.{Part, part-start, part-more, part-end
 use borrow.Author.Needs.{needs}
 use Rattle.matching.proofs.word_leads_to.Statement.{statement}
 use Rattle.matching.proofs.word_leads_to.Tie as tie
-use Rattle.matching.proofs.word_leads_to.Reads as reads
-use Rattle.matching.proofs.word_leads_to.Lts as lts
-use Rattle.labels.proofs.Label.lowest_untried.Reads as lowest-untried-reads
-use Rattle.labels.proofs.Label.none.Reads as none-reads
-use Rattle.labels.proofs.Label.without_lowest.Reads as without-lowest-reads
-use Rattle.labels.proofs.Wide.with.Reads as with-reads
-use Rattle.matching.proofs.row_of.Reads as row-of-reads
 
 abbrev Inv-loop : tie.InvT-loop
 Inv-loop lows highs by base rest₀ outputs₀ rest outputs = Part (Allowed lows highs) by (rest₀ .0) base (outputsOf outputs₀) (rest .0) (outputsOf outputs)
