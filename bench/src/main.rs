@@ -15,6 +15,7 @@ use demands::Demand;
 use peers::Peer;
 use std::fmt::Write as _;
 use std::path::{Path, PathBuf};
+use std::process::Command;
 use std::{env, fs, io};
 use timing::{Times, SAMPLES};
 
@@ -69,20 +70,32 @@ impl Report {
 }
 
 fn conditions() -> String {
-    let processor = fs::read_to_string("/proc/cpuinfo").unwrap_or_default();
-    let model = processor.lines().find_map(|line| line.strip_prefix("model name")).unwrap_or("");
-    let model = model.trim_start_matches(['\t', ' ', ':']);
     let mut text = format!(
-        "Processor: {model}. One thread. Demands are seeded, so every run times the same ones: `dense` \
+        "Processor: {}. One thread. Demands are seeded, so every run times the same ones: `dense` \
          has every cell at random (T about 40,000), `sparse` about four outputs for each input, `small` \
          cells of 0 to 3. A time is the least of {SAMPLES} samples, proved and unproved taken in turn. \
-         *Rust* is `bindings/rust/reference`: unproved, written from document 01, at -O3 for plain \
-         x86-64 as the archive is.\n"
+         *Rust* is `bindings/rust/reference`: unproved, written from document 01, at -O3 for the same \
+         plain processor as the archive is.\n",
+        processor()
     );
+    if !cfg!(target_arch = "x86_64") {
+        text.push_str(
+            "\nThe archive that ships is for x86-64, and this is another processor: `bench/native` compiled the \
+             proved library's module for it by the same compiler and at the same level. Ratios on x86-64 can differ.\n",
+        );
+    }
     if !PROVED {
         text.push_str("\nThere was no archive, so the proved library was not timed: `rt staticlib chordvenus` makes it.\n");
     }
     text
+}
+
+/// Its name, as `lscpu` has it.
+fn processor() -> String {
+    let told = Command::new("lscpu").output().map(|output| output.stdout).unwrap_or_default();
+    let told = String::from_utf8_lossy(&told);
+    let model = told.lines().find_map(|line| line.strip_prefix("Model name:")).unwrap_or("unknown");
+    format!("{} ({})", model.trim(), env::consts::ARCH)
 }
 
 fn demands() -> Vec<Demand> {
@@ -124,15 +137,14 @@ fn joining(report: &mut Report) {
 fn same_search(report: &mut Report) {
     report.say("## The same search in Rust\n");
     report.say(
-        "The reference finds settings by another algorithm than the proved planner, whose search has \
-         document 01's form: an input asks its outputs, and a held output asks its holder to move. Here \
-         that search, written in plain Rust (`bench/src/search.rs`), is the peer; it checks nothing. The \
-         proved labels have two words, for switches of 128 ports; the peer is timed with two and with one. \
-         Proved time over its time, then both times.\n",
+        "The reference was written by itself. Here the proved planner's own search, written in plain Rust \
+         (`bench/src/search.rs`), is the peer; it checks nothing. The proved labels have two words, for \
+         switches of 128 ports; the peer is timed with one and with two. Proved time over its time, then \
+         both times.\n",
     );
     let demands = demands();
     let mut rows = Vec::new();
-    for (call, words) in [("exact", 2), ("doubled", 2), ("exact", 1), ("doubled", 1)] {
+    for (call, words) in [("exact", 1), ("doubled", 1), ("exact", 2), ("doubled", 2)] {
         for of_kind in demands.chunks(SIZES.len()) {
             let mut row = vec![call.to_string(), words.to_string(), of_kind[0].kind.to_string()];
             row.extend(of_kind.iter().map(|demand| compared(calls::same(call, words, demand).time())));

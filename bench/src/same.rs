@@ -1,6 +1,7 @@
-//! The proved planner's own search in plain Rust: an input asks its outputs, and a held output asks
-//! its holder to move. It shows what is lost to the proof where the algorithm is the same; `reference`
-//! searches by waves that it keeps, which is another algorithm.
+//! The proved planner's own search in plain Rust: inputs ask for outputs, and a wave of held outputs
+//! asks its holders to move. It shows what is lost to the proof where the algorithm is the same;
+//! `reference` was written by itself: it keeps its waves in a list, and what is left of a setting's
+//! pairs in another.
 
 pub mod one_word {
     type Label = u64;

@@ -122,97 +122,97 @@ impl Search {
 
     fn next_setting(&mut self, kept: usize) {
         let mut firm = kept;
+        let mut held = (0..self.n).fold(!0, |held, j| held & !(Label::from(self.by[j] == 0) << j));
         loop {
             let fixed = self.out[..firm].iter().fold(0, |fixed, &j| fixed | 1 << j);
-            if (kept..self.n).all(|i| self.seat(fixed, i)) {
-                (firm..self.n).fold(fixed, |fixed, i| self.settle(fixed, i));
-                return;
+            match self.complete(fixed, &mut held, kept) {
+                Ok(()) => return self.settle_from(fixed, firm),
+                Err(seen) => firm = (0..firm).rev().find(|&i| seen >> self.out[i] & 1 == 1).unwrap_or(0),
             }
-            firm -= 1;
         }
     }
 
-    fn seat(&mut self, fixed: Label, i: usize) -> bool {
-        let told = self.out[i];
-        if told != IDLE && usize::from(self.by[usize::from(told)]) == i + 1 {
-            return true;
-        }
-        if self.blocked(fixed, self.rows[i], 0) {
-            return false;
-        }
-        let held = (0..self.n).fold(!0, |held, j| held & !(Label::from(self.by[j] == 0) << j)) | fixed;
-        self.ask_input(held, fixed, i).is_ok()
-    }
-
-    fn settle(&mut self, fixed: Label, i: usize) -> Label {
-        let own = self.out[i];
-        self.by[usize::from(own)] = 0;
-        if self.blocked(fixed, self.rows[i] & ((1 << own) - 1), 1 << own) {
-            self.join(i, usize::from(own));
-            return fixed | 1 << own;
-        }
-        let asked = self.ask_input(!(1 << own), fixed, i);
-        debug_assert!(asked.is_ok());
-        fixed | 1 << self.out[i]
-    }
-
-    /// An output that the caller has just given up, `spare`, is seen a wave sooner.
-    fn blocked(&self, fixed: Label, outputs: Label, spare: Label) -> bool {
-        let (mut asked, mut seen) = (fixed, fixed | outputs);
-        while seen & !asked != 0 {
-            let (mut wave, mut further) = (seen & !asked, 0);
-            while wave != 0 {
-                match self.by[wave.trailing_zeros() as usize] {
-                    0 => return false,
-                    holder => further |= self.rows[usize::from(holder) - 1],
-                }
-                wave &= wave - 1;
+    /// The error is what the input that is stuck has tried.
+    fn complete(&mut self, fixed: Label, held: &mut Label, from: usize) -> Result<(), Label> {
+        for i in from..self.n {
+            let told = self.out[i];
+            if told != IDLE && usize::from(self.by[usize::from(told)]) == i + 1 {
+                continue;
             }
-            if further & spare != 0 {
-                return false;
-            }
-            asked = seen;
-            seen |= further;
+            let (output, spent) = self.ask_inputs(*held, fixed, self.rows[i])?;
+            self.join(i, output);
+            *held |= 1 << spent;
         }
-        true
+        Ok(())
     }
 
-    /// The error is what was tried.
-    fn ask_input(&mut self, held: Label, tried: Label, i: usize) -> Result<(), Label> {
-        let mut seen = tried;
+    fn settle_from(&mut self, fixed: Label, from: usize) {
+        let (mut fixed, mut dead, mut alone) = (fixed, fixed, true);
+        for i in from..self.n {
+            (fixed, dead, alone) = self.settle(fixed, dead, alone, i);
+        }
+    }
+
+    /// Input i asks for a lower output until all lower ones lead nowhere.
+    fn settle(&mut self, fixed: Label, dead: Label, mut alone: bool, i: usize) -> (Label, Label, bool) {
+        let mut own = usize::from(self.out[i]);
+        let mut dead = if dead >> own & 1 == 1 { fixed } else { dead };
         loop {
-            let left = self.rows[i] & !seen;
-            if left == 0 {
-                return Err(seen);
+            let lower = self.rows[i] & ((1 << own) - 1) & !dead;
+            if lower == 0 {
+                return (fixed | 1 << own, dead | 1 << own, alone);
             }
-            let j = left.trailing_zeros() as usize;
-            match self.ask_output(held, seen, j) {
-                Ok(()) => {
-                    self.join(i, j);
-                    return Ok(());
+            self.by[own] = 0;
+            let some = if alone { lower & lower.wrapping_neg() } else { lower };
+            match self.ask_outputs(!(1 << own), dead, some) {
+                Ok((output, _)) => {
+                    own = output;
+                    alone = true;
                 }
-                Err(tried) => seen = tried,
+                Err(seen) => {
+                    dead = seen;
+                    alone = false;
+                }
             }
+            self.join(i, own);
         }
     }
 
-    fn ask_output(&mut self, held: Label, tried: Label, j: usize) -> Result<(), Label> {
-        let holder = self.by[j];
-        if holder == 0 {
-            return Ok(());
-        }
-        self.by[j] = 0;
-        let i = usize::from(holder) - 1;
-        let spare = self.rows[i] & !held;
+    /// The output that was made free and the one that is spent on it; the error is what was tried.
+    fn ask_inputs(&mut self, held: Label, tried: Label, outputs: Label) -> Result<(usize, usize), Label> {
+        let spare = outputs & !held;
         if spare != 0 {
-            self.join(i, spare.trailing_zeros() as usize);
-            return Ok(());
+            let spare = spare.trailing_zeros() as usize;
+            return Ok((spare, spare));
         }
-        let asked = self.ask_input(held, tried | 1 << j, i);
-        if asked.is_err() {
-            self.by[j] = holder;
+        match outputs & !tried {
+            0 => Err(tried),
+            wave => self.ask_outputs(held, tried, wave),
         }
-        asked
+    }
+
+    fn ask_outputs(&mut self, held: Label, tried: Label, wave: Label) -> Result<(usize, usize), Label> {
+        let (mut rest, mut further) = (wave, 0);
+        while rest != 0 {
+            further |= self.rows[usize::from(self.by[rest.trailing_zeros() as usize]) - 1];
+            rest &= rest - 1;
+        }
+        let (wanted, spent) = self.ask_inputs(held, tried | wave, further)?;
+        Ok((self.hand_on(wave, wanted), spent))
+    }
+
+    /// The holder of one of these outputs takes the wanted one; answers the output it gives up.
+    fn hand_on(&mut self, mut wave: Label, wanted: usize) -> usize {
+        loop {
+            let output = wave.trailing_zeros() as usize;
+            let holder = usize::from(self.by[output]) - 1;
+            if self.rows[holder] >> wanted & 1 == 1 {
+                self.by[output] = 0;
+                self.join(holder, wanted);
+                return output;
+            }
+            wave &= wave - 1;
+        }
     }
 
     fn join(&mut self, i: usize, j: usize) {
