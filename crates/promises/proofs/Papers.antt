@@ -1,23 +1,38 @@
--- What document 01 says beside its table of small plans holds, by computing it.
+-- The small plans, and what the specification says beside their table, hold by computing them.
 use mathlib.Core.Path.{_≡_, refl}
-use mathlib.Core.List.{List, [], _∷_}
-use Prim.Native.Nat.{ℕ, zero, suc, _*_, _-_, _≤_}
+use mathlib.Core.List.{map, List, [], _∷_}
+use Prim.Native.Nat.{ℕ, zero, suc, _*_, _-_, _≤_, _+_}
 use native.Mathlib.Omega.{arith}
+use lib.Ieee.{ofBits}
 use lib.ListN.{length, take, replicate}
 use Rattle.counting.specs.Sum.{sum, most}
 use Rattle.counting.specs.Count.{ind, δ}
 use Rattle.counting.specs.Matrix.{row, col}
 use Rattle.switch.specs.Demand.{cell, longest}
-use Rattle.switch.specs.Plan.{total}
-use Rattle.records.specs.Bytes.{bytes}
 use Rattle.rules.specs.Fill.{fill, fillTo, fillCell, lack}
 use Rattle.rules.specs.Search.{put, pick, free, complete, firstSetting}
 use Rattle.rules.specs.Peel.{peel}
 use Rattle.rules.specs.Exact.{tab, least, recordOf, peels, exactFrom, exactPlan}
-use Rattle.rules.specs.Doubled.{unit, divide, stretch, rotate, held, turns, doubledBy, flat, doubledPlan, tight}
-use Rattle.rules.proofs.Tight.{tight-most}
+use Rattle.rules.specs.Doubled.{unit, divide, stretch, rotate, held, turns, doubledBy, flat, doubledPlan, tight, tightPlan}
 use Rattle.rules.specs.Quick.{lowest, may, seat, visits, slot, slots, quickFrom, quickPlan}
-use Rattle.papers.specs.Table.{d1, d6}
+use Rattle.wish.specs.Wish.{wishBits, wishOf, finite, worth, ceil}
+use Rattle.promises.specs.Papers.{Asked, Given, give, rec, table, d1, d6}
+use Rattle.switch.specs.Plan.{total}
+use Rattle.records.specs.Bytes.{bytes}
+use Rattle.rules.proofs.Tight.{tight-most}
+use Rattle.settings.specs.Sums.{sameOutputs}
+use Rattle.audit.specs.Length.{moves, charge, lengthOf}
+
+-- every row is given what it says
+pub small-plans : map (λ (r : Asked × Given). give (r .0)) table ≡ map (λ (r : Asked × Given). r .1) table
+unfolding table give rec
+    exactPlan exactFrom peels recordOf least tab firstSetting complete free pick put peel fill fillTo fillCell lack longest most row col cell sum δ ind
+    doubledPlan tightPlan tight doubledBy flat turns held rotate stretch divide unit
+    quickPlan quickFrom slots slot visits seat may lowest
+    wishBits ofBits wishOf finite worth ceil
+small-plans = refl
+
+-- ---- beside the table
 
 -- "P7 meets 2T - 1"
 pub p7-meets : length (quickPlan 64 3 d6) ≡ 2 * longest 3 (cell 3 d6) - 1
@@ -48,3 +63,17 @@ none-left N d (suc n) k = rw (nothing (tight N (rotate N) d 1 k) (tight-most N (
 pub p1-starts : take 68 (bytes 0 2 (exactPlan 64 2 d1)) ≡ 2 ∷ 0 ∷ 2 ∷ 0 ∷ 0 ∷ 1 ∷ replicate 62 255
 unfolding bytes exactPlan exactFrom peels recordOf least tab firstSetting complete free pick put peel fill fillTo fillCell lack longest most row col cell sum δ ind
 p1-starts = refl
+
+-- ---- the lengths of P8: one setting in two records moves the mirrors once
+
+-- "The plan of P8 now has length 9 + d instead of 9 + 2d", by the rule of every rotation
+pub p8-old-length : (d : ℕ) → lengthOf d (doubledPlan 64 1 (5 ∷ [])) ≡ 9 + d
+unfolding lengthOf charge moves sameOutputs total doubledPlan doubledBy flat turns held rotate stretch divide unit
+    exactPlan exactFrom peels recordOf least tab firstSetting complete free pick put peel fill fillTo fillCell lack longest most row col cell sum δ ind
+p8-old-length d = omega arith
+
+-- "by the new one its length is 5 + d"
+pub p8-length : (d : ℕ) → lengthOf d (tightPlan 64 1 (5 ∷ [])) ≡ 5 + d
+unfolding lengthOf charge moves total tightPlan tight doubledBy turns held rotate stretch divide unit
+    exactPlan exactFrom peels recordOf least tab firstSetting complete free pick put peel fill fillTo fillCell lack longest most row col cell sum δ ind
+p8-length d = omega arith
