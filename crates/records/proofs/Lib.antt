@@ -8,3 +8,4 @@ pub mod Write
 pub mod Meaning
 pub mod Sound
 pub mod Written
+pub mod Idle

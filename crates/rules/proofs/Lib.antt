@@ -12,6 +12,7 @@ pub mod ExactFrom
 pub mod Exact
 pub mod Doubled
 pub mod Rotate
+pub mod Every
 pub mod Tight
 pub mod Slot
 pub mod Quick

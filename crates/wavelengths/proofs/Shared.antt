@@ -11,7 +11,7 @@ use lib.Seq.{getD-set-same, getD-set-other, getD-take, length-take-le}
 use borrow.Author.Tests.{lt-ltb, le-ltb}
 use Rattle.counting.specs.Sum.{most}
 use Rattle.counting.specs.Count.{ind, count, δ}
-use Rattle.counting.proofs.Sum.{sum-zero, sum-next, sum-mono, sum-const, sum-none, sum-at}
+use Rattle.counting.proofs.Sum.{sum-zero, sum-next, sum-cong, sum-mono, sum-const, sum-none, sum-at}
 use Rattle.counting.proofs.Most.{most-at, most-le, most-one, most-cong}
 use Rattle.counting.proofs.Count.{ind-le, δ-same, δ-other}
 use Rattle.switch.specs.Plan.{Record, output}
@@ -101,6 +101,19 @@ module _ (N : ℕ) (r : Record) where
       one : output r i < N → 0 < sharing N r (wavelength N i (output r i))
       one o = unfold sharing count in
           omega (arith, sum-at N (λ k. ind (uses N r (wavelength N i (output r i)) k)) i l, joined-uses (wavelength N i (output r i)) i o, δ-same (wavelength N i (output r i)))
+
+-- a rotation uses one wavelength on all its inputs, so its number is N
+pub rotation-shares : (N : ℕ) (r : Record) (k : ℕ) → k < N → ((i : ℕ) → i < N → output r i ≡ (i + k) % N) → mostShared N r ≡ N
+unfolding mostShared sharing count
+rotation-shares N r k lk rotates = omega (arith, most-le N N (sharing N r) (λ w _. share-le N r N w), most-at N (sharing N r) k lk, all)
+  where
+    one : (i : ℕ) → i < N → ind (uses N r k i) ≡ 1
+    one i l =
+        let lj : output r i < N = rw (rotates i l) (mod-lt (i + k) (omega arith)) in
+        joined-uses N r k i lj ∙ ap (λ (w : ℕ). δ w k) (sym (wavelength-only N i (output r i) l lj k lk (sym (rotates i l)))) ∙ δ-same k
+
+    all : sharing N r k ≡ N
+    all = omega (arith, sum-cong N (λ i. ind (uses N r k i)) (λ _. 1) one, sum-const N 1)
 
 -- ---- counting them input by input
 

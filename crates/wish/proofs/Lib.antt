@@ -4,3 +4,4 @@ pub mod Floats
 pub mod Rounding
 pub mod Rows
 pub mod Worth
+pub mod Above
