@@ -18,3 +18,4 @@ pub mod Slot
 pub mod Quick
 pub mod QuickFrom
 pub mod Empty
+pub mod Larger

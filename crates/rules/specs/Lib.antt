@@ -5,3 +5,4 @@ pub mod Peel
 pub mod Exact
 pub mod Doubled
 pub mod Quick
+pub mod Larger
