@@ -17,7 +17,8 @@ idles W h = record { hold = h; outputs = replicate W 255 }
 
 idle-at : (W h i : ℕ) → output (idles W h) i ≡ 255
 unfolding output
-idle-at W h i = dite (decLt i W) (getD-replicate W i 255 255) (λ g. List·getD-eq-default (replicate W 255) 255 (omega (arith, g, length-replicate {A = ℕ} W 255)))
+idle-at W h i = dite (decLt i W) (getD-replicate W i 255 255)
+    (λ g. List·getD-eq-default (replicate W 255) 255 (omega (arith, g, length-replicate {A = ℕ} W 255)))
 
 pub idle-sound : (W N h : ℕ) → N ≤ 255 → 0 < h → Sound W N (idles W h)
 idle-sound W N h small some = record {
