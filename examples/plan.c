@@ -25,7 +25,7 @@ static uint8_t *put_wish(uint8_t *list, uint8_t input, uint8_t output, float wis
     return list + CV_WISH_SIZE;
 }
 
-/* Says a refusal as document 01's lister does. */
+/* Says a refusal as the lister does. */
 static int refused(cv_answer answer)
 {
     const char *side[] = {"", "input ", "output "};

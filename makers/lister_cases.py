@@ -116,7 +116,7 @@ def files():
 
 
 def main():
-    ref.examples()  # the reference gives document 01's own example before it is asked for others
+    ref.examples()  # the reference gives the specification's own example before it is asked for others
     if sys.argv[1:] == ["--check"]:
         wrong = [name for name, data in files().items() if pathlib.Path(name).read_bytes() != data]
         print("differ: " + " ".join(wrong) if wrong else "as made")

@@ -106,7 +106,7 @@ def shapes(n, rng):
     yield "dense", dense(rng, n, top)
 
 
-SMALL = [  # document 01's own demands
+SMALL = [  # the demands of the small plans (§15)
     ("P1", 2, [2, 1, 1, 2]),
     ("P4", 2, [3, 0, 1, 0]),
     ("P6", 3, [1, 0, 1, 0, 1, 1, 1, 1, 0]),

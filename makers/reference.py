@@ -1,5 +1,5 @@
 #!/usr/bin/env python3
-"""The planner of document 01 once more, in another language, to make stored vectors and to compare with.
+"""The planner of docs/SPECIFICATION.md once more, in another language, to make stored vectors and to compare with.
 
 Written from the words of the document, with the plainest method for each sentence and no regard for speed.
 A demand is a list of cells, a plan a list of (hold, outputs), 255 for an idle input, a lent buffer is bytes.
@@ -629,7 +629,7 @@ def brute_first(n, cells):
 
 
 def laws(n, cells):
-    """Document 01's promises for one demand."""
+    """What §6 to §8 promise of one demand."""
     asked, longest = sum(cells), longest_line(n, cells)
     filled = fill(n, cells, longest)
     same("filled lines", set(inputs_lines(n, filled) + outputs_lines(n, filled)), {longest})
@@ -662,7 +662,7 @@ def laws(n, cells):
 
 
 def join_laws(rng, n):
-    """Ask 1's promises for a random plan of few settings."""
+    """What §12 promises of a random plan of few settings."""
     settings = [rng.sample(range(n), n) + [IDLE] * (PORTS - n) for _ in range(3)] + [[IDLE] * PORTS]
     records = [(rng.choice([1, 7, 32_768, 65_535]), rng.choice(settings)) for _ in range(rng.randint(0, 30))]
     joined = join_list(records)
@@ -681,7 +681,7 @@ def join_laws(rng, n):
 
 
 def grating_laws(n, cells):
-    """What Ask 6 promises of one demand."""
+    """What §13 promises of one demand."""
     longest, plan = longest_line(n, cells), grating_list(n, cells)
     same("grating records", len(plan) <= 2 * n, True)
     same("grating total", total_hold(plan) <= max(0, 2 * longest - 1), True)

@@ -13,6 +13,6 @@ import reference as ref
 import tape
 
 if __name__ == "__main__":
-    ref.examples()  # document 01's own plans, and its edges, among them the bytes of P1's first record
+    ref.examples()  # the specification's own plans, and its edges, among them the bytes of P1's first record
     ref.edges()
     tape.main([*record_vectors.cases(), *check_vectors.cases(), *join_vectors.cases(), *plan_vectors.cases(), *grating_vectors.cases()])

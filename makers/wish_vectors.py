@@ -1,7 +1,7 @@
 #!/usr/bin/env python3
 """Makes the vectors of wishes: what the programs wish_vectors and wishes_vectors read, and what they must print.
 
-Written from document 01 alone, with exact fractions; it shares nothing with the proved code. Run it from the repository's root:
+Written from §4 of docs/SPECIFICATION.md alone, with exact fractions; it shares nothing with the proved code. Run it from the repository's root:
     python3 makers/wish_vectors.py            writes stdin and stdout of both programs
     python3 makers/wish_vectors.py --check    says whether they are as they would be written
 """
@@ -105,7 +105,7 @@ def lists():
     good = record(0, 0, 2.0) + record(0, 1, 1.0) + record(1, 0, 0.5) + record(1, 1, 1.5)
     one = record(1, 0, 3.25)
     cases = [
-        # valid: document 01's list, none named, one named, zero and minus zero named, the largest, the smallest
+        # valid: the example of §14.7, none named, one named, zero and minus zero named, the largest, the smallest
         (2, 4, good), (2, 4, b""), (1, 1, b""), (3, 9, record(1, 2, 7.0)), (2, 4, record(0, 0, 0.0) + record(1, 1, bits=0x80000000)),
         (1, 1, record(0, 0, 65535.0)), (1, 1, record(0, 0, bits=1)), (3, 9, record(2, 1, 255.5) + record(1, 2, 256.25) + record(2, 2, 65534.5)),
         # code 1 and code 2, with and without what comes later

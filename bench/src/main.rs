@@ -74,7 +74,7 @@ fn conditions() -> String {
         "Processor: {}. One thread. Demands are seeded, so every run times the same ones: `dense` \
          has every cell at random (T about 40,000), `sparse` about four outputs for each input, `small` \
          cells of 0 to 3. A time is the least of {SAMPLES} samples, proved and unproved taken in turn. \
-         *Rust* is `bindings/rust/reference`: unproved, written from document 01, at -O3 for the same \
+         *Rust* is `bindings/rust/reference`: unproved, written from docs/SPECIFICATION.md, at -O3 for the same \
          plain processor as the archive is.\n",
         processor()
     );

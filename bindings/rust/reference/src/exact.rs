@@ -20,8 +20,8 @@ pub(crate) fn peel(n: usize, cells: &[u32], factor: u32, written: &mut Writer) {
         .each(|hold, outputs| written.push((hold * factor) as u16, n, outputs));
 }
 
-/// Copies a demand and adds to each cell, in order, the smaller of what its row and its column
-/// still lack of T. Answers T, to which every line then sums.
+/// Copies a demand and tops it up: each cell in order grows by as much as both its lines allow.
+/// Answers T, to which every line then sums (§6.2).
 fn fill(n: usize, cells: &[u32], filled: &mut [u32]) -> u32 {
     let mut columns = [0; MOST_PORTS];
     let mut rows = [0; MOST_PORTS];

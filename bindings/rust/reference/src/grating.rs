@@ -1,5 +1,5 @@
-//! The grating fabric, on which input i reaches output j by wavelength (j - i) mod N: the report of
-//! a plan, and the doubled plan with anti-rotations.
+//! The grating fabric (§13), where the pair (i, j) has wavelength (j - i) mod N: the report of a
+//! plan, and the doubled plan with anti-rotations.
 
 use crate::exact::{peel, Writer};
 use crate::plan::{each_record, opened};
@@ -31,8 +31,8 @@ fn most_shared(n: usize, outputs: &[u8; MOST_PORTS]) -> u8 {
     shared.into_iter().max().unwrap_or(0)
 }
 
-/// The doubled plan whose second part joins input i to output (k - i) mod N; each such setting is
-/// held for the largest remainder among its pairs and left out where that is 0.
+/// The doubled plan with anti-rotations for its second part: setting k sends input i to output
+/// (k - i) mod N, for as long as its largest remainder says (§13.5).
 pub fn grating_doubled(n: u64, cells: &[u32], plan: &mut [u8]) -> Outcome {
     let (n, longest) = demand(n, cells)?;
     let mut written = Writer::default();

@@ -4,8 +4,8 @@ use crate::plan::{bytes, each_record, opened};
 use crate::{Counts, Outcome, Refusal, MOST_LINE, MOST_PORTS, RECORD_SIZE};
 use std::collections::HashMap;
 
-/// Writes a plan anew into a second buffer: settings in order of first appearance, holds summed, a
-/// sum above 65,535 as records of 65,535 followed by what is left.
+/// Writes a plan anew into a second buffer: settings in order of first appearance, holds summed, in
+/// records of at most 65,535, of which only the last is shorter (§12.2).
 pub fn join(n: u64, plan: &[u8], joined: &mut [u8]) -> Outcome {
     let n = opened(n, plan)?;
     let mut places: HashMap<&[u8; MOST_PORTS], usize> = HashMap::new();

@@ -1,6 +1,6 @@
-//! The switch planner of documents 01 and 02 in plain, unproved Rust.
+//! The switch planner of docs/SPECIFICATION.md in plain, unproved Rust.
 //!
-//! It is written from the papers and from nothing else, so that the proved library can be held to
+//! It is written from what is asked and from nothing else, so that the proved library can be held to
 //! it: the same inputs must give the same codes, places, counts and bytes. It is also the peer that
 //! the proved library's speed is measured against, so it is written to be fast. [`slow`] says the
 //! same plans once more in the plainest words, to test the fast ones.
@@ -73,7 +73,7 @@ pub struct Counts {
 
 pub type Outcome = Result<Counts, Refusal>;
 
-/// The numbers of document 01's table for an outcome, and the side of code 3: 1 input, 2 output.
+/// The numbers of §9.7's table for an outcome, and the side of code 3: 1 input, 2 output.
 #[derive(Clone, Copy, Debug, Default, PartialEq, Eq)]
 pub struct Numbers {
     pub code: u64,

@@ -176,7 +176,7 @@ fn well_formed(n: usize, record: &[u8; RECORD_SIZE]) -> bool {
     hold(record) >= 1 && usize::from(record[2]) == n && record[3] == 0 && is_setting(n, outputs(record))
 }
 
-/// Each of the first N outputs below N or idle, none below N twice, all later outputs idle.
+/// The outputs of a well-formed record (§5.2): up to N below N or idle and no port twice, then idle.
 fn is_setting(n: usize, outputs: &[u8; MOST_PORTS]) -> bool {
     let (first, later) = outputs.split_at(n);
     let mut used = 0u64;

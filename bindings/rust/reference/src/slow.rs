@@ -1,5 +1,5 @@
 //! The same plans in the plainest words: no labels, no kept matching, nothing but the sentences of
-//! document 01. Slow, and meant to be seen to be right.
+//! docs/SPECIFICATION.md. Slow, and meant to be seen to be right.
 
 use crate::{Record, IDLE, MOST_PORTS};
 
@@ -20,7 +20,7 @@ pub fn longest(demand: &Demand) -> u64 {
     inputs.chain(outputs).max().unwrap_or(0)
 }
 
-/// Over cells in order, add to each cell the smaller of what its row and its column still lack of T.
+/// Tops up each cell in order by as much as its row and its column both allow (§6.2).
 pub fn filled(demand: &Demand) -> Demand {
     let (n, longest) = (demand.len(), longest(demand));
     let mut filled = demand.clone();
@@ -49,8 +49,8 @@ pub fn exact(demand: &Demand, first: First) -> Vec<Record> {
     plan
 }
 
-/// The doubled plan, over the exact plan with the first setting found as `first` does: each rotation
-/// is held for the largest remainder among its pairs, and left out when that is 0.
+/// The doubled plan, over the exact plan with the first setting found as `first` does: a rotation's
+/// hold is its largest remainder, and one without a remainder is not there (§7.4).
 pub fn doubled(demand: &Demand, first: First) -> Vec<Record> {
     let unit = unit(demand);
     let mut plan = quotients_plan(demand, unit, first);
@@ -79,7 +79,7 @@ fn unit(demand: &Demand) -> u64 {
     longest(demand).div_ceil(demand.len() as u64)
 }
 
-/// The exact plan of the cells divided by u, rounded down, each hold multiplied by u; empty if T is 0.
+/// The exact plan of the quotients, its holds times u (§7.2); empty if T is 0.
 fn quotients_plan(demand: &Demand, unit: u64, first: First) -> Vec<Record> {
     if unit == 0 {
         return Vec::new();
@@ -92,7 +92,7 @@ fn quotients_plan(demand: &Demand, unit: u64, first: First) -> Vec<Record> {
     plan
 }
 
-/// k from 0 to N - 1: input i to output (i + k) mod N.
+/// Rotation k: input i to output (i + k) mod N (§7.3).
 fn all_rotations(n: usize) -> impl Iterator<Item = Vec<usize>> {
     (0..n).map(move |k| (0..n).map(|i| (i + k) % n).collect())
 }
@@ -116,8 +116,8 @@ pub fn quick(demand: &Demand) -> Vec<Record> {
     plan
 }
 
-/// A plan with its equal settings joined: in order of first appearance, holds summed, a sum above
-/// 65,535 as records of 65,535 followed by what is left, if any.
+/// A plan with its equal settings joined (§12.2): in order of first appearance, holds summed, in
+/// records of 65,535 and one for the remainder where there is one.
 pub fn join(plan: &[Record]) -> Vec<Record> {
     let mut sums: Vec<(u64, [u8; MOST_PORTS])> = Vec::new();
     for record in plan {

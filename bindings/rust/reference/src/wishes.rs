@@ -2,8 +2,7 @@
 
 use crate::{square, Counts, Outcome, Refusal, MOST_LINE, MOST_PORTS, WISH_SIZE};
 
-/// One wish to slots: above zero the larger of 2 and the least whole number not below it. Its
-/// refusals are those of record 0.
+/// One wish to slots: rounded up, and 2 in the place of 1 (§4.3). Its refusals are those of record 0.
 #[inline(never)] // timed as a call of a library
 pub fn wish(bits: u32) -> Outcome {
     slots(bits, 0).map(|slots| Counts { total: u64::from(slots), ..Counts::default() })

@@ -1,4 +1,4 @@
-//! The grating calls against the words of Ask 6, said once more in the plainest way.
+//! The grating calls against the words of §13, said once more in the plainest way.
 
 use cases::Rng;
 use reference::*;

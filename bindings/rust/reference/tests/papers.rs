@@ -1,4 +1,4 @@
-//! The documents' own figures: the small plans P1 to P12, the bit table, the edges.
+//! The specification's own figures: the small plans P1 to P12 (§15), the bit table (§4.4), the edges.
 
 use reference::*;
 
@@ -100,7 +100,7 @@ fn unit_of_the_doubled_plan() {
         let counts = planner(4, &cells, &mut lent).unwrap();
         read(4, &lent[..counts.records as usize * RECORD_SIZE])
     };
-    // T = 4 with N = 4 gives u = 1 and no rotations, T = 5 gives u = 2.
+    // For N = 4: u is 1 at T = 4, where there is no rotation, and 2 at T = 5.
     assert_eq!(plan_of(doubled, 4), records("4:0 1 2 3"));
     assert_eq!(plan_of(doubled, 5), records("4:0 1 2 3; 1:0 1 2 3"));
     let every = doubled_every_rotation;

@@ -1,4 +1,4 @@
-//! The fast planners against the slow ones, and both against what document 01 promises of them.
+//! The fast planners against the slow ones, and both against what §6 to §8 promise of them.
 
 use cases::Rng;
 use reference::slow::{self, Demand, First};
