@@ -16,7 +16,7 @@ from scipy.sparse.csgraph import maximum_bipartite_matching
 
 
 def filled(cells):
-    """Adds to each cell, in order, the smaller of what its row and its column still lack of T."""
+    """Tops up each cell, in order, by as much as its row and its column both allow (§6.2)."""
     cells = cells.copy()
     rows, columns = cells.sum(axis=1), cells.sum(axis=0)
     longest = max(rows.max(), columns.max())
