@@ -2,8 +2,11 @@
 //!
 //! Each function is one call of include/chordvenus.h, with slices in the place of pointers and
 //! lengths; what it does, its codes and what it writes are said there. An [`Answer`] has the
-//! numbers as they are; [`Answer::done`] makes a `Result` of it. [`Plan`] reads a plan record by
-//! record.
+//! numbers as they are; [`Answer::done`] makes a `Result` of it. A plan is read record by record
+//! through [`Plan`], an iterator, or through [`Reader`], which steps as the proved reader does.
+//!
+//! The stack is the one thing that a caller still owes: the header says how many bytes each call
+//! may use. A thread of Rust's has far more, unless it is given less.
 //!
 //! ```
 //! let cells = [2, 1, 1, 2];
@@ -18,6 +21,7 @@
 //! ```
 
 use std::fmt;
+use std::iter::FusedIterator;
 
 pub mod sys;
 
@@ -124,39 +128,64 @@ pub enum Step {
     Malformed(u64),
 }
 
-/// A plan that was opened, and the place reached.
-pub struct Plan<'a> {
+/// A plan's bytes and the place reached. A step gives what the proved reader's step gives: after the
+/// end every further step is the end, and after code 11 every further step is code 11 again.
+#[derive(Clone, Debug)]
+pub struct Reader<'a> {
     n: u64,
     plan: &'a [u8],
     at: u64,
 }
 
-impl<'a> Plan<'a> {
-    /// Opens a plan for N.
-    pub fn open(n: u64, plan: &'a [u8]) -> Result<Plan<'a>, Refused> {
-        open(n, plan).done()?;
-        Ok(Plan { n, plan, at: 0 })
+impl<'a> Reader<'a> {
+    /// Opens a plan for N: what [`open`] answers, and a reader at the first record. Where opening is
+    /// refused there is a reader all the same, and its every step is the end.
+    pub fn open(n: u64, plan: &'a [u8]) -> (Answer, Reader<'a>) {
+        (open(n, plan), Reader { n, plan, at: 0 })
+    }
+
+    /// The next record, or the end, or code 11; the last two leave the reader where it is.
+    pub fn step(&mut self) -> Step {
+        let step = step_at(self.n, self.plan, self.at);
+        if let Step::Record(_) = step {
+            self.at += 1;
+        }
+        step
     }
 }
 
-/// Gives record after record; where one is not well formed, its refusal once, and then no more.
+/// The records of a plan that was opened, for a `for` loop. Where one is not well formed its refusal
+/// is given once, and then no more: this is where it parts from [`Reader`], which stays there.
+#[derive(Clone, Debug)]
+pub struct Plan<'a> {
+    reader: Option<Reader<'a>>,
+}
+
+impl<'a> Plan<'a> {
+    /// Opens a plan for N.
+    pub fn open(n: u64, plan: &'a [u8]) -> Result<Plan<'a>, Refused> {
+        let (answer, reader) = Reader::open(n, plan);
+        answer.done()?;
+        Ok(Plan { reader: Some(reader) })
+    }
+}
+
 impl Iterator for Plan<'_> {
     type Item = Result<Record, Refused>;
 
     fn next(&mut self) -> Option<Result<Record, Refused>> {
-        match step_at(self.n, self.plan, self.at) {
+        match self.reader.as_mut()?.step() {
             Step::End => None,
-            Step::Record(record) => {
-                self.at += 1;
-                Some(Ok(record))
-            }
+            Step::Record(record) => Some(Ok(record)),
             Step::Malformed(place) => {
-                self.at = u64::MAX;
+                self.reader = None;
                 Some(Err(Refused(Answer { code: 11, place, ..Answer::default() })))
             }
         }
     }
 }
+
+impl FusedIterator for Plan<'_> {}
 
 impl Answer {
     /// The answer if nothing was refused, or else the refusal.
@@ -175,14 +204,18 @@ pub struct Refused(pub Answer);
 impl fmt::Display for Refused {
     fn fmt(&self, f: &mut fmt::Formatter<'_>) -> fmt::Result {
         let Answer { code, place, side, .. } = self.0;
-        let line = if side == 1 { "input" } else { "output" };
+        let line = match side {
+            1 => format!("the line of input {place}"),
+            2 => format!("the line of output {place}"),
+            _ => "a line".to_string(),
+        };
         write!(f, "refused, code {code}: ")?;
         match code {
             1 => write!(f, "the number of ports is 0 or over 64"),
             2 => write!(f, "the cells lent are not {place}"),
-            3 => write!(f, "the line of {line} {place} sums over 65,535"),
+            3 => write!(f, "{line} sums over 65,535"),
             4 => write!(f, "a line sums over 1,024"),
-            5 => write!(f, "the plan has {place} records, and the buffer has room for fewer"),
+            5 => write!(f, "the result takes {place} records, and the buffer has room for fewer"),
             6 => write!(f, "wish {place} is not a finite number"),
             7 => write!(f, "wish {place} is below zero"),
             8 => write!(f, "wish {place} is above 65,535"),

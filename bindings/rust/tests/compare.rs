@@ -5,7 +5,7 @@
 //! untried.
 
 use cases::Rng;
-use chordvenus::{sys, Answer, Plan};
+use chordvenus::{sys, Answer, Plan, Reader};
 use reference::{
     slow, Numbers, Outcome, MOST_LINE, MOST_PORTS, MOST_QUICK, MOST_RECORDS, RECORD_SIZE, WISH_SIZE,
 };
@@ -392,30 +392,82 @@ fn step_at() {
     assert!(met.iter().all(|&times| times >= CASES / 10), "kinds met: {met:?}");
 }
 
+/// A step of the crate in the reference's words.
+fn step_of(step: chordvenus::Step) -> reference::Step {
+    match step {
+        chordvenus::Step::End => reference::Step::End,
+        chordvenus::Step::Malformed(place) => reference::Step::Malformed(place),
+        chordvenus::Step::Record(chordvenus::Record { hold, outputs }) => {
+            reference::Step::Record(reference::Record { hold, outputs })
+        }
+    }
+}
+
+/// Both readers over the same plan, some steps past where they stop.
 #[test]
-fn reading_a_plan_through() {
+fn reader() {
     let mut rng = Rng::new(9);
+    let mut met = Met::default();
+    let mut stuck = 0;
+    for case in 0..CASES {
+        let ports = cases::ports(&mut rng);
+        let (plan, n) = (plan(&mut rng, ports), maybe_wild(&mut rng, ports));
+        let (answer, mut reader) = Reader::open(n, &plan);
+        let (opened, mut wanted) = reference::Reader::open(n, &plan);
+        assert_eq!(answer, expected(opened), "case {case}: N = {n}, {} bytes", plan.len());
+        met.note(answer);
+        for step in 0..plan.len() / RECORD_SIZE + 3 {
+            let given = step_of(reader.step());
+            assert_eq!(given, wanted.step(), "case {case}: N = {n}, step {step}, {plan:?}");
+            stuck += usize::from(matches!(given, reference::Step::Malformed(_)));
+        }
+    }
+    met.are(&[0, 1, 9, 10]);
+    assert!(stuck >= CASES / 4, "code 11 was given {stuck} times");
+}
+
+/// The iterator gives the reader's steps up to where it stops, and what stopped it once.
+#[test]
+fn plan_of_records() {
+    let mut rng = Rng::new(16);
     for case in 0..CASES / 4 {
         let ports = cases::ports(&mut rng);
         let (plan, n) = (plan(&mut rng, ports), maybe_wild(&mut rng, ports));
         let (opened, mut reader) = reference::Reader::open(n, &plan);
-        let Ok(records) = Plan::open(n, &plan) else {
+        let Ok(mut records) = Plan::open(n, &plan) else {
             assert!(opened.is_err(), "case {case}");
             continue;
         };
-        for record in records {
-            match (record, reader.step()) {
-                (Ok(record), reference::Step::Record(wanted)) => {
+        let stopped = loop {
+            match reader.step() {
+                reference::Step::Record(wanted) => {
+                    let record = records.next().expect("one more").expect("well formed");
                     assert_eq!((record.hold, record.outputs), (wanted.hold, wanted.outputs), "case {case}");
                 }
-                (Err(refused), reference::Step::Malformed(place)) => {
-                    assert_eq!((refused.0.code, refused.0.place), (11, place), "case {case}");
-                }
-                (record, wanted) => panic!("case {case}: {record:?} in the place of {wanted:?}"),
+                stopped => break stopped,
             }
+        };
+        if let reference::Step::Malformed(place) = stopped {
+            let refused = records.next().expect("the refusal").expect_err("not well formed");
+            assert_eq!((refused.0.code, refused.0.place), (11, place), "case {case}");
         }
-        assert!(!matches!(reader.step(), reference::Step::Record(_)), "case {case} ended early");
+        assert_eq!((records.next(), records.next()), (None, None), "case {case} goes on");
     }
+}
+
+#[test]
+fn refusals_in_words() {
+    let said = |code, place, side| {
+        chordvenus::Refused(Answer { code, place, side, ..Answer::default() }).to_string()
+    };
+    assert_eq!(said(3, 5, 1), "refused, code 3: the line of input 5 sums over 65,535");
+    assert_eq!(said(3, 63, 2), "refused, code 3: the line of output 63 sums over 65,535");
+    assert_eq!(said(3, 0, 0), "refused, code 3: a line sums over 65,535");
+    assert_eq!(
+        said(5, 9, 0),
+        "refused, code 5: the result takes 9 records, and the buffer has room for fewer"
+    );
+    assert_eq!(said(99, 7, 0), "refused, code 99: place 7");
 }
 
 #[test]
