@@ -1,8 +1,4 @@
-#!/usr/bin/env python3
-"""The stored vectors of the checker and of the length: every code in its place, several faults at once, and the largest numbers.
-
-python3 makers/check_vectors.py stdin|stdout
-"""
+"""The stored vectors of the checker and of the length: every code in its place, several faults at once, and the largest numbers."""
 import random
 
 import plan_vectors as plans
@@ -123,7 +119,3 @@ def lengths():
 
 def cases():
     return [*passing(), *uncovered(), *refused(), *lengths()]
-
-
-if __name__ == "__main__":
-    tape.main(cases())

@@ -1,8 +1,4 @@
-#!/usr/bin/env python3
-"""The stored vectors of the grating calls: demands and plans of every shape, N odd and even, the edges, and every refusal.
-
-python3 makers/grating_vectors.py stdin|stdout
-"""
+"""The stored vectors of the grating calls: demands and plans of every shape, N odd and even, the edges, and every refusal."""
 import random
 
 import plan_vectors as plans
@@ -135,7 +131,3 @@ def refused_plans():
     yield "room for all", 4, plans.diagonal(4, 5), 5
     yield "no room is needed", 4, [0] * 16, 0
     yield "no room is needed, some is lent", 4, [0] * 16, 1, 9
-
-
-if __name__ == "__main__":
-    tape.main(cases())

@@ -1,8 +1,4 @@
-#!/usr/bin/env python3
-"""The stored vectors of joining: settings that repeat in a row and across gaps, sums at and over 65,535, and every code in its place.
-
-python3 makers/join_vectors.py stdin|stdout
-"""
+"""The stored vectors of joining: settings that repeat in a row and across gaps, sums at and over 65,535, and every code in its place."""
 import random
 
 import reference as ref
@@ -102,7 +98,3 @@ def refused():
 
 def cases():
     return [*joins(), *sums(), *random_plans(), *rooms(), *refused()]
-
-
-if __name__ == "__main__":
-    tape.main(cases())

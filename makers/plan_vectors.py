@@ -1,8 +1,4 @@
-#!/usr/bin/env python3
-"""The stored vectors of the planners: demands of every shape, edges, and every refusal.
-
-python3 makers/plan_vectors.py stdin|stdout
-"""
+"""The stored vectors of the planners: demands of every shape, edges, and every refusal."""
 import random
 
 import reference as ref
@@ -281,7 +277,3 @@ def cases():
             made.append(fitting(letter, name, n, cells, spare=k % 2, more=k % 3 * 34))
         made += refusals(letter)
     return made
-
-
-if __name__ == "__main__":
-    tape.main(cases())

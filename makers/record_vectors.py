@@ -1,8 +1,4 @@
-#!/usr/bin/env python3
-"""The stored vectors of plan records: plans sound and damaged in each way, opened and read step by step, and records written.
-
-python3 makers/record_vectors.py stdin|stdout
-"""
+"""The stored vectors of plan records: plans sound and damaged in each way, opened and read step by step, and records written."""
 import reference as ref
 import tape
 
@@ -125,7 +121,3 @@ def writes():
 
 def cases():
     return [*reads(), *writes()]
-
-
-if __name__ == "__main__":
-    tape.main(cases())

@@ -95,16 +95,23 @@ def counted(n, cells, plan):
 # ---- Wishes
 
 
-def wish_slots(bits):
-    """One binary32 by its bits: (code, slots). Above zero the slots are the larger of 2 and the least whole number not below the wish."""
+def value(bits):
+    """The exact value of a binary32 pattern, or None for a NaN or an infinity (IEEE 754, 3.4)."""
     sign, exponent, fraction = bits >> 31, bits >> 23 & 255, bits & 0x7F_FFFF
     if exponent == 255:
-        return 6, 0
+        return None
     if exponent == 0:
         size = Fraction(fraction) * Fraction(2) ** -149
     else:
         size = Fraction(fraction + 2**23) * Fraction(2) ** (exponent - 150)
-    wish = -size if sign else size
+    return -size if sign else size
+
+
+def wish_slots(bits):
+    """One binary32 by its bits: (code, slots). Above zero the slots are the larger of 2 and the least whole number not below the wish."""
+    wish = value(bits)
+    if wish is None:
+        return 6, 0
     if wish < 0:
         return 7, 0
     if wish > LINE:

@@ -11,18 +11,17 @@ laid. Tapes may be put one after the other, and so may the lines that they give.
 | k | check | N | cells, of those laid the first | 0 | cells, then the plan |
 | l | length | N | d | 0 | the plan |
 | j | join | N | whole records of room | bytes of room more | the plan |
-| r | open, and every step | N | 0 | 0 | the plan |
+| r | open, and steps | N | how many steps | 0 | the plan |
 | w | write one record | N | hold | bytes of room | 64 outputs |
 | f | report the wavelengths | N | bytes of room | 0 | the plan |
+| b | one wish each | 0 | 0 | 0 | words of 32 bits |
+| s | a wish list | N | cells lent, each holding 7 before | 0 | the list |
 | t | the lister's text | 0 | 0 | 0 | standard input |
 
 A case's line is its name and what the call answered; planners, joining and the writer add a checksum of the lent buffer, which is filled
-with the byte 170 before the call. A plan that g wrote is reported in the lines after it.
+with the byte 170 before the call. A plan that g wrote is reported in the lines after it. b gives a line for each word, s a second line
+with the lent cells.
 """
-import sys
-
-import reference as ref
-
 BLANK = 170
 
 
@@ -80,13 +79,3 @@ def answer_text(answer):
         f" code {answer.code} place {answer.place} side {side} records {answer.records}"
         f" longest {answer.longest} total {answer.total} length {answer.length} empty {answer.empty}"
     )
-
-
-def main(cases):
-    """`stdin` writes the tape and `stdout` the lines of cases, a list of (tape, text), to standard output."""
-    part = {"stdin": 0, "stdout": 1}.get(sys.argv[-1])
-    if part is None:
-        raise SystemExit(f"usage: {sys.argv[0]} stdin|stdout")
-    for case in cases:
-        data = case[part]
-        sys.stdout.buffer.write(data.encode() if part else data)

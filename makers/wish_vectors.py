@@ -1,53 +1,21 @@
-#!/usr/bin/env python3
-"""Makes the vectors of wishes: what the programs wish_vectors and wishes_vectors read, and what they must print.
-
-Written from §4 of docs/SPECIFICATION.md alone, with exact fractions; it shares nothing with the proved code. Run it from the repository's root:
-    python3 makers/wish_vectors.py            writes stdin and stdout of both programs
-    python3 makers/wish_vectors.py --check    says whether they are as they would be written
-"""
-import math
-import pathlib
+"""The stored vectors of wishes: patterns of 32 bits, and wish lists sound and faulty in each way."""
 import random
 import struct
-import sys
 from fractions import Fraction
 
-MOST_SLOTS = 65535
-MOST_PORTS = 64
-RECORD = 8
+import reference as ref
+import tape
+
+BEFORE = 7  # what a lent cell holds before the call
 
 
 # ---- one wish
-
-def value(bits):
-    """The exact value of a binary32 pattern, or None for a NaN or an infinity (IEEE 754, 3.4)."""
-    sign, exponent, fraction = bits >> 31, bits >> 23 & 0xFF, bits & 0x7FFFFF
-    if exponent == 0xFF:
-        return None
-    if exponent == 0:
-        size = Fraction(fraction, 2 ** 149)
-    else:
-        size = Fraction(2 ** 23 + fraction) * Fraction(2) ** (exponent - 150)
-    return -size if sign else size
-
-
-def wish(bits):
-    """Code and slots of one wish."""
-    asked = value(bits)
-    if asked is None:
-        return 6, 0
-    assert asked == Fraction(struct.unpack("<f", struct.pack("<I", bits))[0])
-    if asked < 0:
-        return 7, 0
-    if asked > MOST_SLOTS:
-        return 8, 0
-    return 0, max(2, math.ceil(asked)) if asked else 0
 
 
 def bits_of(number):
     """The pattern of a number that a binary32 holds exactly."""
     bits = struct.unpack("<I", struct.pack("<f", number))[0]
-    assert value(bits) == Fraction(number)
+    assert ref.value(bits) == Fraction(number)
     return bits
 
 
@@ -72,27 +40,6 @@ def patterns():
 
 
 # ---- a list of wishes
-
-def wishes(n, data, cells):
-    """The answer (code, place, records) and the cells afterwards."""
-    whole = len(data) // RECORD
-    if not 1 <= n <= MOST_PORTS:
-        return (1, 0, 0), cells
-    if len(cells) != n * n:
-        return (2, n * n, 0), cells
-    if len(data) % RECORD != 0:
-        return (9, whole, 0), cells
-    asked = {}
-    for k in range(whole):
-        i, j, spare, spare_too, bits = struct.unpack_from("<BBBBI", data, RECORD * k)
-        if i >= n or j >= n or spare != 0 or spare_too != 0:
-            return (11, k, 0), cells
-        if (i, j) in asked:
-            return (12, k, 0), cells
-        code, asked[i, j] = wish(bits)
-        if code != 0:
-            return (code, k, 0), cells
-    return (0, 0, whole), [asked.get((p // n, p % n), 0) for p in range(n * n)]
 
 
 def record(i, j, number=None, bits=None, spare=0, spare_too=0):
@@ -129,32 +76,30 @@ def lists():
     for n in (3, 5, 64):
         pairs = [(i, j) for i in range(n) for j in range(n)]
         some.shuffle(pairs)
-        cases.append((n, n * n, b"".join(record(i, j, some.randrange(0, 4 * MOST_SLOTS) / 4) for i, j in pairs[:n * n])))
+        cases.append((n, n * n, b"".join(record(i, j, some.randrange(0, 4 * ref.LINE) / 4) for i, j in pairs[:n * n])))
     return cases
 
 
 # ---- what is stored
 
-def files():
+
+def pattern_case():
+    """All patterns in one call, a line each; a finite one has the value that Python's own floats give it."""
     marks = patterns()
     assert len(marks) >= 200
-    word_in = b"".join(struct.pack("<I", b) for b in marks)
-    word_out = "".join("%08x %d %d\n" % (b, *wish(b)) for b in marks)
-    list_in, list_out = b"", ""
-    for n, lent, data in lists():
-        list_in += struct.pack("<HHH", n, lent, len(data)) + data
-        answer, cells = wishes(n, data, [7] * lent)
-        list_out += " code %d place %d side - records %d longest 0 total 0 length 0 empty 0\n" % answer + "".join(" %d" % c for c in cells) + "\n"
-    return {
-        "crates/wish_vectors/stdin": word_in, "crates/wish_vectors/stdout": word_out.encode(),
-        "crates/wishes_vectors/stdin": list_in, "crates/wishes_vectors/stdout": list_out.encode(),
-    }
+    for bits in marks:
+        wish = ref.value(bits)
+        assert wish is None or wish == Fraction(struct.unpack("<f", struct.pack("<I", bits))[0])
+    words = b"".join(struct.pack("<I", bits) for bits in marks)
+    return tape.lay((words, 1)) + tape.step("b"), "".join("%08x %d %d\n" % (bits, *ref.wish_slots(bits)) for bits in marks)
 
 
-if sys.argv[1:] == ["--check"]:
-    wrong = [name for name, data in files().items() if pathlib.Path(name).read_bytes() != data]
-    print("differ: " + " ".join(wrong) if wrong else "as made")
-    sys.exit(1 if wrong else 0)
-for name, data in files().items():
-    pathlib.Path(name).write_bytes(data)
-    print(name, len(data), "bytes")
+def list_case(n, lent, data):
+    """One list, and every lent cell after it."""
+    answer, cells = ref.read_wishes(n, data, [BEFORE] * lent)
+    text = f"{tape.answer_text(answer)}\n" + "".join(f" {cell}" for cell in cells) + "\n"
+    return tape.lay((data, 1)) + tape.step("s", 0, n, lent), text
+
+
+def cases():
+    return [pattern_case(), *[list_case(*given) for given in lists()]]

@@ -1,4 +1,6 @@
 // A plan from anywhere: the checker and the length.
+use crate::show;
+use crate::tape;
 ghost use Prim.Native.Nat.{_≤_};
 
 // The most cells that are lent.

@@ -1,4 +1,6 @@
 // The grating fabric: what a plan does to the wavelengths.
+use crate::show;
+use crate::tape;
 use records::RECORD;
 use switch::Outcome;
 ghost use Prim.Native.Nat.{_≤_};

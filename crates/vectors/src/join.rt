@@ -1,5 +1,7 @@
 // Joining: a plan into a second buffer.
-use tape::Step;
+use crate::show;
+use crate::tape;
+use crate::tape::Step;
 ghost use Prim.Native.Nat.{_≤_};
 
 // The most bytes that are lent for a joined plan: 4,096 records, and 255 bytes.

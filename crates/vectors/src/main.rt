@@ -5,8 +5,12 @@
 mod check;
 mod fabric;
 mod join;
+mod list;
 mod plan;
 mod record;
+mod show;
+mod tape;
+mod wished;
 
 use libc::STDIN_FILENO;
 use tape::Step;
@@ -61,6 +65,9 @@ fn run(step: Step, laid: &[u8])
         b'f' => fabric::report(step.first, laid, step.second),
         b'r' => record::read(step.first, laid, step.second),
         b'w' => record::write(step, laid),
+        b'b' => wished::patterns(laid),
+        b's' => wished::read(step.first, laid, step.second),
+        b't' => list::list(laid),
         _ => show::text(b" no such call\n"),
     }
 }

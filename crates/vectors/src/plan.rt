@@ -1,6 +1,8 @@
 // The planners: a demand into lent bytes. A plan for the grating fabric is reported too.
+use crate::show;
+use crate::tape;
+use crate::tape::Step;
 use switch::Outcome;
-use tape::Step;
 ghost use Prim.Native.Nat.{_≤_};
 ghost use lib.ListN.{length};
 

@@ -1,6 +1,8 @@
 // Plan records: a plan read step by step, and one record written.
+use crate::show;
+use crate::tape;
+use crate::tape::Step;
 use plans::Stepped;
-use tape::Step;
 ghost use Prim.Native.Nat.{_≤_};
 
 // The most bytes lent for one record.

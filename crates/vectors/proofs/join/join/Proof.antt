@@ -1,0 +1,18 @@
+use borrow.Author.Needs.{needs}
+use Rattle.vectors.proofs.join.join.Statement.{statement}
+use Rattle.vectors.proofs.join.join.Tie as tie
+
+mul-join-within : tie.Need-mul-join-within
+mul-join-within c = search needs
+
+add-join-within : tie.Need-add-join-within
+add-join-within c = search needs
+
+join-within-requires : tie.Need-join-within-requires
+join-within-requires c κs = search needs
+
+returns : tie.Need-returns
+returns c = search needs
+
+pub join-spec : {M : Type 1} → statement M
+join-spec = tie.close (tie.spec mul-join-within add-join-within join-within-requires returns)

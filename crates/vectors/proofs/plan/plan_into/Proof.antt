@@ -1,0 +1,56 @@
+use borrow.Author.Needs.{needs}
+use Rattle.vectors.proofs.plan.plan_into.Statement.{statement}
+use Rattle.vectors.proofs.plan.plan_into.Tie as tie
+
+blank-requires : tie.Need-blank-requires
+blank-requires c κs = search needs
+
+planned-requires : tie.Need-planned-requires
+planned-requires c κs = search needs
+
+answer-requires : tie.Need-answer-requires
+answer-requires c κs = search needs
+
+sum-requires : tie.Need-sum-requires
+sum-requires c κs = search needs
+
+slice-aggregate-text : tie.Need-slice-aggregate-text
+slice-aggregate-text c = search needs
+
+text-requires : tie.Need-text-requires
+text-requires c κs = search needs
+
+plan-requires : tie.Need-plan-requires
+plan-requires c κs = search needs
+
+report-written-requires : tie.Need-report-written-requires
+report-written-requires c κs = search needs
+
+same-length : tie.Need-same-length
+same-length c = search needs
+
+returns : tie.Need-returns
+returns c = search needs
+
+same-length-2 : tie.Need-same-length-2
+same-length-2 c = search needs
+
+returns-2 : tie.Need-returns-2
+returns-2 c = search needs
+
+pub plan-into-spec : {M : Type 1} → statement M
+plan-into-spec =
+    tie.close
+    (tie.spec
+    blank-requires
+    planned-requires
+    answer-requires
+    sum-requires
+    slice-aggregate-text
+    text-requires
+    plan-requires
+    report-written-requires
+    same-length
+    returns
+    same-length-2
+    returns-2)

@@ -1,0 +1,76 @@
+use borrow.Author.Needs.{needs}
+use Rattle.vectors.proofs.record.show_step.Statement.{statement}
+use Rattle.vectors.proofs.record.show_step.Tie as tie
+
+enum-told : tie.Need-enum-told
+enum-told c = search needs
+
+slice-aggregate-text : tie.Need-slice-aggregate-text
+slice-aggregate-text c = search needs
+
+text-requires : tie.Need-text-requires
+text-requires c κs = search needs
+
+enum-told-2 : tie.Need-enum-told-2
+enum-told-2 c = search needs
+
+slice-aggregate-text-2 : tie.Need-slice-aggregate-text-2
+slice-aggregate-text-2 c = search needs
+
+text-requires-2 : tie.Need-text-requires-2
+text-requires-2 c κs = search needs
+
+enum-known-step : tie.Need-enum-known-step
+enum-known-step c = search needs
+
+slice-aggregate-field : tie.Need-slice-aggregate-field
+slice-aggregate-field c = search needs
+
+field-requires : tie.Need-field-requires
+field-requires c κs = search needs
+
+slice-aggregate-field-2 : tie.Need-slice-aggregate-field-2
+slice-aggregate-field-2 c = search needs
+
+cast-field : tie.Need-cast-field
+cast-field c = search needs
+
+field-requires-2 : tie.Need-field-requires-2
+field-requires-2 c κs = search needs
+
+slice-aggregate-sum : tie.Need-slice-aggregate-sum
+slice-aggregate-sum c = search needs
+
+sum-requires : tie.Need-sum-requires
+sum-requires c κs = search needs
+
+slice-aggregate-text-3 : tie.Need-slice-aggregate-text-3
+slice-aggregate-text-3 c = search needs
+
+text-requires-3 : tie.Need-text-requires-3
+text-requires-3 c κs = search needs
+
+returns : tie.Need-returns
+returns c = search needs
+
+pub show-step-spec : {M : Type 1} → statement M
+show-step-spec =
+    tie.close
+    (tie.spec
+    enum-told
+    slice-aggregate-text
+    text-requires
+    enum-told-2
+    slice-aggregate-text-2
+    text-requires-2
+    enum-known-step
+    slice-aggregate-field
+    field-requires
+    slice-aggregate-field-2
+    cast-field
+    field-requires-2
+    slice-aggregate-sum
+    sum-requires
+    slice-aggregate-text-3
+    text-requires-3
+    returns)

@@ -1,0 +1,121 @@
+// What is printed: the answer of a call as words and numbers, a checksum of bytes, and a short plan record by record.
+// How numbers become digits is left to `io`.
+use switch::Outcome;
+ghost use Prim.Native.Nat.{_+_, _≤_};
+ghost use lib.ListN.{length};
+
+// The most records of a plan that are printed; of a longer one the checksum tells enough.
+const SHORT: usize = 6;
+
+// The bytes of a record, and those before its outputs.
+const RECORD: usize = 68;
+
+const HEAD: usize = 4;
+
+// The byte of an idle input.
+const IDLE: u8 = 255;
+
+// The largest prime below 2^32.
+const PRIME: u64 = 4294967291;
+
+// What a call answered: code, place, side, and its counts.
+pub fn answer(o: Outcome) {
+    let counts = switch::counts_of(o);
+    field(b" code ", switch::code_of(o));
+    field(b" place ", switch::place_of(o) as u64);
+    side(switch::side_of(o));
+    field(b" records ", counts.records as u64);
+    field(b" longest ", counts.longest);
+    field(b" total ", counts.total);
+    field(b" length ", counts.length);
+    field(b" empty ", counts.empty);
+}
+
+// A side's word, a dash where there is none.
+fn side(number: u64) {
+    if number == 1 {
+        text(b" side input");
+    } else if number == 2 {
+        text(b" side output");
+    } else {
+        text(b" side -");
+    }
+}
+
+// The checksum of bytes.
+pub fn sum(bytes: &[u8]) {
+    field(b" sum ", checksum(bytes));
+}
+
+// A number made of bytes that changes where one byte, or their number, does: each counts one more than it is, so that zeros count too.
+fn checksum(bytes: &[u8]) -> u64 {
+    let mut sum = 1;
+    let mut k = 0;
+    while k < bytes.len() {
+        sum = (sum * 257 + wide(bytes[k]) + 1) % PRIME;
+        k += 1;
+    }
+    sum
+}
+
+// The records of a plan that was written, if they are few: a line each, hold, then the outputs of the first n inputs.
+pub fn plan(n: usize, o: Outcome, bytes: &[u8]) {
+    let count = switch::counts_of(o).records;
+    if count > SHORT {
+        return;
+    }
+    if bytes.len() < count * RECORD {
+        return;
+    }
+    if n > switch::PORTS {
+        return;
+    }
+    let mut k = 0;
+    while k < count {
+        let from = k * RECORD;
+        let to = from + RECORD;
+        record(n, &bytes[from..to]);
+        k += 1;
+    }
+}
+
+// One record.
+fn record(n: usize, bytes: &[u8])
+    requires { ⌜ n + 4 ≤ length (now bytes) ⌝ }
+    requires { ⌜ n ≤ 64 ⌝ }
+{
+    io::print_decimal(1, wide(bytes[0]) + 256 * wide(bytes[1]));
+    let mut i = 0;
+    while i < n {
+        output(bytes[HEAD + i]);
+        i += 1;
+    }
+    text(b"\n");
+}
+
+// An output, a dash where the input is idle.
+fn output(byte: u8) {
+    if byte == IDLE {
+        text(b" -");
+    } else {
+        field(b" ", wide(byte));
+    }
+}
+
+// A word and a number.
+pub fn field(word: &[u8], number: u64) {
+    text(word);
+    io::print_decimal(1, number);
+}
+
+// Words.
+pub fn text(words: &[u8]) {
+    io::write_all(1, words);
+}
+
+// A byte as a number that is printed.
+pub fn wide(byte: u8) -> u64
+    ensures { λ r. ⌜ r ≤ 255 ⌝ }
+{
+    byte as u64
+}
