@@ -1,5 +1,5 @@
 // The reader: it keeps a plan's bytes and the place reached. Each function over it takes it apart and calls the covered one of `plans`,
-// and `first_step`, whose parameters are plain, stands above them, so that its callers need not know of a reader.
+// and `open_answer` and `step_from`, whose parameters are plain, stand above them: a caller that keeps the place itself reads by them.
 // What a step gives is promised by `plans`; here it is promised that the place goes on with it and the plan stays.
 use plans::Stepped;
 use switch::Outcome;
@@ -25,7 +25,7 @@ pub fn open<'a>(n: usize, plan: &'a [u8]) -> Opened<'a>
     ensures { λ o. ⌜ (o .answer ≡ opening firstEdition n (now (plan .entry))) × (o .reader ≡ starting n (plan .entry)) ⌝ }
 {
     let answer = plans::open_plan(n, plan);
-    let reader = start(n, plan);
+    let reader = standing(n, plan, 0);
     Opened { answer, reader }
 }
 
@@ -40,17 +40,24 @@ impl<'a> Reader<'a> {
     }
 }
 
-// The first step of a plan, by a reader of its own.
-pub fn first_step(n: usize, plan: &[u8]) -> Stepped
-    ensures { λ s. ⌜ s ≡ stepAt n (now (plan .entry)) 0 ⌝ }
+// What opening a plan answers, its reader let go.
+pub fn open_answer(n: usize, plan: &[u8]) -> Outcome
+    ensures { λ r. ⌜ r ≡ opening firstEdition n (now (plan .entry)) ⌝ }
 {
-    let mut r = start(n, plan);
+    open(n, plan).answer
+}
+
+// The step at record `at` of a plan, by a reader that stands there.
+pub fn step_from(n: usize, plan: &[u8], at: usize) -> Stepped
+    ensures { λ s. ⌜ s ≡ stepAt n (now (plan .entry)) at ⌝ }
+{
+    let mut r = standing(n, plan, at);
     r.step()
 }
 
-// A reader at a plan's first record.
-fn start<'a>(n: usize, plan: &'a [u8]) -> Reader<'a>
-    ensures { λ r. ⌜ r ≡ starting n (plan .entry) ⌝ }
+// A reader at a record of a plan.
+fn standing<'a>(n: usize, plan: &'a [u8], at: usize) -> Reader<'a>
+    ensures { λ r. ⌜ r ≡ movedTo (starting n (plan .entry)) at ⌝ }
 {
-    Reader { n, plan, at: 0 }
+    Reader { n, plan, at }
 }
