@@ -47,11 +47,7 @@ fn numbers(outcome: Outcome, report: &[u8]) {
     }
     let count = tape::within(records, report);
     for k in 0..count {
-        show::field(b" ", wide(report[k]));
+        show::field(b" ", show::wide(report[k]));
     }
     show::text(b"\n");
-}
-
-fn wide(byte: u8) -> u64 {
-    byte as u64
 }

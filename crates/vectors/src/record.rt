@@ -8,14 +8,14 @@ ghost use Prim.Native.Nat.{_≤_};
 // The most bytes lent for one record.
 const ROOM: usize = 255;
 
-// Opens a plan and makes so many steps over it.
+// Opens a plan and makes so many steps over it, by a reader.
 pub fn read(n: usize, plan: &[u8], steps: usize) {
-    show::answer(plans::open_plan(n, plan));
+    show::answer(reader::open_answer(n, plan));
     show::text(b"\n");
     let mut at = 0;
     let mut k = 0;
     while k < steps {
-        let stepped = plans::step_at(n, plan, at);
+        let stepped = reader::step_from(n, plan, at);
         at = stepped.next;
         show_step(stepped);
         k += 1;

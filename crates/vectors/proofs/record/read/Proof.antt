@@ -10,8 +10,8 @@ Inv-loop n plan steps at₀ k₀ at k = k ≤ steps
 abbrev μ-loop : tie.MeasureT-loop
 μ-loop n plan steps at₀ k₀ at k = steps - k
 
-open-plan-requires : tie.Need-open-plan-requires Inv-loop μ-loop
-open-plan-requires c κs = search needs
+open-answer-requires : tie.Need-open-answer-requires Inv-loop μ-loop
+open-answer-requires c κs = search needs
 
 answer-requires : tie.Need-answer-requires Inv-loop μ-loop
 answer-requires c κs = search needs
@@ -25,8 +25,8 @@ text-requires c κs = search needs
 loop-holds : tie.Need-loop-holds Inv-loop μ-loop
 loop-holds c = search needs
 
-step-at-requires : tie.Need-step-at-requires Inv-loop μ-loop
-step-at-requires c κs = search needs
+step-from-requires : tie.Need-step-from-requires Inv-loop μ-loop
+step-from-requires c κs = search needs
 
 show-step-requires : tie.Need-show-step-requires Inv-loop μ-loop
 show-step-requires c κs = search needs
@@ -49,12 +49,12 @@ read-spec =
     (tie.spec
     Inv-loop
     μ-loop
-    open-plan-requires
+    open-answer-requires
     answer-requires
     slice-aggregate-text
     text-requires
     loop-holds
-    step-at-requires
+    step-from-requires
     show-step-requires
     add-k
     loop-less
