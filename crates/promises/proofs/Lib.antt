@@ -1,1 +1,10 @@
 pub mod Papers
+pub mod Outcomes
+pub mod Laid
+pub mod Only
+pub mod Wishes
+pub mod Records
+pub mod Reading
+pub mod Length
+pub mod Joined
+pub mod Report

@@ -1,1 +1,9 @@
 pub mod Papers
+pub mod Calls
+pub mod Only
+pub mod Wishes
+pub mod Records
+pub mod Reading
+pub mod Length
+pub mod Joined
+pub mod Report

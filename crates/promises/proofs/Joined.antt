@@ -1,0 +1,100 @@
+-- The joined plan grants and totals what the plan did, in no more records; where nothing is refused it is what the second buffer starts with.
+use mathlib.Core.Path.{_≡_, refl, sym, ap, _∙_, subst}
+use mathlib.Core.List.{List}
+use Prim.Native.Nat.{ℕ, _+_, _*_, _<_, _≤_}
+use native.Mathlib.Decide.{decLt}
+use native.Mathlib.Omega.{arith}
+use lib.ListN.{length, getD, drop}
+use Rattle.switch.specs.declared.Outcome.{Outcome}
+use Rattle.switch.specs.declared.Outcome.the-variants.{Done, Refused}
+use Rattle.switch.specs.declared.Refusal.{Refusal}
+use Rattle.switch.specs.declared.Counts.{Counts}
+use Rattle.switch.specs.Answer.{planCounts}
+use Rattle.switch.specs.Plan.{Record, total}
+use Rattle.records.specs.Bytes.{bytes, laid, whole, planOf, Each, OfWidth}
+use Rattle.records.proofs.Sound.{each-width}
+use Rattle.plans.specs.declared.Edition.{Edition}
+use Rattle.plans.specs.Read.{firstEdition, Bounded, checking}
+use Rattle.plans.proofs.Read.{first-bounded}
+use Rattle.plans.proofs.Plans.{checked, length-plan}
+use Rattle.planner.specs.Planned.{Planned, refuses, writes}
+use Rattle.settings.proofs.Sums.{sums-summed}
+use Rattle.joining.specs.Join.{joinPlan, joining}
+use Rattle.joining.proofs.Joined.{join-grant, join-total, join-sound}
+use Rattle.joining.proofs.Answer.{joining-refused, joining-short, joining-done}
+use Rattle.joining.proofs.Twice.{no-longer, twice}
+use Rattle.promises.specs.Calls.{Leaves, JoinPlan}
+use Rattle.promises.specs.Reading.{GoodPlan}
+use Rattle.promises.specs.Joined.{part, JoinOf, Joined}
+use Rattle.promises.proofs.Outcomes.{never, same-counts}
+use Rattle.promises.proofs.Reading.{good-checks, checks-good}
+use Rattle.promises.proofs.Laid.{plan-reads, plan-behind}
+
+module _ (E : Edition) (bounds : Bounded E) (N : ℕ) (plan : List ℕ) (byte : (i : ℕ) → getD plan i 0 < 256) (buf : List ℕ)
+    (r : Outcome) (after : List ℕ) (met : let x = joining E N plan buf in Leaves (x .outcome) (x .bytes) r after) where
+  abbrev p : List Record
+  p = planOf (E .width) plan
+
+  -- what a refusal leaves to show
+  refused : (x : Refusal) → refuses x buf ≡ joining E N plan buf → (GoodPlan E N plan → length (joinPlan p) ≤ whole (E .width) buf → ⊥) → Joined E N plan buf r after
+  refused x e bad =
+      let is : r ≡ Refused x = met .0 ∙ ap (λ (y : Planned). y .outcome) (sym e) in
+      record {
+        taken = λ g l. absurd (bad g l);
+        only-then = λ c q. never (sym is ∙ q);
+        joins = λ c q. never (sym is ∙ q);
+        later = λ c q. never (sym is ∙ q);
+        twice = λ c q. never (sym is ∙ q);
+        unchanged = λ _. met .1 ∙ ap (λ (y : Planned). y .bytes) (sym e);
+      }
+
+  module _ (o : Counts) (fine : checking E N plan ≡ Done o) (room : length (joinPlan p) ≤ whole (E .width) buf) where
+    abbrev counts : Counts
+    counts = planCounts (length (joinPlan p)) 0 (total (joinPlan p))
+
+    is : r ≡ Done counts
+    unfolding writes
+    is = met .0 ∙ ap (λ (y : Planned). y .outcome) (sym (joining-done E N plan buf (sym fine) room))
+
+    lays : after ≡ laid buf 0 (bytes (E .byte) N (joinPlan p))
+    unfolding writes
+    lays = met .1 ∙ ap (λ (y : Planned). y .bytes) (sym (joining-done E N plan buf (sym fine) room))
+
+    widths : Each (OfWidth (E .width)) (joinPlan p)
+    widths = each-width (E .width) N (join-sound (E .width) N (checked E N plan bounds o (sym fine) .sound))
+
+    reads : planOf (E .width) (part E counts after) ≡ joinPlan p
+    reads = ap (λ (b : List ℕ). planOf (E .width) (part E counts b)) lays ∙ plan-reads (E .byte) N (E .width) widths buf
+
+    join-of : JoinOf p (joinPlan p)
+    join-of = record {
+      grants = join-grant p;
+      holds = join-total p;
+      no-more = omega (arith, no-longer E bounds N plan byte (sym fine), length-plan (E .width) plan 0 (whole (E .width) plan));
+      summed = sums-summed p;
+      cuts = unfold joinPlan in refl;
+    }
+
+    done : Joined E N plan buf r after
+    done = record {
+      taken = λ g l. is ∙ ap (λ (t : ℕ). Done (planCounts (length (joinPlan p)) 0 t)) (join-total p);
+      only-then = λ c q. (checks-good E N plan bounds o fine, room);
+      joins = λ c q. subst (λ (x : Counts). JoinOf p (planOf (E .width) (part E x after))) (same-counts (sym is ∙ q)) (subst (JoinOf p) (sym reads) join-of);
+      later = λ c q. subst (λ (x : Counts). drop (x .records * (E .width + 4)) after ≡ drop (x .records * (E .width + 4)) buf) (same-counts (sym is ∙ q))
+          (ap (drop (length (joinPlan p) * (E .width + 4))) lays ∙ plan-behind (E .byte) N (E .width) widths buf);
+      twice = λ c q next. ap (λ (b : List ℕ). joining E N (part E c b) next) (met .1) ∙ twice E bounds N plan byte buf c (sym q ∙ met .0) next;
+      unchanged = λ n. absurd (n counts is);
+    }
+
+  pub joined : Joined E N plan buf r after
+  joined = by (checking E N plan) refl (decLt (whole (E .width) buf) (length (joinPlan p)))
+    where
+      by : (o : Outcome) → checking E N plan ≡ o → Dec (whole (E .width) buf < length (joinPlan p)) → Joined E N plan buf r after
+      by (Refused x) e _ = refused x (joining-refused E N plan buf (sym e)) (λ g l. never (sym e ∙ good-checks E N plan bounds g))
+      by (Done o) e (yes l) = refused _ (joining-short E N plan buf (sym e) l) (λ g h. omega arith)
+      by (Done o) e (no l) = done o e (omega (arith, l))
+
+-- joining
+pub join-promise : (N : ℕ) (plan : List ℕ) → ((i : ℕ) → getD plan i 0 < 256) → (buf : List ℕ) (r : Outcome) (after : List ℕ) → JoinPlan N plan buf r after
+    → Joined firstEdition N plan buf r after
+join-promise N plan byte buf r after met = joined firstEdition first-bounded N plan byte buf r after met

@@ -1,0 +1,118 @@
+-- Any two results that meet a call's contract are equal: each contract gives answer and lent memory by a definition, and what equals one thing is one thing.
+use mathlib.Core.Path.{_≡_, sym, ap, _∙_}
+use mathlib.Core.List.{List}
+use Prim.Native.Nat.{ℕ}
+use denote.Ref.{RefT}
+use Rattle.plans.specs.declared.Stepped.{Stepped}
+use Rattle.reader.specs.declared.Reader.{Reader}
+use Rattle.reader.specs.Reader.{movedTo}
+use Rattle.promises.specs.Only.{OneAnswer, OneResult}
+use Rattle.promises.specs.Calls as call
+
+-- what equals one thing
+one : {A : Type 0} (x : A) → OneAnswer (λ r. r ≡ x)
+one x p q = p ∙ sym q
+
+-- and in lent memory
+both : {A : Type 0} (x : A) (m : List ℕ) → OneResult (call.Leaves x m)
+both x m p q = (one x (p .0) (q .0), one m (p .1) (q .1))
+
+-- ---- the calls
+
+pub wish-one-answer : (bits : ℕ) → OneAnswer (call.OfBits bits)
+wish-one-answer bits = one _
+
+pub wishes-one-result : (N : ℕ) (list cells : List ℕ) → OneResult (call.WishList N list cells)
+wishes-one-result N list cells = both _ _
+
+pub exact-one-result : (N : ℕ) (d buf : List ℕ) → OneResult (call.ExactPlan N d buf)
+exact-one-result N d buf = both _ _
+
+pub doubled-one-result : (N : ℕ) (d buf : List ℕ) → OneResult (call.DoubledPlan N d buf)
+doubled-one-result N d buf = both _ _
+
+pub every-rotation-one-result : (N : ℕ) (d buf : List ℕ) → OneResult (call.EveryRotation N d buf)
+every-rotation-one-result N d buf = both _ _
+
+pub quick-one-result : (N : ℕ) (d buf : List ℕ) → OneResult (call.QuickPlan N d buf)
+quick-one-result N d buf = both _ _
+
+pub grating-doubled-one-result : (N : ℕ) (d buf : List ℕ) → OneResult (call.GratingDoubled N d buf)
+grating-doubled-one-result N d buf = both _ _
+
+pub write-one-result : (hold N : ℕ) (outputs buf : List ℕ) → OneResult (call.WriteRecord hold N outputs buf)
+write-one-result hold N outputs buf = both _ _
+
+pub open-one-answer : (N : ℕ) (plan : List ℕ) → OneAnswer (call.OpenPlan N plan)
+open-one-answer N plan = one _
+
+pub step-one-answer : (N : ℕ) (plan : List ℕ) (at : ℕ) → OneAnswer (call.StepAt N plan at)
+step-one-answer N plan at = one _
+
+-- a reader and the step that it takes
+pub reader-one-answer : (N : ℕ) (plan : RefT (List ℕ)) → OneAnswer (call.OpenReader N plan)
+reader-one-answer N plan {a} {b} p q = λ i. record { answer = one _ (p .0) (q .0) i; reader = one _ (p .1) (q .1) i }
+
+pub reader-step-one-result : (r : Reader) → OneResult (call.ReaderStep r)
+reader-step-one-result r {a} {b} p q =
+    let same : a ≡ b = one _ (p .0) (q .0) in
+    (same, p .1 ∙ ap (λ (s : Stepped). movedTo r (s .next)) same ∙ sym (q .1))
+
+pub check-one-answer : (N : ℕ) (d plan : List ℕ) → OneAnswer (call.CheckPlan N d plan)
+check-one-answer N d plan = one _
+
+pub length-one-answer : (N : ℕ) (plan : List ℕ) (d : ℕ) → OneAnswer (call.PlanLength N plan d)
+length-one-answer N plan d = one _
+
+pub join-one-result : (N : ℕ) (plan buf : List ℕ) → OneResult (call.JoinPlan N plan buf)
+join-one-result N plan buf = both _ _
+
+pub grating-report-one-result : (N : ℕ) (plan buf : List ℕ) → OneResult (call.GratingReport N plan buf)
+grating-report-one-result N plan buf = both _ _
+
+pub listing-one-result : (input text : List ℕ) → OneResult (call.Listing input text)
+listing-one-result input text p q = (one _ (p .0) (q .0), one _ (p .1) (q .1))
+
+-- ---- the edge
+
+pub cv-wish-one-answer : (bits : ℕ) → OneAnswer (call.CvWish bits)
+cv-wish-one-answer bits = one _
+
+pub cv-wishes-one-result : (N : ℕ) (list cells : List ℕ) → OneResult (call.CvWishes N list cells)
+cv-wishes-one-result N list cells = both _ _
+
+pub cv-exact-one-result : (N : ℕ) (d buf : List ℕ) → OneResult (call.CvExact N d buf)
+cv-exact-one-result N d buf = both _ _
+
+pub cv-doubled-one-result : (N : ℕ) (d buf : List ℕ) → OneResult (call.CvDoubled N d buf)
+cv-doubled-one-result N d buf = both _ _
+
+pub cv-every-rotation-one-result : (N : ℕ) (d buf : List ℕ) → OneResult (call.CvEveryRotation N d buf)
+cv-every-rotation-one-result N d buf = both _ _
+
+pub cv-quick-one-result : (N : ℕ) (d buf : List ℕ) → OneResult (call.CvQuick N d buf)
+cv-quick-one-result N d buf = both _ _
+
+pub cv-grating-doubled-one-result : (N : ℕ) (d buf : List ℕ) → OneResult (call.CvGratingDoubled N d buf)
+cv-grating-doubled-one-result N d buf = both _ _
+
+pub cv-grating-report-one-result : (N : ℕ) (plan buf : List ℕ) → OneResult (call.CvGratingReport N plan buf)
+cv-grating-report-one-result N plan buf = both _ _
+
+pub cv-check-one-answer : (N : ℕ) (d plan : List ℕ) → OneAnswer (call.CvCheck N d plan)
+cv-check-one-answer N d plan = one _
+
+pub cv-length-one-answer : (N : ℕ) (plan : List ℕ) (d : ℕ) → OneAnswer (call.CvLength N plan d)
+cv-length-one-answer N plan d = one _
+
+pub cv-join-one-result : (N : ℕ) (plan buf : List ℕ) → OneResult (call.CvJoin N plan buf)
+cv-join-one-result N plan buf = both _ _
+
+pub cv-write-one-result : (hold N : ℕ) (outputs buf : List ℕ) → OneResult (call.CvWrite hold N outputs buf)
+cv-write-one-result hold N outputs buf = both _ _
+
+pub cv-open-one-answer : (N : ℕ) (plan : List ℕ) → OneAnswer (call.CvOpen N plan)
+cv-open-one-answer N plan = one _
+
+pub cv-step-at-one-answer : (N : ℕ) (plan : List ℕ) (at : ℕ) → OneAnswer (call.CvStepAt N plan at)
+cv-step-at-one-answer N plan at = one _

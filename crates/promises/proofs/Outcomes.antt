@@ -1,0 +1,13 @@
+-- Success and refusal are two constructors, so one is never the other, and what is counted is told by the success.
+use mathlib.Core.Path.{_≡_}
+use Prim.Native.Nat.{ℕ}
+use native.Mathlib.Omega.{arith}
+use Rattle.switch.specs.declared.Outcome.the-variants.{Done, Refused}
+use Rattle.switch.specs.declared.Refusal.{Refusal}
+use Rattle.switch.specs.declared.Counts.{Counts}
+
+pub never : {c : Counts} {r : Refusal} {A : Type 0} → Refused r ≡ Done c → A
+never e = let z : _≡_ {A = ℕ} 0 1 = cc in absurd (let f : ⊥ = omega arith in f)
+
+pub same-counts : {a b : Counts} → Done a ≡ Done b → a ≡ b
+same-counts e = cc

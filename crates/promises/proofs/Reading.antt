@@ -1,0 +1,184 @@
+-- A step gives the record at its place and goes on, up to the first that is damaged or the end, which it leaves no more.
+use mathlib.Core.Path.{_≡_, refl, sym, ap, _∙_}
+use mathlib.Core.Bool.{Bool, true, false, true≢false}
+use mathlib.Core.List.{List}
+use Prim.Native.Nat.{ℕ, _+_, _<_, _≤_, min}
+use native.Mathlib.Decide.{decLt}
+use native.Mathlib.Numerals.{add-one}
+use native.Mathlib.Omega.{arith}
+use lib.ListN.{length}
+use denote.Ref.{RefT, now}
+use Rattle.switch.specs.declared.Outcome.{Outcome}
+use Rattle.switch.specs.declared.Outcome.the-variants.{Done, Refused}
+use Rattle.switch.specs.declared.Counts.{Counts}
+use Rattle.switch.specs.Answer.{planCounts}
+use Rattle.switch.specs.Plan.{total}
+use Rattle.records.specs.Record.{WellFormed}
+use Rattle.records.specs.Bytes.{recordAt, whole, planOf}
+use Rattle.records.proofs.Meaning.{means, meant}
+use Rattle.records.proofs.Part.{record-size, record-fits, whole-fits}
+use Rattle.records.proofs.Sound.{fine}
+use Rattle.plans.specs.declared.Edition.{Edition}
+use Rattle.plans.specs.declared.Step.the-variants as step
+use Rattle.plans.specs.declared.Stepped.{Stepped}
+use Rattle.plans.specs.Read.{firstEdition, Bounded, opening, given, nothing, stepIn, stepAt, malformed, checking}
+use Rattle.plans.proofs.Read.{first-bounded, opening-done, check-malformed, check-opened, opened, opened-records, step-end, step-malformed, step-record, step-opened, step-refused}
+use Rattle.plans.proofs.Plans.{passes, malformed-first, checked}
+use Rattle.reader.specs.declared.Reader.{Reader}
+use Rattle.reader.specs.declared.Opened.{Opened}
+use Rattle.reader.specs.Reader.{starting, movedTo}
+use Rattle.promises.specs.Calls.{OpenPlan, StepAt, OpenReader, ReaderStep}
+use Rattle.promises.specs.Reading.{Openable, GoodPlan, FirstDamaged, Opens, StepGives, ReadStep, Steps, none, more}
+use Rattle.promises.proofs.Outcomes.{never}
+
+-- ---- opening
+
+module _ (E : Edition) (N : ℕ) (plan : List ℕ) where
+  pub openable-opens : Openable E N plan → opening E N plan ≡ Done (planCounts (whole (E .width) plan) 0 0)
+  openable-opens o = sym (opening-done E N plan (o .some) (o .few) (o .even) (o .most))
+
+  pub opens-openable : (c : Counts) → opening E N plan ≡ Done c → Openable E N plan
+  opens-openable c e = let o = opened E N plan c (sym e) in record { some = o .some; few = o .few; even = o .even; most = o .most }
+
+  -- ---- records that are well formed, as a test and in plain statements
+
+  module _ (bounds : Bounded E) (few : N ≤ E .ports) (k : ℕ) (l : k < whole (E .width) plan) where
+    narrow : N ≤ E .width
+    narrow = omega (arith, bounds .ports)
+
+    size : length (recordAt (E .width) plan k) ≡ E .width + 4
+    size = record-size (E .width) plan k (record-fits (E .width) plan k (whole (E .width) plan) l (whole-fits (E .width) plan))
+
+    pub fine-means : fine (E .width) (E .byte) N plan k ≡ true → WellFormed (E .width) (E .byte) N (recordAt (E .width) plan k)
+    fine-means e = means (E .width) (E .byte) N (recordAt (E .width) plan k) size narrow (omega (arith, narrow, bounds .width)) e
+
+    pub means-fine : WellFormed (E .width) (E .byte) N (recordAt (E .width) plan k) → fine (E .width) (E .byte) N plan k ≡ true
+    means-fine w = meant (E .width) (E .byte) N (recordAt (E .width) plan k) size narrow (omega (arith, narrow, bounds .width)) w
+
+  -- the first that the scan finds
+  module _ (bounds : Bounded E) (few : N ≤ E .ports) where
+    pub first-damaged : FirstDamaged E N plan (malformed (E .width) (E .byte) N plan (whole (E .width) plan) 0)
+    first-damaged =
+        let W = E .width in
+        let f = malformed W (E .byte) N plan (whole W plan) 0 in
+        let s = malformed-first W (E .byte) N plan (whole W plan) 0 in
+        record {
+          inside = omega (arith, s .to);
+          before = λ k l. fine-means bounds few k (omega (arith, s .to)) (s .before k (omega arith) l);
+          here = λ l w. true≢false (sym (means-fine bounds few f l w) ∙ s .here (omega arith));
+        }
+
+  -- ---- a whole plan
+
+  module _ (bounds : Bounded E) where
+    pub good-checks : GoodPlan E N plan → checking E N plan ≡ Done (planCounts (whole (E .width) plan) 0 (total (planOf (E .width) plan)))
+    good-checks g =
+        sym (passes E N plan (sym (openable-opens (g .opens))) (λ k l. means-fine bounds (g .opens .few) k l (g .each k l)))
+
+    pub checks-good : (c : Counts) → checking E N plan ≡ Done c → GoodPlan E N plan
+    checks-good c e = record { opens = o; each = each (decLt fault (whole (E .width) plan)) }
+      where
+        fault : ℕ
+        fault = malformed (E .width) (E .byte) N plan (whole (E .width) plan) 0
+
+        o : Openable E N plan
+        o = let k = checked E N plan bounds c (sym e) in record { some = k .some; few = k .few; even = k .even; most = k .most }
+
+        each : Dec (fault < whole (E .width) plan) → (k : ℕ) → k < whole (E .width) plan → WellFormed (E .width) (E .byte) N (recordAt (E .width) plan k)
+        each (yes l) k _ = never (check-malformed E N plan _ fault refl l ∙ check-opened E N plan (sym (openable-opens o)) ∙ e)
+        each (no l) k lk = first-damaged bounds (o .few) .before k (omega (arith, l))
+
+-- what opening answers
+pub open-promise : (N : ℕ) (plan : List ℕ) (r : Outcome) → OpenPlan N plan r → Opens N plan r
+open-promise N plan r met = record {
+  taken = λ o. met ∙ openable-opens firstEdition N plan o;
+  only-then = λ c e. opens-openable firstEdition N plan c (sym met ∙ e);
+  ends = λ n at. by (opening firstEdition N plan) refl n at;
+}
+  where
+    by : (o : Outcome) → o ≡ opening firstEdition N plan → ((c : Counts) → r ≡ Done c → ⊥) → (at : ℕ) → stepAt N plan at ≡ nothing step.End at
+    by (Done c) e n at = absurd (n c (met ∙ sym e))
+    by (Refused x) e n at = sym (step-refused N plan at e)
+
+-- ---- step by step
+
+module _ (N : ℕ) (plan : List ℕ) (c : Counts) (opens : opening firstEdition N plan ≡ Done c) where
+  abbrev m : ℕ
+  m = whole 64 plan
+
+  abbrev f : ℕ
+  f = malformed 64 0 N plan m 0
+
+  known : Openable firstEdition N plan
+  known = opens-openable firstEdition N plan c opens
+
+  damaged : FirstDamaged firstEdition N plan f
+  damaged = first-damaged firstEdition N plan first-bounded (known .few)
+
+  count : c .records ≡ m
+  count = opened-records firstEdition N plan c (sym opens)
+
+  -- one step
+  pub step-promise : (at : ℕ) (s : Stepped) → StepAt N plan at s → StepGives N plan at s
+  step-promise at s met = record {
+    gives = λ l w. met ∙ sym (step-record (c .records) N plan at (omega (arith, count)) (means-fine firstEdition N plan first-bounded (known .few) at l w) ∙ there);
+    damage = λ l w. met ∙ sym (step-malformed (c .records) N plan at (omega (arith, count)) (not-fine l w (fine 64 0 N plan at) refl) ∙ there);
+    end = λ l. met ∙ sym (step-end (c .records) N plan at (omega (arith, count)) ∙ there);
+  }
+    where
+      there : stepIn (c .records) N plan at ≡ stepAt N plan at
+      there = step-opened N plan at (sym opens)
+
+      not-fine : at < m → (WellFormed 64 0 N (recordAt 64 plan at) → ⊥) → (b : Bool) → fine 64 0 N plan at ≡ b → fine 64 0 N plan at ≡ false
+      not-fine l w true e = absurd (w (fine-means firstEdition N plan first-bounded (known .few) at l e))
+      not-fine l w false e = e
+
+  -- the place of step k from the start, and what it gives there
+  abbrev place : ℕ → ℕ
+  place k = min k f
+
+  here : (at : ℕ) → StepGives N plan at (stepAt N plan at)
+  here at = step-promise at (stepAt N plan at) refl
+
+  at-record : (k : ℕ) → k < f → stepAt N plan k ≡ given (recordAt 64 plan k) (k + 1)
+  at-record k l = here k .gives (omega (arith, damaged .inside)) (damaged .before k l)
+
+  at-damage : f < m → stepAt N plan f ≡ nothing (step.Malformed f) f
+  at-damage l = here f .damage l (damaged .here l)
+
+  at-end : f ≡ m → stepAt N plan f ≡ nothing step.End f
+  at-end e = here f .end (omega (arith, e))
+
+  goes-on : (k : ℕ) → stepAt N plan (place k) .next ≡ place (k + 1)
+  goes-on k = by (decLt k f) (decLt f m)
+    where
+      by : Dec (k < f) → Dec (f < m) → stepAt N plan (place k) .next ≡ place (k + 1)
+      by (yes l) _ = ap (λ (j : ℕ). stepAt N plan j .next) (let e : place k ≡ k = omega arith in e) ∙ ap (λ (s : Stepped). s .next) (at-record k l) ∙ omega arith
+      by (no g) (yes l) = ap (λ (j : ℕ). stepAt N plan j .next) (let e : place k ≡ f = omega (arith, g) in e) ∙ ap (λ (s : Stepped). s .next) (at-damage l) ∙ omega (arith, g)
+      by (no g) (no h) =
+          ap (λ (j : ℕ). stepAt N plan j .next) (let e : place k ≡ f = omega (arith, g) in e)
+          ∙ ap (λ (s : Stepped). s .next) (at-end (omega (arith, h, damaged .inside))) ∙ omega (arith, g)
+
+  read-step : (k : ℕ) (s : Stepped) → s ≡ stepAt N plan (place k) → ReadStep N plan k s
+  read-step k s e = record {
+    first = f;
+    damaged = damaged;
+    gives = λ l. e ∙ ap (stepAt N plan) (let q : place k ≡ k = omega arith in q) ∙ at-record k l;
+    damage = λ l h. e ∙ ap (stepAt N plan) (let q : place k ≡ f = omega arith in q) ∙ at-damage h;
+    end = λ l h. e ∙ ap (stepAt N plan) (let q : place k ≡ f = omega arith in q) ∙ at-end h;
+  }
+
+-- a reader that was opened, and step k of it
+module _ (N : ℕ) (plan : RefT (List ℕ)) (o : Opened) (met : OpenReader N plan o) (c : Counts) (done : o .answer ≡ Done c) where
+  opens : opening firstEdition N (now plan) ≡ Done c
+  opens = sym (met .0) ∙ done
+
+  stands : {k : ℕ} {r : Reader} → Steps (o .reader) k r → r ≡ movedTo (starting N plan) (place N (now plan) c opens k)
+  stands none = met .1 ∙ ap (movedTo (starting N plan)) (let e : 0 ≡ place N (now plan) c opens 0 = omega arith in e)
+  stands (more {k} {r'} s t) =
+      t .1 ∙ ap (λ (x : Stepped). movedTo r' (x .next)) (t .0)
+      ∙ ap (λ (x : Reader). movedTo x (stepAt (x .n) (now (x .plan)) (x .at) .next)) (stands s)
+      ∙ ap (movedTo (starting N plan)) (goes-on N (now plan) c opens k ∙ ap (place N (now plan) c opens) (add-one k))
+
+  pub reader-promise : {k : ℕ} {r r' : Reader} {s : Stepped} → Steps (o .reader) k r → ReaderStep r s r' → ReadStep N (now plan) k s
+  reader-promise {k} {s = s} before t = read-step N (now plan) c opens k s (t .0 ∙ ap (λ (x : Reader). stepAt (x .n) (now (x .plan)) (x .at)) (stands before))

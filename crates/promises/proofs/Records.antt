@@ -1,0 +1,84 @@
+-- A record is written as its bytes, and read from them again; a record that was read is written as the bytes that it was read from.
+use mathlib.Core.Path.{_≡_, sym, ap, _∙_, subst}
+use mathlib.Core.Bool.{Bool, true, false, cond}
+use mathlib.Core.List.{List}
+use Prim.Native.Nat.{ℕ, _<_, _≤_}
+use native.Mathlib.Omega.{arith}
+use lib.Dec.{leb}
+use lib.ListN.{length, getD, take, drop}
+use Rattle.switch.specs.declared.Outcome.{Outcome}
+use Rattle.switch.specs.declared.Outcome.the-variants.{Done}
+use Rattle.switch.specs.Check.{portsFine}
+use Rattle.switch.specs.declared.Refusal.the-variants.{Ports, Room, Malformed}
+use Rattle.switch.specs.declared.Counts.{Counts}
+use Rattle.switch.specs.Answer.{planCounts}
+use Rattle.records.specs.Record.{wellFormed, Sound}
+use Rattle.records.specs.Bytes.{encode, laid, whole, recordAt}
+use Rattle.records.specs.Write.{Written, refuses, writes, written}
+use Rattle.records.proofs.Meaning.{means, encode-sound}
+use Rattle.records.proofs.Part.{record-size, record-fits, whole-fits}
+use Rattle.records.proofs.Round.{decoded-encode}
+use Rattle.records.proofs.Write.{write-done}
+use Rattle.plans.specs.declared.Step.the-variants as step
+use Rattle.plans.specs.declared.Stepped.{Stepped}
+use Rattle.plans.specs.Read.{stepAt}
+use Rattle.plans.proofs.Trips.{wrote, written-bytes, write-read, gave, read-write}
+use Rattle.promises.specs.Calls.{Leaves, WriteRecord, StepAt}
+use Rattle.promises.proofs.Laid.{laid-front, laid-behind}
+use Rattle.promises.specs.Records.{GoodRecord, RecordWritten, WrittenAgain}
+
+-- ---- written, then read
+
+module _ (hold N : ℕ) (outputs buf : List ℕ) (long : length outputs ≡ 64) (r : Outcome) (after : List ℕ) (met : WriteRecord hold N outputs buf r after) where
+  taken : GoodRecord hold N outputs (length buf) → r ≡ Done (planCounts 1 0 hold)
+  taken g = met .0 ∙ sym (ap (λ (w : Written). w .answer) (write-done hold N outputs buf (g .some) (g .few) (g .room) (encode-sound 64 0 N _ (g .few) (omega (arith, g .few)) (g .sound))))
+
+  module _ (c : Counts) (done : r ≡ Done c) where
+    good : GoodRecord hold N outputs (length buf)
+    good =
+        let w = wrote hold N outputs buf c (sym done ∙ met .0) in
+        let m = means 64 0 N (encode 0 hold N outputs) (omega arith) (w .few) (omega (arith, w .few)) (w .fine) in
+        record { some = w .some; few = w .few; room = w .room; sound = subst (Sound 64 N) (decoded-encode 0 hold N outputs) (m .sound) }
+
+    reads-back : stepAt N (take 68 after) 0 ≡ record { step = step.Record; hold = hold; outputs = outputs; next = 1 }
+    reads-back = ap (λ (b : List ℕ). stepAt N (take 68 b) 0) (met .1) ∙ write-read hold N outputs buf long c (sym done ∙ met .0)
+
+    later : drop 68 after ≡ drop 68 buf
+    later = ap (drop 68) (met .1 ∙ written-bytes hold N outputs buf long c (sym done ∙ met .0)) ∙ laid-behind buf (encode 0 hold N outputs) 68 (omega arith)
+
+  unchanged : ((c : Counts) → r ≡ Done c → ⊥) → after ≡ buf
+  unfolding written
+  unchanged n = by (portsFine 64 N) (leb 68 (length buf)) (wellFormed 64 0 N (encode 0 hold N outputs)) met
+    where
+      by : (p q w : Bool) → let x = cond p (cond q (cond w (writes hold N outputs buf) (refuses (Malformed 0) buf)) (refuses (Room 1) buf)) (refuses Ports buf) in
+          Leaves (x .answer) (x .bytes) r after → after ≡ buf
+      by true true true m = absurd (n _ (m .0))
+      by true true false m = m .1
+      by true false w m = m .1
+      by false q w m = m .1
+
+  pub write-promise : RecordWritten hold N outputs buf r after
+  write-promise = record { taken = taken; only-then = good; reads-back = reads-back; later = later; unchanged = unchanged }
+
+-- ---- read, then written
+
+pub read-write-promise : (N : ℕ) (plan : List ℕ) → ((i : ℕ) → getD plan i 0 < 256) → (at : ℕ) (s : Stepped) → StepAt N plan at s → s .step ≡ step.Record
+    → (buf : List ℕ) → 68 ≤ length buf → (r : Outcome) (after : List ℕ) → WriteRecord (s .hold) N (s .outputs) buf r after → WrittenAgain plan at s buf r after
+read-write-promise N plan byte at s e found buf room r after met = record {
+  taken = met .0 ∙ ap (λ (w : Written). w .answer) again;
+  same = ap (take 68) bytes ∙ laid-front buf (recordAt 64 plan at) 68 size;
+  later = ap (drop 68) bytes ∙ laid-behind buf (recordAt 64 plan at) 68 size;
+}
+  where
+    gives : stepAt N plan at .step ≡ step.Record
+    gives = ap (λ (x : Stepped). x .step) (sym e) ∙ found
+
+    size : length (recordAt 64 plan at) ≡ 68
+    size = record-size 64 plan at (record-fits 64 plan at (whole 64 plan) (gave N plan at gives .inside) (whole-fits 64 plan))
+
+    again : written (s .hold) N (s .outputs) buf ≡ record { answer = Done (planCounts 1 0 (s .hold)); bytes = laid buf 0 (recordAt 64 plan at) }
+    again = subst (λ (x : Stepped). written (x .hold) N (x .outputs) buf ≡ record { answer = Done (planCounts 1 0 (x .hold)); bytes = laid buf 0 (recordAt 64 plan at) })
+        (sym e) (read-write N plan at gives byte buf room)
+
+    bytes : after ≡ laid buf 0 (recordAt 64 plan at)
+    bytes = met .1 ∙ ap (λ (w : Written). w .bytes) again

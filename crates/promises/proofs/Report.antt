@@ -1,0 +1,86 @@
+-- Each byte of a report is its record's number, which is the most inputs that share one wavelength; a rotation's is N.
+use mathlib.Core.Path.{_≡_, refl, sym, ap, _∙_, subst}
+use mathlib.Core.List.{List}
+use Prim.Native.Nat.{ℕ, _<_, _≤_}
+use native.Mathlib.Decide.{decLt}
+use native.Mathlib.Omega.{arith}
+use lib.ListN.{length, getD}
+use Rattle.switch.specs.declared.Outcome.{Outcome}
+use Rattle.switch.specs.declared.Outcome.the-variants.{Done, Refused}
+use Rattle.switch.specs.declared.Refusal.{Refusal}
+use Rattle.switch.specs.declared.Counts.{Counts}
+use Rattle.records.specs.Record.{decoded}
+use Rattle.records.specs.Bytes.{recordAt, whole}
+use Rattle.records.specs.Write.{Written, refuses}
+use Rattle.plans.specs.declared.Edition.{Edition}
+use Rattle.plans.specs.Read.{firstEdition, Bounded, checking}
+use Rattle.plans.proofs.Read.{first-bounded}
+use Rattle.plans.proofs.Plans.{checked}
+use Rattle.rules.specs.Exact.{tab}
+use Rattle.rules.specs.Doubled.{rotate}
+use Rattle.rules.proofs.Doubled.{held-output}
+use Rattle.rules.proofs.Rotate.{rotate-in}
+use Rattle.wavelengths.specs.Shared.{mostShared, MostShared}
+use Rattle.wavelengths.specs.Report.{reported}
+use Rattle.wavelengths.proofs.Shared.{rotation-shares}
+use Rattle.wavelengths.proofs.Report.{report-refused, report-short, report-done}
+use Rattle.wavelengths.proofs.Promise.{says, later-untouched, same-size}
+use Rattle.promises.specs.Calls.{Leaves, GratingReport}
+use Rattle.promises.specs.Reading.{GoodPlan}
+use Rattle.promises.specs.Report.{Reported}
+use Rattle.promises.proofs.Outcomes.{never, same-counts}
+use Rattle.promises.proofs.Reading.{good-checks, checks-good}
+
+module _ (E : Edition) (bounds : Bounded E) (N : ℕ) (plan buf : List ℕ) (r : Outcome) (after : List ℕ)
+    (met : let x = reported E N plan buf in Leaves (x .answer) (x .bytes) r after) where
+  refused : (x : Refusal) → refuses x buf ≡ reported E N plan buf → (GoodPlan E N plan → whole (E .width) plan ≤ length buf → ⊥) → Reported E N plan buf r after
+  refused x e bad =
+      let is : r ≡ Refused x = met .0 ∙ ap (λ (y : Written). y .answer) (sym e) in
+      let same : after ≡ buf = met .1 ∙ ap (λ (y : Written). y .bytes) (sym e) in
+      record {
+        taken = λ g l. absurd (bad g l);
+        only-then = λ c q. never (sym is ∙ q);
+        says = λ c q. never (sym is ∙ q);
+        later = λ c q. never (sym is ∙ q);
+        size = ap length same;
+        unchanged = λ _. same;
+      }
+
+  module _ (o : Counts) (fine : checking E N plan ≡ Done o) where
+    count : o .records ≡ whole (E .width) plan
+    count = ap (λ (x : Counts). x .records) (checked E N plan bounds o (sym fine) .counts)
+
+    module _ (room : o .records ≤ length buf) where
+      is : r ≡ Done o
+      is = met .0 ∙ ap (λ (y : Written). y .answer) (sym (report-done E N plan buf (sym fine) room))
+
+      done : Reported E N plan buf r after
+      done = record {
+        taken = λ g l. is ∙ sym fine ∙ good-checks E N plan bounds g;
+        only-then = λ c q. (checks-good E N plan bounds o fine, omega (arith, count));
+        says = λ c q k l. subst (λ (b : List ℕ). MostShared N (decoded (recordAt (E .width) plan k)) (getD b k 0)) (sym (met .1))
+            (says E bounds N plan buf (sym fine) room k (omega (arith, ap (λ (x : Counts). x .records) (same-counts (sym is ∙ q)))));
+        later = λ c q k l. ap (λ (b : List ℕ). getD b k 0) (met .1)
+            ∙ later-untouched E bounds N plan buf (sym fine) room k (omega (arith, ap (λ (x : Counts). x .records) (same-counts (sym is ∙ q))));
+        size = ap length (met .1) ∙ same-size E bounds N plan buf (sym fine) room;
+        unchanged = λ n. absurd (n o is);
+      }
+
+  pub reports : Reported E N plan buf r after
+  reports = by (checking E N plan) refl
+    where
+      by : (o : Outcome) → checking E N plan ≡ o → Reported E N plan buf r after
+      by (Refused x) e = refused x (report-refused E N plan buf (sym e)) (λ g l. never (sym e ∙ good-checks E N plan bounds g))
+      by (Done o) e = room (decLt (length buf) (o .records))
+        where
+          room : Dec (length buf < o .records) → Reported E N plan buf r after
+          room (yes l) = refused _ (report-short E N plan buf (sym e) l) (λ g h. omega (arith, count o e))
+          room (no l) = done o e (omega (arith, l))
+
+-- the report of a plan
+pub report-promise : (N : ℕ) (plan buf : List ℕ) (r : Outcome) (after : List ℕ) → GratingReport N plan buf r after → Reported firstEdition N plan buf r after
+report-promise N plan buf r after met = reports firstEdition first-bounded N plan buf r after met
+
+-- a rotation's number is N
+pub rotation-report : (W N h k : ℕ) → N ≤ W → k < N → mostShared N (record { hold = h; outputs = tab W 0 (rotate N k) }) ≡ N
+rotation-report W N h k top l = rotation-shares N _ k l (λ i li. held-output W (rotate N) (λ _. h) N top h (rotate N k) i li ∙ rotate-in N k i li)

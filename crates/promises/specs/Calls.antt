@@ -1,0 +1,166 @@
+-- The contract of each public call, as a statement about its answer and about what it leaves in lent memory. Definitions only.
+use mathlib.Core.Path.{_≡_}
+use mathlib.Core.List.{List}
+use Prim.Native.Nat.{ℕ}
+use lib.ListN.{length, take}
+use denote.Ref.{RefT, now}
+use Rattle.switch.specs.declared.Outcome.{Outcome}
+use Rattle.wish.specs.declared.Wish.{Wish}
+use Rattle.wish.specs.Wish.{wishBits}
+use Rattle.wishes.specs.Wishes.{outcome, cellsAfter}
+use Rattle.rules.specs.Exact.{exactPlan}
+use Rattle.rules.specs.Doubled.{doubledPlan, tightPlan}
+use Rattle.rules.specs.Quick.{quickPlan}
+use Rattle.planner.specs.Planned.{planned, plannedUpTo}
+use Rattle.records.specs.Bytes.{laid}
+use Rattle.records.specs.Write.{written}
+use Rattle.plans.specs.declared.Stepped.{Stepped}
+use Rattle.plans.specs.Read.{firstEdition, opening, stepAt}
+use Rattle.reader.specs.declared.Reader.{Reader}
+use Rattle.reader.specs.declared.Opened.{Opened}
+use Rattle.reader.specs.Reader.{starting, movedTo}
+use Rattle.audit.specs.Check.{checkPlan}
+use Rattle.audit.specs.Length.{planLength}
+use Rattle.joining.specs.Join.{joining}
+use Rattle.wavelengths.specs.Report.{reported}
+use Rattle.grating.specs.Grating.{gratingPlanned}
+use Rattle.listing.specs.Listing.{listingOf}
+use Rattle.chordvenus.specs.declared.CvAnswer.{CvAnswer}
+use Rattle.chordvenus.specs.declared.CvStep.{CvStep}
+use Rattle.chordvenus.specs.Flat.{flat, flatWish, flatStep}
+
+-- the answer is x, and the lent memory is m afterwards
+abbrev pub Leaves : {A : Type 0} → A → List ℕ → A → List ℕ → Type 0
+Leaves x m r after = (r ≡ x) × (after ≡ m)
+
+-- ---- wishes
+
+-- wish::of_bits(bits)
+abbrev pub OfBits : ℕ → Wish → Type 0
+OfBits bits r = r ≡ wishBits bits
+
+-- wishes::wishes(n, list, cells)
+abbrev pub WishList : ℕ → List ℕ → List ℕ → Outcome → List ℕ → Type 0
+WishList N list cells = Leaves (outcome 64 N list (length cells)) (cellsAfter 64 N list cells)
+
+-- ---- planners, of a demand d into a plan's buffer
+
+-- exact::exact_plan(n, cells, plan)
+abbrev pub ExactPlan : ℕ → List ℕ → List ℕ → Outcome → List ℕ → Type 0
+ExactPlan N d buf = let x = planned 64 0 N d (exactPlan 64 N d) buf in Leaves (x .outcome) (x .bytes)
+
+-- doubled::doubled_plan(n, cells, plan)
+abbrev pub DoubledPlan : ℕ → List ℕ → List ℕ → Outcome → List ℕ → Type 0
+DoubledPlan N d buf = let x = planned 64 0 N d (tightPlan 64 N d) buf in Leaves (x .outcome) (x .bytes)
+
+-- doubled::doubled_plan_every_rotation(n, cells, plan)
+abbrev pub EveryRotation : ℕ → List ℕ → List ℕ → Outcome → List ℕ → Type 0
+EveryRotation N d buf = let x = planned 64 0 N d (doubledPlan 64 N d) buf in Leaves (x .outcome) (x .bytes)
+
+-- quick::quick_plan(n, cells, plan)
+abbrev pub QuickPlan : ℕ → List ℕ → List ℕ → Outcome → List ℕ → Type 0
+QuickPlan N d buf = let x = plannedUpTo 1024 64 0 N d (quickPlan 64 N d) buf in Leaves (x .outcome) (x .bytes)
+
+-- grating::grating_doubled(n, cells, plan)
+abbrev pub GratingDoubled : ℕ → List ℕ → List ℕ → Outcome → List ℕ → Type 0
+GratingDoubled N d buf = let x = gratingPlanned 64 0 N d buf in Leaves (x .outcome) (x .bytes)
+
+-- ---- plans
+
+-- records::write_record(hold, n, outputs, plan)
+abbrev pub WriteRecord : ℕ → ℕ → List ℕ → List ℕ → Outcome → List ℕ → Type 0
+WriteRecord hold N outputs buf = let x = written hold N outputs buf in Leaves (x .answer) (x .bytes)
+
+-- plans::open_plan(n, plan)
+abbrev pub OpenPlan : ℕ → List ℕ → Outcome → Type 0
+OpenPlan N plan r = r ≡ opening firstEdition N plan
+
+-- plans::step_at(n, plan, at); reader::first_step(n, plan) is the same at 0
+abbrev pub StepAt : ℕ → List ℕ → ℕ → Stepped → Type 0
+StepAt N plan at s = s ≡ stepAt N plan at
+
+-- reader::open(n, plan)
+abbrev pub OpenReader : ℕ → RefT (List ℕ) → Opened → Type 0
+OpenReader N plan o = (o .answer ≡ opening firstEdition N (now plan)) × (o .reader ≡ starting N plan)
+
+-- Reader::step(&mut self), of a reader r that is r' afterwards
+abbrev pub ReaderStep : Reader → Stepped → Reader → Type 0
+ReaderStep r s r' = (s ≡ stepAt (r .n) (now (r .plan)) (r .at)) × (r' ≡ movedTo r (s .next))
+
+-- audit::check_plan(n, cells, plan)
+abbrev pub CheckPlan : ℕ → List ℕ → List ℕ → Outcome → Type 0
+CheckPlan N d plan r = r ≡ checkPlan firstEdition N d plan
+
+-- audit::plan_length(n, plan, d)
+abbrev pub PlanLength : ℕ → List ℕ → ℕ → Outcome → Type 0
+PlanLength N plan d r = r ≡ planLength firstEdition d N plan
+
+-- joining::join_plan(n, plan, joined)
+abbrev pub JoinPlan : ℕ → List ℕ → List ℕ → Outcome → List ℕ → Type 0
+JoinPlan N plan buf = let x = joining firstEdition N plan buf in Leaves (x .outcome) (x .bytes)
+
+-- wavelengths::grating_report(n, plan, report)
+abbrev pub GratingReport : ℕ → List ℕ → List ℕ → Outcome → List ℕ → Type 0
+GratingReport N plan buf = let x = reported firstEdition N plan buf in Leaves (x .answer) (x .bytes)
+
+-- ---- listing::listing(input, text)
+abbrev pub Listing : List ℕ → List ℕ → ℕ → List ℕ → Type 0
+Listing input text r after = (r ≡ length (listingOf input)) × (after ≡ laid text 0 (listingOf input)) × (take r after ≡ listingOf input)
+
+-- ---- the edge: the same, an outcome told by its numbers
+
+-- cv_wish(bits)
+abbrev pub CvWish : ℕ → CvAnswer → Type 0
+CvWish bits r = r ≡ flatWish (wishBits bits)
+
+-- cv_wishes(n, list, cells)
+abbrev pub CvWishes : ℕ → List ℕ → List ℕ → CvAnswer → List ℕ → Type 0
+CvWishes N list cells = Leaves (flat (outcome 64 N list (length cells))) (cellsAfter 64 N list cells)
+
+-- cv_exact(n, cells, plan)
+abbrev pub CvExact : ℕ → List ℕ → List ℕ → CvAnswer → List ℕ → Type 0
+CvExact N d buf = let x = planned 64 0 N d (exactPlan 64 N d) buf in Leaves (flat (x .outcome)) (x .bytes)
+
+-- cv_doubled(n, cells, plan)
+abbrev pub CvDoubled : ℕ → List ℕ → List ℕ → CvAnswer → List ℕ → Type 0
+CvDoubled N d buf = let x = planned 64 0 N d (tightPlan 64 N d) buf in Leaves (flat (x .outcome)) (x .bytes)
+
+-- cv_doubled_every_rotation(n, cells, plan)
+abbrev pub CvEveryRotation : ℕ → List ℕ → List ℕ → CvAnswer → List ℕ → Type 0
+CvEveryRotation N d buf = let x = planned 64 0 N d (doubledPlan 64 N d) buf in Leaves (flat (x .outcome)) (x .bytes)
+
+-- cv_quick(n, cells, plan)
+abbrev pub CvQuick : ℕ → List ℕ → List ℕ → CvAnswer → List ℕ → Type 0
+CvQuick N d buf = let x = plannedUpTo 1024 64 0 N d (quickPlan 64 N d) buf in Leaves (flat (x .outcome)) (x .bytes)
+
+-- cv_grating_doubled(n, cells, plan)
+abbrev pub CvGratingDoubled : ℕ → List ℕ → List ℕ → CvAnswer → List ℕ → Type 0
+CvGratingDoubled N d buf = let x = gratingPlanned 64 0 N d buf in Leaves (flat (x .outcome)) (x .bytes)
+
+-- cv_grating_report(n, plan, report)
+abbrev pub CvGratingReport : ℕ → List ℕ → List ℕ → CvAnswer → List ℕ → Type 0
+CvGratingReport N plan buf = let x = reported firstEdition N plan buf in Leaves (flat (x .answer)) (x .bytes)
+
+-- cv_check(n, cells, plan)
+abbrev pub CvCheck : ℕ → List ℕ → List ℕ → CvAnswer → Type 0
+CvCheck N d plan r = r ≡ flat (checkPlan firstEdition N d plan)
+
+-- cv_length(n, plan, d)
+abbrev pub CvLength : ℕ → List ℕ → ℕ → CvAnswer → Type 0
+CvLength N plan d r = r ≡ flat (planLength firstEdition d N plan)
+
+-- cv_join(n, plan, joined)
+abbrev pub CvJoin : ℕ → List ℕ → List ℕ → CvAnswer → List ℕ → Type 0
+CvJoin N plan buf = let x = joining firstEdition N plan buf in Leaves (flat (x .outcome)) (x .bytes)
+
+-- cv_write(hold, n, outputs, plan)
+abbrev pub CvWrite : ℕ → ℕ → List ℕ → List ℕ → CvAnswer → List ℕ → Type 0
+CvWrite hold N outputs buf = let x = written hold N outputs buf in Leaves (flat (x .answer)) (x .bytes)
+
+-- cv_open(n, plan)
+abbrev pub CvOpen : ℕ → List ℕ → CvAnswer → Type 0
+CvOpen N plan r = r ≡ flat (opening firstEdition N plan)
+
+-- cv_step_at(n, plan, at)
+abbrev pub CvStepAt : ℕ → List ℕ → ℕ → CvStep → Type 0
+CvStepAt N plan at r = r ≡ flatStep (stepAt N plan at)

@@ -1,0 +1,45 @@
+-- What joining equal settings comes to. Definitions only.
+use mathlib.Core.Path.{_≡_}
+use mathlib.Core.List.{List}
+use Prim.Native.Nat.{ℕ, _+_, _*_, _≤_}
+use lib.ListN.{length, take, drop}
+use Rattle.switch.specs.declared.Outcome.{Outcome}
+use Rattle.switch.specs.declared.Outcome.the-variants.{Done}
+use Rattle.switch.specs.declared.Counts.{Counts}
+use Rattle.switch.specs.Answer.{planCounts}
+use Rattle.switch.specs.Plan.{Record, grant, total}
+use Rattle.records.specs.Bytes.{whole, planOf}
+use Rattle.plans.specs.declared.Edition.{Edition}
+use Rattle.settings.specs.Sums.{sums, Summed}
+use Rattle.joining.specs.Join.{cut, joinPlan, joining}
+use Rattle.promises.specs.Reading.{GoodPlan}
+
+-- the plan q does what p did, with no more records; its records are the settings of p in order of first appearance, each with its holds summed
+-- and the sums cut into records of at most 65,535
+pub record JoinOf (p q : List Record) : Type 0 where
+  pub grants : (i j : ℕ) → grant q i j ≡ grant p i j
+  pub holds : total q ≡ total p
+  pub no-more : length q ≤ length p
+  pub summed : Summed p (sums p)
+  pub cuts : q ≡ cut (sums p)
+
+-- the plan that is joined of a plan's bytes, and the part of a buffer that c records take
+abbrev pub joinedOf : Edition → List ℕ → List Record
+joinedOf E plan = joinPlan (planOf (E .width) plan)
+
+abbrev pub part : Edition → Counts → List ℕ → List ℕ
+part E c b = take (c .records * (E .width + 4)) b
+
+-- the answer r, and the second buffer afterwards
+pub record Joined (E : Edition) (N : ℕ) (plan buf : List ℕ) (r : Outcome) (after : List ℕ) : Type 0 where
+  -- code 0 exactly when nothing is wrong with the plan and there is room for the joined one, with the joined one's records and the plan's total
+  pub taken : GoodPlan E N plan → length (joinedOf E plan) ≤ whole (E .width) buf
+      → r ≡ Done (planCounts (length (joinedOf E plan)) 0 (total (planOf (E .width) plan)))
+  pub only-then : (c : Counts) → r ≡ Done c → GoodPlan E N plan × (length (joinedOf E plan) ≤ whole (E .width) buf)
+  -- then the records written are the join, and no byte behind them is touched
+  pub joins : (c : Counts) → r ≡ Done c → JoinOf (planOf (E .width) plan) (planOf (E .width) (part E c after))
+  pub later : (c : Counts) → r ≡ Done c → drop (c .records * (E .width + 4)) after ≡ drop (c .records * (E .width + 4)) buf
+  -- joined once more, into any buffer, they give there what the plan itself gives
+  pub twice : (c : Counts) → r ≡ Done c → (next : List ℕ) → joining E N (part E c after) next ≡ joining E N plan next
+  -- and else no byte is touched
+  pub unchanged : ((c : Counts) → r ≡ Done c → ⊥) → after ≡ buf

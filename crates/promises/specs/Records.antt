@@ -1,0 +1,38 @@
+-- What writing one record comes to, and writing one that was read. Definitions only.
+use mathlib.Core.Path.{_≡_}
+use mathlib.Core.List.{List}
+use Prim.Native.Nat.{ℕ, _<_, _≤_}
+use lib.ListN.{length, take, drop}
+use Rattle.switch.specs.declared.Outcome.{Outcome}
+use Rattle.switch.specs.declared.Outcome.the-variants.{Done}
+use Rattle.switch.specs.declared.Counts.{Counts}
+use Rattle.switch.specs.Answer.{planCounts}
+use Rattle.records.specs.Record.{Sound}
+use Rattle.records.specs.Bytes.{recordAt}
+use Rattle.plans.specs.declared.Step.the-variants as step
+use Rattle.plans.specs.declared.Stepped.{Stepped}
+use Rattle.plans.specs.Read.{stepAt}
+
+-- a hold and outputs that can be written for N ports into so many bytes
+pub record GoodRecord (hold N : ℕ) (outputs : List ℕ) (size : ℕ) : Type 0 where
+  pub some : 0 < N
+  pub few : N ≤ 64
+  pub room : 68 ≤ size
+  pub sound : Sound 64 N (record { hold = hold; outputs = outputs })
+
+-- the answer r, and the buffer afterwards
+pub record RecordWritten (hold N : ℕ) (outputs buf : List ℕ) (r : Outcome) (after : List ℕ) : Type 0 where
+  -- code 0 exactly when nothing is wrong, with 1 record and its hold as total
+  pub taken : GoodRecord hold N outputs (length buf) → r ≡ Done (planCounts 1 0 hold)
+  pub only-then : (c : Counts) → r ≡ Done c → GoodRecord hold N outputs (length buf)
+  -- then the first 68 bytes read back as the same hold and outputs, and no byte behind them is touched
+  pub reads-back : (c : Counts) → r ≡ Done c → stepAt N (take 68 after) 0 ≡ record { step = step.Record; hold = hold; outputs = outputs; next = 1 }
+  pub later : (c : Counts) → r ≡ Done c → drop 68 after ≡ drop 68 buf
+  -- and else no byte is
+  pub unchanged : ((c : Counts) → r ≡ Done c → ⊥) → after ≡ buf
+
+-- record `at` of a plan, read as s and written again
+pub record WrittenAgain (plan : List ℕ) (at : ℕ) (s : Stepped) (buf : List ℕ) (r : Outcome) (after : List ℕ) : Type 0 where
+  pub taken : r ≡ Done (planCounts 1 0 (s .hold))
+  pub same : take 68 after ≡ recordAt 64 plan at
+  pub later : drop 68 after ≡ drop 68 buf
