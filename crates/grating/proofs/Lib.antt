@@ -2,4 +2,3 @@ pub mod First
 pub mod Both
 pub mod Divided
 pub mod Answer
-pub mod Promise

@@ -36,7 +36,8 @@ module _ (E : Edition) (bounds : Bounded E) (N : ℕ) (plan : List ℕ) (byte : 
   p = planOf (E .width) plan
 
   -- what a refusal leaves to show
-  refused : (x : Refusal) → refuses x buf ≡ joining E N plan buf → (GoodPlan E N plan → length (joinPlan p) ≤ whole (E .width) buf → ⊥) → Joined E N plan buf r after
+  refused : (x : Refusal) → refuses x buf ≡ joining E N plan buf → (GoodPlan E N plan → length (joinPlan p) ≤ whole (E .width) buf → ⊥)
+      → Joined E N plan buf r after
   refused x e bad =
       let is : r ≡ Refused x = met .0 ∙ ap (λ (y : Planned). y .outcome) (sym e) in
       record {

@@ -8,3 +8,6 @@ pub mod Reading
 pub mod Length
 pub mod Joined
 pub mod Report
+pub mod Listing
+pub mod Grating
+pub mod Worked

@@ -11,11 +11,11 @@ use Rattle.promises.specs.Calls as call
 
 -- what equals one thing
 one : {A : Type 0} (x : A) → OneAnswer (λ r. r ≡ x)
-one x p q = p ∙ sym q
+one x a b p q = p ∙ sym q
 
 -- and in lent memory
 both : {A : Type 0} (x : A) (m : List ℕ) → OneResult (call.Leaves x m)
-both x m p q = (one x (p .0) (q .0), one m (p .1) (q .1))
+both x m a b k l p q = (one x a b (p .0) (q .0), one m k l (p .1) (q .1))
 
 -- ---- the calls
 
@@ -51,11 +51,11 @@ step-one-answer N plan at = one _
 
 -- a reader and the step that it takes
 pub reader-one-answer : (N : ℕ) (plan : RefT (List ℕ)) → OneAnswer (call.OpenReader N plan)
-reader-one-answer N plan {a} {b} p q = λ i. record { answer = one _ (p .0) (q .0) i; reader = one _ (p .1) (q .1) i }
+reader-one-answer N plan a b p q = λ i. record { answer = one _ _ _ (p .0) (q .0) i; reader = one _ _ _ (p .1) (q .1) i }
 
 pub reader-step-one-result : (r : Reader) → OneResult (call.ReaderStep r)
-reader-step-one-result r {a} {b} p q =
-    let same : a ≡ b = one _ (p .0) (q .0) in
+reader-step-one-result r a b l m p q =
+    let same : a ≡ b = one _ a b (p .0) (q .0) in
     (same, p .1 ∙ ap (λ (s : Stepped). movedTo r (s .next)) same ∙ sym (q .1))
 
 pub check-one-answer : (N : ℕ) (d plan : List ℕ) → OneAnswer (call.CheckPlan N d plan)
@@ -71,7 +71,7 @@ pub grating-report-one-result : (N : ℕ) (plan buf : List ℕ) → OneResult (c
 grating-report-one-result N plan buf = both _ _
 
 pub listing-one-result : (input text : List ℕ) → OneResult (call.Listing input text)
-listing-one-result input text p q = (one _ (p .0) (q .0), one _ (p .1) (q .1))
+listing-one-result input text a b l m p q = (one _ a b (p .0) (q .0), one _ l m (p .1) (q .1))
 
 -- ---- the edge
 

@@ -22,7 +22,8 @@ use Rattle.plans.specs.declared.Edition.{Edition}
 use Rattle.plans.specs.declared.Step.the-variants as step
 use Rattle.plans.specs.declared.Stepped.{Stepped}
 use Rattle.plans.specs.Read.{firstEdition, Bounded, opening, given, nothing, stepIn, stepAt, malformed, checking}
-use Rattle.plans.proofs.Read.{first-bounded, opening-done, check-malformed, check-opened, opened, opened-records, step-end, step-malformed, step-record, step-opened, step-refused}
+use Rattle.plans.proofs.Read.{first-bounded, opening-done, opened, opened-records, check-malformed, check-opened}
+use Rattle.plans.proofs.Read.{step-end, step-malformed, step-record, step-opened, step-refused}
 use Rattle.plans.proofs.Plans.{passes, malformed-first, checked}
 use Rattle.reader.specs.declared.Reader.{Reader}
 use Rattle.reader.specs.declared.Opened.{Opened}
@@ -121,7 +122,8 @@ module _ (N : ℕ) (plan : List ℕ) (c : Counts) (opens : opening firstEdition 
   -- one step
   pub step-promise : (at : ℕ) (s : Stepped) → StepAt N plan at s → StepGives N plan at s
   step-promise at s met = record {
-    gives = λ l w. met ∙ sym (step-record (c .records) N plan at (omega (arith, count)) (means-fine firstEdition N plan first-bounded (known .few) at l w) ∙ there);
+    gives = λ l w. met
+        ∙ sym (step-record (c .records) N plan at (omega (arith, count)) (means-fine firstEdition N plan first-bounded (known .few) at l w) ∙ there);
     damage = λ l w. met ∙ sym (step-malformed (c .records) N plan at (omega (arith, count)) (not-fine l w (fine 64 0 N plan at) refl) ∙ there);
     end = λ l. met ∙ sym (step-end (c .records) N plan at (omega (arith, count)) ∙ there);
   }
@@ -152,12 +154,13 @@ module _ (N : ℕ) (plan : List ℕ) (c : Counts) (opens : opening firstEdition 
   goes-on : (k : ℕ) → stepAt N plan (place k) .next ≡ place (k + 1)
   goes-on k = by (decLt k f) (decLt f m)
     where
+      from : (j : ℕ) → place k ≡ j → {s : Stepped} → stepAt N plan j ≡ s → stepAt N plan (place k) .next ≡ s .next
+      from j e q = ap (λ (i : ℕ). stepAt N plan i .next) e ∙ ap (λ (s : Stepped). s .next) q
+
       by : Dec (k < f) → Dec (f < m) → stepAt N plan (place k) .next ≡ place (k + 1)
-      by (yes l) _ = ap (λ (j : ℕ). stepAt N plan j .next) (let e : place k ≡ k = omega arith in e) ∙ ap (λ (s : Stepped). s .next) (at-record k l) ∙ omega arith
-      by (no g) (yes l) = ap (λ (j : ℕ). stepAt N plan j .next) (let e : place k ≡ f = omega (arith, g) in e) ∙ ap (λ (s : Stepped). s .next) (at-damage l) ∙ omega (arith, g)
-      by (no g) (no h) =
-          ap (λ (j : ℕ). stepAt N plan j .next) (let e : place k ≡ f = omega (arith, g) in e)
-          ∙ ap (λ (s : Stepped). s .next) (at-end (omega (arith, h, damaged .inside))) ∙ omega (arith, g)
+      by (yes l) _ = from k (omega arith) (at-record k l) ∙ omega arith
+      by (no g) (yes l) = from f (omega (arith, g)) (at-damage l) ∙ omega (arith, g)
+      by (no g) (no h) = from f (omega (arith, g)) (at-end (omega (arith, h, damaged .inside))) ∙ omega (arith, g)
 
   read-step : (k : ℕ) (s : Stepped) → s ≡ stepAt N plan (place k) → ReadStep N plan k s
   read-step k s e = record {

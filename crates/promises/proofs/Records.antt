@@ -31,7 +31,9 @@ use Rattle.promises.specs.Records.{GoodRecord, RecordWritten, WrittenAga
 
 module _ (hold N : ℕ) (outputs buf : List ℕ) (long : length outputs ≡ 64) (r : Outcome) (after : List ℕ) (met : WriteRecord hold N outputs buf r after) where
   taken : GoodRecord hold N outputs (length buf) → r ≡ Done (planCounts 1 0 hold)
-  taken g = met .0 ∙ sym (ap (λ (w : Written). w .answer) (write-done hold N outputs buf (g .some) (g .few) (g .room) (encode-sound 64 0 N _ (g .few) (omega (arith, g .few)) (g .sound))))
+  taken g =
+      let fine = encode-sound 64 0 N _ (g .few) (omega (arith, g .few)) (g .sound) in
+      met .0 ∙ sym (ap (λ (w : Written). w .answer) (write-done hold N outputs buf (g .some) (g .few) (g .room) fine))
 
   module _ (c : Counts) (done : r ≡ Done c) where
     good : GoodRecord hold N outputs (length buf)
@@ -50,7 +52,8 @@ module _ (hold N : ℕ) (outputs buf : List ℕ) (long : length outputs ≡ 64) 
   unfolding written
   unchanged n = by (portsFine 64 N) (leb 68 (length buf)) (wellFormed 64 0 N (encode 0 hold N outputs)) met
     where
-      by : (p q w : Bool) → let x = cond p (cond q (cond w (writes hold N outputs buf) (refuses (Malformed 0) buf)) (refuses (Room 1) buf)) (refuses Ports buf) in
+      by : (p q w : Bool)
+          → let x = cond p (cond q (cond w (writes hold N outputs buf) (refuses (Malformed 0) buf)) (refuses (Room 1) buf)) (refuses Ports buf) in
           Leaves (x .answer) (x .bytes) r after → after ≡ buf
       by true true true m = absurd (n _ (m .0))
       by true true false m = m .1
@@ -77,8 +80,9 @@ read-write-promise N plan byte at s e found buf room r after met = record {
     size = record-size 64 plan at (record-fits 64 plan at (whole 64 plan) (gave N plan at gives .inside) (whole-fits 64 plan))
 
     again : written (s .hold) N (s .outputs) buf ≡ record { answer = Done (planCounts 1 0 (s .hold)); bytes = laid buf 0 (recordAt 64 plan at) }
-    again = subst (λ (x : Stepped). written (x .hold) N (x .outputs) buf ≡ record { answer = Done (planCounts 1 0 (x .hold)); bytes = laid buf 0 (recordAt 64 plan at) })
-        (sym e) (read-write N plan at gives byte buf room)
+    again =
+        subst (λ (x : Stepped). written (x .hold) N (x .outputs) buf
+        ≡ record { answer = Done (planCounts 1 0 (x .hold)); bytes = laid buf 0 (recordAt 64 plan at) }) (sym e) (read-write N plan at gives byte buf room)
 
     bytes : after ≡ laid buf 0 (recordAt 64 plan at)
     bytes = met .1 ∙ ap (λ (w : Written). w .bytes) again

@@ -76,7 +76,13 @@ unfolding wishBits
 wish-promise bits w e =
     let x = ofBits binary32 bits in
     let a : Answers x w = subst (Answers x) (sym e) (said x) in
-    record { answers = a; taken = range-taken a; only-then = in-range a; two = λ above z. above-two x (slotsOf w) above (sym e ∙ slots-are w z); most = few-slots a }
+    record {
+      answers = a;
+      taken = range-taken a;
+      only-then = in-range a;
+      two = λ above z. above-two x (slotsOf w) above (sym e ∙ slots-are w z);
+      most = few-slots a;
+    }
 
 -- ---- a record without a fault
 
@@ -128,6 +134,10 @@ unfolding firstFault
 none-first N list zero h = refl
 none-first N list (suc m) h = rw (none-first N list m (λ k l. h k (omega arith)), h m (omega arith))
 
+-- a list with nothing wrong has no fault
+pub good-list : (N : ℕ) (list : List ℕ) (cells : ℕ) → GoodList N list cells → firstFault N list (length list / 8) ≡ Nothing
+good-list N list cells g = none-first N list (length list / 8) (λ k l. good-nothing N list k (g .each k l))
+
 -- ---- the list
 
 module _ (N : ℕ) (list cells : List ℕ) (r : Outcome) (after : List ℕ) (met : WishList N list cells r after) where
@@ -135,7 +145,8 @@ module _ (N : ℕ) (list cells : List ℕ) (r : Outcome) (after : List ℕ) (met
   count = length list / 8
 
   list-taken : GoodList N list (length cells) → r ≡ Done (planCounts count 0 0)
-  list-taken g = met .0 ∙ searched 64 N list (length cells) (some-ports 64 N (g .some) (g .few)) (g .square) (g .even) Nothing (none-first N list count (λ k l. good-nothing N list k (g .each k l)))
+  list-taken g = met .0 ∙ searched 64 N list (length cells) (some-ports 64 N (g .some) (g .few)) (g .square) (g .even) Nothing
+      (good-list N list (length cells) g)
 
   module _ (c : Counts) (done : r ≡ Done c) where
     refused : {x : Refusal} {A : Type 0} → outcome 64 N list (length cells) ≡ Refused x → A

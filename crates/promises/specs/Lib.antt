@@ -7,3 +7,5 @@ pub mod Reading
 pub mod Length
 pub mod Joined
 pub mod Report
+pub mod Listing
+pub mod Grating

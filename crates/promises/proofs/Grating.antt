@@ -1,0 +1,251 @@
+-- The plan covers within both doubled bounds by the one law of doubled plans, since the anti-rotations join every pair; its second part spreads
+-- the wavelengths; and what is written passes the checker and is reported so.
+use mathlib.Core.Path.{_≡_, refl, sym, ap, ap₂, _∙_, subst}
+use mathlib.Core.Bool.{cond}
+use mathlib.Core.List.{List, [], _++_, map, map-append}
+use Prim.Native.Nat.{ℕ, zero, suc, _+_, _*_, _-_, _≤_, _<_}
+use native.Mathlib.Decide.{ℕ-discrete, decLt}
+use native.Mathlib.Omega.{arith}
+use native.Mathlib.Nat.{le-of-eq, not-suc-le-zero}
+use lib.ListN.{length, getD, take, drop, length-map, length-append}
+use lib.Seq.{getD-append-add}
+use lib.Dec.{eqb}
+use borrow.Author.Tests.{eq-eqb, ne-eqb}
+use Rattle.counting.proofs.Most.{most-le}
+use Rattle.switch.specs.declared.Outcome.{Outcome}
+use Rattle.switch.specs.declared.Outcome.the-variants.{Done, Refused}
+use Rattle.switch.specs.declared.Refusal.{Refusal}
+use Rattle.switch.specs.declared.Refusal.the-variants.{Room}
+use Rattle.switch.specs.declared.Counts.{Counts}
+use Rattle.switch.specs.Answer.{planCounts, demandCounts}
+use Rattle.switch.specs.Empty.{emptySlots}
+use Rattle.switch.specs.Demand.{cell, longest}
+use Rattle.switch.specs.Plan.{Record, total}
+use Rattle.demand.specs.Check.{checkDemand, Asked}
+use Rattle.demand.specs.declared.Checked.{Checked}
+use Rattle.demand.specs.declared.Checked.the-variants.{Fine, Faulty}
+use Rattle.demand.proofs.Check.{fine, fine-asked}
+use Rattle.switch.proofs.Check.{some-ports}
+use Rattle.rules.specs.Exact.{exactPlan}
+use Rattle.rules.specs.Doubled.{unit, divide, stretch, turns, tight, doubledBy, Doubled}
+use Rattle.rules.proofs.Tight.{doubled-tight}
+use Rattle.records.specs.Record.{Sound}
+use Rattle.records.specs.Bytes.{bytes, laid, whole, planOf, Each, none, more}
+use Rattle.records.specs.Write.{Written}
+use Rattle.records.proofs.Round.{planOf-bytes}
+use Rattle.records.proofs.Sound.{each-width}
+use Rattle.plans.specs.Read.{firstEdition, checking}
+use Rattle.plans.proofs.Read.{first-bounded}
+use Rattle.plans.proofs.Plans.{bytes-pass}
+use Rattle.planner.specs.Planned.{Planned}
+use Rattle.audit.specs.Check.{checkPlan}
+use Rattle.audit.proofs.Passes.{sound-passes}
+use Rattle.audit.proofs.Planners.{doubled-by-sound}
+use Rattle.wavelengths.specs.Shared.{sharing, mostShared, gratingReport}
+use Rattle.wavelengths.specs.Report.{reported}
+use Rattle.wavelengths.proofs.Report.{report-done}
+use Rattle.wavelengths.proofs.Promise.{laid-at}
+use Rattle.antirotations.specs.Opposite.{opposite, allowed, Spread}
+use Rattle.antirotations.proofs.Opposite.{opposite-joins, opposite-idle, second-spread}
+use Rattle.grating.specs.Grating.{gratingPlan, firstPart, secondPart, gratingPlanned}
+use Rattle.grating.proofs.Answer.{Both, short-answer, faulty-answer, fine-answer, done}
+use Rattle.promises.specs.Calls.{CheckPlan, GratingReport, GratingDoubled}
+use Rattle.promises.specs.Grating.{GratingGiven}
+use Rattle.promises.proofs.Outcomes.{never, same-counts}
+use Rattle.promises.proofs.Laid.{plan-front, plan-reads, plan-behind}
+
+-- ---- its parts
+
+pub grating-parts : (W N : ℕ) (d : List ℕ) → gratingPlan W N d ≡ firstPart W N d ++ secondPart W N d
+unfolding gratingPlan doubledBy firstPart secondPart
+grating-parts W N d = go (ℕ-discrete T 0)
+  where
+    T : ℕ
+    T = longest N (cell N d)
+
+    first : List Record
+    first = map (stretch (unit N T)) (exactPlan W N (divide (unit N T) d))
+
+    second : List Record
+    second = turns W (opposite N) (tight N (opposite N) d (unit N T)) N 0
+
+    go : Dec (T ≡ 0) → cond (eqb T 0) [] (first ++ second) ≡ cond (eqb T 0) [] first ++ cond (eqb T 0) [] second
+    go (yes e) = rw (eq-eqb T 0 e)
+    go (no e) = rw (ne-eqb T 0 e)
+
+-- the numbers of spread records
+spread-number : (N : ℕ) (r : Record) → Spread N r → mostShared N r ≤ allowed N
+unfolding mostShared
+spread-number N r s = most-le N (allowed N) (sharing N r) (λ w _. s .uses w)
+
+spread-report : (N : ℕ) {p : List Record} → Each (Spread N) p → (k : ℕ) → k < length p → getD (gratingReport N p) k 0 ≤ allowed N
+unfolding gratingReport
+spread-report N none k l = absurd (not-suc-le-zero l)
+spread-report N (more {r = r} s t) zero l = spread-number N r s
+spread-report N (more s t) (suc k) l = spread-report N t k (omega arith)
+
+report-length : (N : ℕ) (p : List Record) → length (gratingReport N p) ≡ length p
+unfolding gratingReport
+report-length N p = length-map p (mostShared N)
+
+report-append : (N : ℕ) (p q : List Record) → gratingReport N (p ++ q) ≡ gratingReport N p ++ gratingReport N q
+unfolding gratingReport
+report-append N p q = map-append (mostShared N) p q
+
+module _ (W N : ℕ) (pos : 0 < N) (top : N ≤ W) (d : List ℕ) (cells : N * N ≤ length d) where
+  -- at most 2N records, a total of at most 2T - 1, and it covers
+  pub grating-doubled : Doubled N d (gratingPlan W N d)
+  unfolding gratingPlan
+  grating-doubled = doubled-tight W N pos top (opposite N) (opposite-joins N pos) d cells
+
+  pub grating-sound : Each (Sound W N) (gratingPlan W N d)
+  unfolding gratingPlan
+  grating-sound = doubled-by-sound W N top pos (opposite N) (opposite-joins N pos) (opposite-idle N) (tight N (opposite N) d) d cells
+
+  -- each record of the second part uses a wavelength at most once when N is odd and at most twice when N is even
+  pub second-part-spread : Each (Spread N) (secondPart W N d)
+  unfolding secondPart
+  second-part-spread = go (ℕ-discrete T 0)
+    where
+      T : ℕ
+      T = longest N (cell N d)
+
+      H : ℕ → ℕ
+      H = tight N (opposite N) d (unit N T)
+
+      go : Dec (T ≡ 0) → Each (Spread N) (cond (eqb T 0) [] (turns W (opposite N) H N 0))
+      go (yes e) = rw (eq-eqb T 0 e) none
+      go (no e) = rw (ne-eqb T 0 e) (second-spread W N pos top H N 0)
+
+  -- and so the report says of it, whatever it says of the first part
+  pub plan-report : (k : ℕ) → length (firstPart W N d) ≤ k → k < length (gratingPlan W N d) → getD (gratingReport N (gratingPlan W N d)) k 0 ≤ allowed N
+  plan-report k from to = subst (λ (x : ℕ). x ≤ allowed N) (sym there) (spread-report N second-part-spread j inside)
+    where
+      a : ℕ
+      a = length (firstPart W N d)
+
+      j : ℕ
+      j = k - a
+
+      inside : j < length (secondPart W N d)
+      inside = omega (arith, ap length (grating-parts W N d), length-append (firstPart W N d) (secondPart W N d))
+
+      count : length (gratingReport N (firstPart W N d)) ≡ a
+      count = report-length N (firstPart W N d)
+
+      there : getD (gratingReport N (gratingPlan W N d)) k 0 ≡ getD (gratingReport N (secondPart W N d)) j 0
+      there =
+          ap₂ (λ (p : List Record) (i : ℕ). getD (gratingReport N p) i 0) (grating-parts W N d) (let e : k ≡ length (gratingReport N (firstPart W N d)) + j = omega (arith, count) in e)
+          ∙ ap (λ (s : List ℕ). getD s (length (gratingReport N (firstPart W N d)) + j) 0) (report-append N (firstPart W N d) (secondPart W N d))
+          ∙ getD-append-add (gratingReport N (firstPart W N d)) (gratingReport N (secondPart W N d)) j 0
+
+-- ---- the call
+
+module _ (N : ℕ) (d buf : List ℕ) (r : Outcome) (after : List ℕ) (met : GratingDoubled N d buf r after) where
+  abbrev plan : List Record
+  plan = gratingPlan 64 N d
+
+  abbrev T : ℕ
+  T = longest N (cell N d)
+
+  refused : (x : Refusal) → Both (gratingPlanned 64 0 N d buf) (Refused x) buf → (Asked 64 N T d → length plan ≤ whole 64 buf → ⊥) → GratingGiven N d buf r after
+  refused x e bad =
+      let is : r ≡ Refused x = met .0 ∙ sym (e .0) in
+      record {
+        taken = λ a l. absurd (bad a l);
+        only-then = λ c q. never (sym is ∙ q);
+        reads-back = λ c q. never (sym is ∙ q);
+        worth = λ c q. never (sym is ∙ q);
+        later = λ c q. never (sym is ∙ q);
+        passes = λ c q. never (sym is ∙ q);
+        reported = λ c q. never (sym is ∙ q);
+        unchanged = λ _. met .1 ∙ sym (e .1);
+      }
+
+  module _ (asks : checkDemand 64 N d ≡ Fine T) (room : length plan ≤ whole 64 buf) where
+    asked : Asked 64 N T d
+    asked = fine-asked 64 N T d asks
+
+    enough : N * N ≤ length d
+    enough = le-of-eq (sym (asked .size))
+
+    sound : Each (Sound 64 N) plan
+    sound = grating-sound 64 N (asked .some) (asked .few) d enough
+
+    worth : Doubled N d plan
+    worth = grating-doubled 64 N (asked .some) (asked .few) d enough
+
+    few : length plan ≤ 8192
+    few = omega (arith, worth .few, asked .few)
+
+    abbrev counts : Counts
+    counts = planCounts (length plan) 0 (total plan)
+
+    is : r ≡ Done counts
+    is = met .0 ∙ ap (λ (x : Planned). x .outcome) (sym (done 64 0 N plan buf room ∙ fine-answer 64 0 N d buf T asks))
+
+    lays : after ≡ laid buf 0 (bytes 0 N plan)
+    lays = met .1 ∙ ap (λ (x : Planned). x .bytes) (sym (done 64 0 N plan buf room ∙ fine-answer 64 0 N d buf T asks))
+
+    front : take (length plan * 68) after ≡ bytes 0 N plan
+    front = ap (take (length plan * 68)) lays ∙ plan-front 0 N 64 (each-width 64 N sound) buf
+
+    passes : (o : Outcome) → CheckPlan N d (take (length plan * 68) after) o → o ≡ Done (demandCounts (length plan) T (total plan) (emptySlots N (cell N d) plan))
+    passes o e = e ∙ ap (checkPlan firstEdition N d) front ∙ sound-passes firstEdition first-bounded N T d (sym asks) few sound (worth .covers)
+
+    -- what the report says of the second part
+    reported-less : (report : List ℕ) → length plan ≤ length report → (o : Outcome) (said : List ℕ) → GratingReport N (take (length plan * 68) after) report o said
+        → (k : ℕ) → length (firstPart 64 N d) ≤ k → k < length plan → getD said k 0 ≤ allowed N
+    reported-less report fits o said e k from to = subst (λ (x : ℕ). x ≤ allowed N) (sym at) (plan-report 64 N (asked .some) (asked .few) d enough k from to)
+      where
+        passed : checking firstEdition N (bytes 0 N plan) ≡ Done counts
+        passed = bytes-pass firstEdition first-bounded N (asked .some) (asked .few) few sound
+
+        same : gratingReport N (planOf 64 (bytes 0 N plan)) ≡ gratingReport N plan
+        same = ap (gratingReport N) (planOf-bytes 0 N 64 (each-width 64 N sound))
+
+        at : getD said k 0 ≡ getD (gratingReport N plan) k 0
+        at =
+            ap (λ (l : List ℕ). getD l k 0) (e .1) ∙ ap (λ (l : List ℕ). getD (reported firstEdition N l report .bytes) k 0) front
+            ∙ ap (λ (w : Written). getD (w .bytes) k 0) (sym (report-done firstEdition N (bytes 0 N plan) report (sym passed) fits))
+            ∙ laid-at report (gratingReport N (planOf 64 (bytes 0 N plan))) k (omega (arith, ap length same, report-length N plan))
+            ∙ ap (λ (l : List ℕ). getD l k 0) same
+
+    given : GratingGiven N d buf r after
+    given = record {
+      taken = λ a l. is;
+      only-then = λ c q. (asked, room);
+      reads-back = λ c q. told q (λ (x : Counts). planOf 64 (take (x .records * 68) after) ≡ plan)
+          (ap (λ (b : List ℕ). planOf 64 (take (length plan * 68) b)) lays ∙ plan-reads 0 N 64 (each-width 64 N sound) buf);
+      worth = λ c q. record {
+        doubled = worth;
+        parts = grating-parts 64 N d;
+        spread = second-part-spread 64 N (asked .some) (asked .few) d enough;
+      };
+      later = λ c q. told q (λ (x : Counts). drop (x .records * 68) after ≡ drop (x .records * 68) buf)
+          (ap (drop (length plan * 68)) lays ∙ plan-behind 0 N 64 (each-width 64 N sound) buf);
+      passes = λ c q. told q (λ (x : Counts). (o : Outcome) → CheckPlan N d (take (x .records * 68) after) o
+          → o ≡ Done (demandCounts (x .records) T (x .total) (emptySlots N (cell N d) plan))) passes;
+      reported = λ c q. told q (λ (x : Counts). (report : List ℕ) → x .records ≤ length report → (o : Outcome) (said : List ℕ)
+          → GratingReport N (take (x .records * 68) after) report o said → (k : ℕ) → length (firstPart 64 N d) ≤ k → k < x .records → getD said k 0 ≤ allowed N)
+          reported-less;
+      unchanged = λ n. absurd (n counts is);
+    }
+      where
+        told : {c : Counts} → r ≡ Done c → (P : Counts → Type 0) → P counts → P c
+        told q P h = subst P (same-counts (sym is ∙ q)) h
+
+  -- the doubled plan for the grating fabric
+  pub grating-promise : GratingGiven N d buf r after
+  grating-promise = by (checkDemand 64 N d) refl (decLt (whole 64 buf) (length plan))
+    where
+      not-faulty : {x : Refusal} {t : ℕ} → Faulty x ≡ Fine t → ⊥
+      not-faulty q = let z : _≡_ {A = ℕ} 0 1 = cc in omega arith
+
+      by : (x : Checked) → checkDemand 64 N d ≡ x → Dec (whole 64 buf < length plan) → GratingGiven N d buf r after
+      by (Faulty x) e _ = refused x (faulty-answer 64 0 N d buf x e) (λ a l. not-faulty (sym e ∙ sym (fine 64 N d (some-ports 64 N (a .some) (a .few)) (a .size) (a .small))))
+      by (Fine t) e (yes l) =
+          let s = short-answer 64 0 N plan buf (length plan) refl l in
+          let f = fine-answer 64 0 N d buf t e in
+          refused (Room (length plan)) (s .0 ∙ ap (λ (x : Planned). x .outcome) f, s .1 ∙ ap (λ (x : Planned). x .bytes) f) (λ a h. omega arith)
+      by (Fine t) e (no l) = given (e ∙ ap Fine (fine-asked 64 N t d e .longest-is)) (omega (arith, l))

@@ -1,0 +1,46 @@
+-- What the doubled plan for the grating fabric comes to. Definitions only.
+use mathlib.Core.Path.{_≡_}
+use mathlib.Core.List.{List, _++_}
+use Prim.Native.Nat.{ℕ, _*_, _<_, _≤_}
+use lib.ListN.{length, getD, take, drop}
+use Rattle.switch.specs.declared.Outcome.{Outcome}
+use Rattle.switch.specs.declared.Outcome.the-variants.{Done}
+use Rattle.switch.specs.declared.Counts.{Counts}
+use Rattle.switch.specs.Answer.{planCounts, demandCounts}
+use Rattle.switch.specs.Demand.{cell, longest}
+use Rattle.switch.specs.Plan.{Record, total}
+use Rattle.switch.specs.Empty.{emptySlots}
+use Rattle.demand.specs.Check.{Asked}
+use Rattle.rules.specs.Doubled.{Doubled}
+use Rattle.records.specs.Bytes.{whole, planOf, Each}
+use Rattle.antirotations.specs.Opposite.{allowed, Spread}
+use Rattle.grating.specs.Grating.{gratingPlan, firstPart, secondPart}
+use Rattle.promises.specs.Calls.{CheckPlan, GratingReport}
+
+-- what the plan p is worth for the demand d
+pub record Spreads (N : ℕ) (d : List ℕ) (p : List Record) : Type 0 where
+  -- it covers, with at most 2N records and a total of at most 2T - 1
+  pub doubled : Doubled N d p
+  -- it has two parts, and each record of the second uses a wavelength once at most where N is odd, and twice at most where N is even
+  pub parts : p ≡ firstPart 64 N d ++ secondPart 64 N d
+  pub spread : Each (Spread N) (secondPart 64 N d)
+
+-- the answer r for a demand, and the plan's buffer afterwards
+pub record GratingGiven (N : ℕ) (d buf : List ℕ) (r : Outcome) (after : List ℕ) : Type 0 where
+  -- code 0 exactly when the demand is fine and there is room for the plan, with its records and its total
+  pub taken : Asked 64 N (longest N (cell N d)) d → length (gratingPlan 64 N d) ≤ whole 64 buf
+      → r ≡ Done (planCounts (length (gratingPlan 64 N d)) 0 (total (gratingPlan 64 N d)))
+  pub only-then : (c : Counts) → r ≡ Done c → Asked 64 N (longest N (cell N d)) d × (length (gratingPlan 64 N d) ≤ whole 64 buf)
+  -- then the records written read back as the plan, which is worth all that, and no byte behind them is touched
+  pub reads-back : (c : Counts) → r ≡ Done c → planOf 64 (take (c .records * 68) after) ≡ gratingPlan 64 N d
+  pub worth : (c : Counts) → r ≡ Done c → Spreads N d (gratingPlan 64 N d)
+  pub later : (c : Counts) → r ≡ Done c → drop (c .records * 68) after ≡ drop (c .records * 68) buf
+  -- the checker passes them, with the demand's T and the plan's empty slots
+  pub passes : (c : Counts) → r ≡ Done c → (o : Outcome) → CheckPlan N d (take (c .records * 68) after) o
+      → o ≡ Done (demandCounts (c .records) (longest N (cell N d)) (c .total) (emptySlots N (cell N d) (gratingPlan 64 N d)))
+  -- and a report of them says no more than 1, or 2, of each record of the second part
+  pub reported : (c : Counts) → r ≡ Done c → (report : List ℕ) → c .records ≤ length report → (o : Outcome) (said : List ℕ)
+      → GratingReport N (take (c .records * 68) after) report o said
+      → (k : ℕ) → length (firstPart 64 N d) ≤ k → k < c .records → getD said k 0 ≤ allowed N
+  -- and else no byte is touched
+  pub unchanged : ((c : Counts) → r ≡ Done c → ⊥) → after ≡ buf
