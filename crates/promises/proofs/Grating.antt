@@ -135,7 +135,8 @@ module _ (W N : ℕ) (pos : 0 < N) (top : N ≤ W) (d : List ℕ) (cells : N * N
 
       there : getD (gratingReport N (gratingPlan W N d)) k 0 ≡ getD (gratingReport N (secondPart W N d)) j 0
       there =
-          ap₂ (λ (p : List Record) (i : ℕ). getD (gratingReport N p) i 0) (grating-parts W N d) (let e : k ≡ length (gratingReport N (firstPart W N d)) + j = omega (arith, count) in e)
+          ap₂ (λ (p : List Record) (i : ℕ). getD (gratingReport N p) i 0) (grating-parts W N d)
+          (let e : k ≡ length (gratingReport N (firstPart W N d)) + j = omega (arith, count) in e)
           ∙ ap (λ (s : List ℕ). getD s (length (gratingReport N (firstPart W N d)) + j) 0) (report-append N (firstPart W N d) (secondPart W N d))
           ∙ getD-append-add (gratingReport N (firstPart W N d)) (gratingReport N (secondPart W N d)) j 0
 
@@ -148,7 +149,8 @@ module _ (N : ℕ) (d buf : List ℕ) (r : Outcome) (after : List ℕ) (met : Gr
   abbrev T : ℕ
   T = longest N (cell N d)
 
-  refused : (x : Refusal) → Both (gratingPlanned 64 0 N d buf) (Refused x) buf → (Asked 64 N T d → length plan ≤ whole 64 buf → ⊥) → GratingGiven N d buf r after
+  refused : (x : Refusal) → Both (gratingPlanned 64 0 N d buf) (Refused x) buf → (Asked 64 N T d → length plan ≤ whole 64 buf → ⊥)
+      → GratingGiven N d buf r after
   refused x e bad =
       let is : r ≡ Refused x = met .0 ∙ sym (e .0) in
       record {
@@ -190,11 +192,13 @@ module _ (N : ℕ) (d buf : List ℕ) (r : Outcome) (after : List ℕ) (met : Gr
     front : take (length plan * 68) after ≡ bytes 0 N plan
     front = ap (take (length plan * 68)) lays ∙ plan-front 0 N 64 (each-width 64 N sound) buf
 
-    passes : (o : Outcome) → CheckPlan N d (take (length plan * 68) after) o → o ≡ Done (demandCounts (length plan) T (total plan) (emptySlots N (cell N d) plan))
+    passes : (o : Outcome) → CheckPlan N d (take (length plan * 68) after) o
+        → o ≡ Done (demandCounts (length plan) T (total plan) (emptySlots N (cell N d) plan))
     passes o e = e ∙ ap (checkPlan firstEdition N d) front ∙ sound-passes firstEdition first-bounded N T d (sym asks) few sound (worth .covers)
 
     -- what the report says of the second part
-    reported-less : (report : List ℕ) → length plan ≤ length report → (o : Outcome) (said : List ℕ) → GratingReport N (take (length plan * 68) after) report o said
+    reported-less : (report : List ℕ) → length plan ≤ length report → (o : Outcome) (said : List ℕ)
+        → GratingReport N (take (length plan * 68) after) report o said
         → (k : ℕ) → length (firstPart 64 N d) ≤ k → k < length plan → getD said k 0 ≤ allowed N
     reported-less report fits o said e k from to = subst (λ (x : ℕ). x ≤ allowed N) (sym at) (plan-report 64 N (asked .some) (asked .few) d enough k from to)
       where
@@ -243,7 +247,8 @@ module _ (N : ℕ) (d buf : List ℕ) (r : Outcome) (after : List ℕ) (met : Gr
       not-faulty q = let z : _≡_ {A = ℕ} 0 1 = cc in omega arith
 
       by : (x : Checked) → checkDemand 64 N d ≡ x → Dec (whole 64 buf < length plan) → GratingGiven N d buf r after
-      by (Faulty x) e _ = refused x (faulty-answer 64 0 N d buf x e) (λ a l. not-faulty (sym e ∙ sym (fine 64 N d (some-ports 64 N (a .some) (a .few)) (a .size) (a .small))))
+      by (Faulty x) e _ = refused x (faulty-answer 64 0 N d buf x e)
+          (λ a l. not-faulty (sym e ∙ sym (fine 64 N d (some-ports 64 N (a .some) (a .few)) (a .size) (a .small))))
       by (Fine t) e (yes l) =
           let s = short-answer 64 0 N plan buf (length plan) refl l in
           let f = fine-answer 64 0 N d buf t e in

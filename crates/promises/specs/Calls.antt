@@ -71,11 +71,11 @@ GratingDoubled N d buf = let x = gratingPlanned 64 0 N d buf in Leaves (x .outco
 abbrev pub WriteRecord : ℕ → ℕ → List ℕ → List ℕ → Outcome → List ℕ → Type 0
 WriteRecord hold N outputs buf = let x = written hold N outputs buf in Leaves (x .answer) (x .bytes)
 
--- plans::open_plan(n, plan)
+-- plans::open_plan(n, plan), and reader::open_answer(n, plan)
 abbrev pub OpenPlan : ℕ → List ℕ → Outcome → Type 0
 OpenPlan N plan r = r ≡ opening firstEdition N plan
 
--- plans::step_at(n, plan, at); reader::first_step(n, plan) is the same at 0
+-- plans::step_at(n, plan, at), and reader::step_from(n, plan, at)
 abbrev pub StepAt : ℕ → List ℕ → ℕ → Stepped → Type 0
 StepAt N plan at s = s ≡ stepAt N plan at
 
