@@ -17,7 +17,7 @@ use Rattle.rules.specs.Exact.{tab}
 use Rattle.rules.specs.Doubled.{held, turns, Joins}
 use Rattle.rules.proofs.Rotate.{around-full}
 use Rattle.rules.proofs.Peels.{getD-tab}
-use Rattle.records.specs.Bytes.{Each, none, more}
+use Rattle.switch.specs.Sound.{Each, none, more}
 use Rattle.wavelengths.specs.Shared.{wavelength, uses, sharing}
 use Rattle.wavelengths.proofs.Shared.{joined-uses}
 use Rattle.antirotations.specs.Opposite.{opposite, allowed, Spread}

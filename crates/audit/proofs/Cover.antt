@@ -21,7 +21,7 @@ use Rattle.switch.specs.Answer.{demandCounts}
 use Rattle.switch.specs.Demand.{cell}
 use Rattle.switch.specs.Plan.{Record, grant, total}
 use Rattle.switch.specs.Empty.{beyond, emptySlots}
-use Rattle.rules.proofs.Fill.{place-in}
+use Rattle.switch.proofs.Demand.{place-in}
 use Rattle.demand.specs.Lines.{over}
 use Rattle.demand.proofs.Lines.{over-first}
 use Rattle.audit.specs.declared.Meeting.{Meeting}

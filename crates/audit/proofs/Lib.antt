@@ -5,5 +5,3 @@ pub mod Cover
 pub mod Check
 pub mod Length
 pub mod Passes
-pub mod Planners
-pub mod Written

@@ -23,14 +23,14 @@ use Rattle.demand.specs.declared.Checked.the-variants.{Fine, Faulty}
 use Rattle.demand.specs.Lines.{lineOver}
 use Rattle.demand.specs.Check.{checkDemand, Asked}
 use Rattle.demand.proofs.Check.{fine-asked}
-use Rattle.records.specs.Record.{Sound}
-use Rattle.records.specs.Bytes.{whole, planFrom, planOf, bytes, Each}
+use Rattle.switch.specs.Sound.{Sound, Each}
+use Rattle.records.specs.Bytes.{whole, planFrom, planOf, bytes}
 use Rattle.records.proofs.Round.{planOf-bytes}
-use Rattle.records.proofs.Sound.{each-plan, each-width}
+use Rattle.switch.proofs.Sound.{each-plan, each-width}
 use Rattle.plans.specs.declared.Edition.{Edition}
 use Rattle.plans.specs.Read.{Bounded, opening, malformed, checkingIn, checkingOf, checking}
 use Rattle.plans.proofs.Plans.{checked, bytes-pass}
-use Rattle.rules.proofs.Fill.{place-in}
+use Rattle.switch.proofs.Demand.{place-in}
 use Rattle.audit.specs.Check.{uncovered, Short, covering, checkPlan}
 use Rattle.audit.proofs.Reading.{after-checking}
 use Rattle.plans.proofs.Plans.{length-plan}

@@ -8,7 +8,8 @@ use Rattle.switch.specs.Plan.{total}
 use Rattle.rules.specs.Exact.{exactPlan}
 use Rattle.rules.specs.Doubled.{stretch, rotate}
 use Rattle.rules.proofs.Exact.{exact-peels, exact-total, exact-records}
-use Rattle.rules.proofs.Doubled.{total-append, total-stretch}
+use Rattle.switch.proofs.Append.{total-append}
+use Rattle.rules.proofs.Doubled.{total-stretch}
 use Rattle.records.specs.Bytes.{bytes, laid}
 use Rattle.records.proofs.Bytes.{bytes-append, bytes-size}
 use Rattle.peel.specs.Standing.{Cells}

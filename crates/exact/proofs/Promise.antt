@@ -14,7 +14,8 @@ use Rattle.demand.specs.Check.{checkDemand, Asked}
 use Rattle.demand.proofs.Check.{fine-asked}
 use Rattle.rules.specs.Exact.{exactPlan}
 use Rattle.rules.proofs.Exact.{exact-peels}
-use Rattle.records.specs.Bytes.{bytes, laid, planOf, Each, OfWidth}
+use Rattle.switch.specs.Sound.{Each, OfWidth}
+use Rattle.records.specs.Bytes.{bytes, laid, planOf}
 use Rattle.records.proofs.Bytes.{bytes-size}
 use Rattle.records.proofs.Round.{planOf-bytes}
 use Rattle.planner.specs.Planned.{Planned, planned}

@@ -12,7 +12,8 @@ use Rattle.switch.specs.Demand.{cell}
 use Rattle.switch.specs.Plan.{Record}
 use Rattle.rules.specs.Peel.{Peels, none, more}
 use Rattle.rules.specs.Doubled.{stretch}
-use Rattle.records.specs.Bytes.{encode, bytes, laid, Each, OfWidth}
+use Rattle.switch.specs.Sound.{Each, OfWidth}
+use Rattle.records.specs.Bytes.{encode, bytes, laid}
 use Rattle.records.proofs.Laid.{laid-none}
 use Rattle.records.proofs.Bytes.{bytes-none, bytes-size, turn-room, turn-length, turn-fits, turn-laid}
 use Rattle.peel.specs.Standing.{rest}

@@ -7,7 +7,8 @@ use native.Mathlib.Nat.{div-mul-le-self, mul-le-mul-right}
 use lib.ListN.{length, getD, length-map, length-append}
 use Rattle.switch.specs.Plan.{Record, total}
 use Rattle.rules.specs.Doubled.{stretch}
-use Rattle.rules.proofs.Doubled.{total-append, total-stretch}
+use Rattle.switch.proofs.Append.{total-append}
+use Rattle.rules.proofs.Doubled.{total-stretch}
 use Rattle.records.specs.Bytes.{planFrom, whole, bytes, laid}
 use Rattle.records.proofs.Bytes.{bytes-append, bytes-size}
 use Rattle.plans.proofs.Plans.{length-plan}

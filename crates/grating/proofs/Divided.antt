@@ -22,10 +22,10 @@ use Rattle.rules.specs.Doubled.{unit, divide, stretch, turns, tight, doubledBy}
 use Rattle.rules.proofs.Exact.{exact-total, exact-records}
 use Rattle.rules.proofs.Doubled.{length-divide, longest-divide, unit-above}
 use Rattle.records.specs.Bytes.{planFrom, whole, bytes, laid}
-use Rattle.records.proofs.Sound.{each-width}
+use Rattle.switch.proofs.Sound.{each-width}
 use Rattle.planner.specs.Planned.{Planned, planned, writes}
 use Rattle.planner.proofs.Planned.{planned-done, written-bytes}
-use Rattle.audit.proofs.Planners.{exact-sound}
+use Rattle.rules.proofs.Sound.{exact-sound}
 use Rattle.doubled.proofs.Dividing.{unit-some, unit-small}
 use Rattle.antirotations.specs.Opposite.{opposite}
 use Rattle.grating.specs.Grating.{gratingPlan}

@@ -15,7 +15,7 @@ use Rattle.switch.specs.Plan.{Record, total}
 use Rattle.records.specs.Bytes.{whole, planFrom, planOf, bytes, laid}
 use Rattle.records.proofs.Bytes.{bytes-size}
 use Rattle.records.proofs.Part.{whole-fits}
-use Rattle.records.proofs.Sound.{each-width}
+use Rattle.switch.proofs.Sound.{each-width}
 use Rattle.plans.specs.declared.Edition.{Edition}
 use Rattle.plans.specs.Read.{Bounded, checking}
 use Rattle.plans.proofs.Plans.{Checked, checked}

@@ -7,8 +7,7 @@ use native.Mathlib.Omega.{arith}
 use lib.ListN.{length, length-append, List·getD-append}
 use lib.Seq.{append-snoc, getD-append-seam}
 use Rattle.switch.specs.Plan.{Record, output, grant, total}
-use Rattle.records.specs.Record.{Sound}
-use Rattle.records.specs.Bytes.{Each, none, more}
+use Rattle.switch.specs.Sound.{Sound, Each, none, more}
 use Rattle.settings.specs.Sums.{addHold, sumsOnto, sums, settingAt}
 use Rattle.settings.proofs.Same.{same?}
 use Rattle.settings.proofs.Sums.{add-here, add-later, add-new, sums-append, sums-summed, distinct}

@@ -8,8 +8,8 @@ use native.Mathlib.Omega.{arith}
 use lib.ListN.{length, replicate, length-append, length-replicate}
 use Rattle.counting.specs.Count.{δ}
 use Rattle.switch.specs.Plan.{Record, output, grant, total}
-use Rattle.rules.proofs.Doubled.{total-append, grant-append}
-use Rattle.records.specs.Bytes.{Each, none, more}
+use Rattle.switch.proofs.Append.{total-append, grant-append}
+use Rattle.switch.specs.Sound.{Each, none, more}
 use Rattle.joining.specs.Join.{held, rest, pieces, cut}
 
 -- ---- the next piece

@@ -13,10 +13,11 @@ use Rattle.switch.specs.declared.Outcome.the-variants.{Done, Refused}
 use Rattle.switch.specs.declared.Refusal.{Refusal}
 use Rattle.switch.specs.Answer.{planCounts}
 use Rattle.switch.specs.Plan.{Record, total}
-use Rattle.records.specs.Record.{hold, decoded, Sound}
-use Rattle.records.specs.Bytes.{recordAt, whole, planFrom, planOf, bytes, laid, Each, none, more}
+use Rattle.switch.specs.Sound.{Sound, Each, none, more}
+use Rattle.records.specs.Record.{hold, decoded}
+use Rattle.records.specs.Bytes.{recordAt, whole, planFrom, planOf, bytes, laid}
 use Rattle.records.proofs.Bytes.{bytes-size}
-use Rattle.records.proofs.Sound.{each-width}
+use Rattle.switch.proofs.Sound.{each-width}
 use Rattle.records.proofs.Round.{planOf-bytes}
 use Rattle.plans.specs.declared.Edition.{Edition}
 use Rattle.plans.specs.Read.{Bounded, checking}

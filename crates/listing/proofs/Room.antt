@@ -10,7 +10,7 @@ use Rattle.switch.specs.Demand.{cell}
 use Rattle.switch.specs.Plan.{Record, total}
 use Rattle.switch.specs.Empty.{emptySlots}
 use Rattle.demand.specs.Check.{Asked}
-use Rattle.records.specs.Bytes.{Each, OfWidth}
+use Rattle.switch.specs.Sound.{Each, OfWidth}
 use Rattle.rules.specs.Peel.{Peels, none, more}
 use Rattle.rules.specs.Exact.{exactPlan}
 use Rattle.rules.proofs.Exact.{exact-peels, exact-total, exact-records}

@@ -16,13 +16,15 @@ use Rattle.switch.specs.declared.Refusal.{Refusal}
 use Rattle.switch.specs.Answer.{planCounts}
 use Rattle.switch.specs.Plan.{Record, total}
 use Rattle.plans.specs.declared.Edition.{Edition}
-use Rattle.records.specs.Record.{decoded, Sound}
-use Rattle.records.specs.Bytes.{recordAt, whole, planFrom, planOf, bytes, Each}
+use Rattle.switch.specs.Sound.{Sound, Each}
+use Rattle.records.specs.Record.{decoded}
+use Rattle.records.specs.Bytes.{recordAt, whole, planFrom, planOf, bytes}
 use Rattle.plans.specs.Read.{Bounded, opening, malformed, checkingIn, checking}
 use Rattle.records.proofs.Bytes.{bytes-size}
 use Rattle.records.proofs.Part.{whole-fits}
 use Rattle.records.proofs.Round.{whole-bytes, planOf-bytes}
-use Rattle.records.proofs.Sound.{fine, each-width, plan-sound, bytes-fine}
+use Rattle.switch.proofs.Sound.{each-width}
+use Rattle.records.proofs.Sound.{fine, plan-sound, bytes-fine}
 use Rattle.plans.proofs.Read.{opened, opened-records, opening-done, check-refused, check-opened, check-malformed, check-done}
 
 -- a plan read one record further, and how many records are read
@@ -86,6 +88,7 @@ pub record Checked (E : Edition) (N : ℕ) (plan : List ℕ) (c : Counts) : Type
   pub few : N ≤ E .ports
   pub even : length plan % (E .width + 4) ≡ 0
   pub most : whole (E .width) plan ≤ E .records
+  pub formed : (k : ℕ) → k < whole (E .width) plan → fine (E .width) (E .byte) N plan k ≡ true
   pub sound : Each (Sound (E .width) N) (planOf (E .width) plan)
   pub counts : c ≡ planCounts (whole (E .width) plan) 0 (total (planOf (E .width) plan))
 
@@ -115,12 +118,15 @@ module _ (E : Edition) (N : ℕ) (plan : List ℕ) where
     passes h = all-fine (omega (arith, malformed-none (E .width) (E .byte) N plan count 0 (λ j a b. h j (omega arith))))
 
     module _ (bounds : Bounded E) where
+      formed-where : count ≤ fault → (k : ℕ) → k < count → fine (E .width) (E .byte) N plan k ≡ true
+      formed-where l k h = malformed-first (E .width) (E .byte) N plan count 0 .before k (omega arith) (omega (arith, l))
+
       sound-where : count ≤ fault → Each (Sound (E .width) N) (planOf (E .width) plan)
       sound-where l =
           let h = opened E N plan o opens in
           plan-sound (E .width) (E .byte) N plan (omega (arith, h .few, bounds .ports)) (omega (arith, h .few, bounds .ports, bounds .width)) count 0
           (subst (λ (n : ℕ). n * (E .width + 4) ≤ length plan) (let q : count ≡ 0 + count = omega arith in q) (whole-fits (E .width) plan))
-          (λ j a b. malformed-first (E .width) (E .byte) N plan count 0 .before j a (omega arith))
+          (λ j a b. formed-where l j (omega arith))
 
       checked-opened : (c : Counts) → Done c ≡ checking E N plan → Checked E N plan c
       checked-opened c d =
@@ -128,7 +134,15 @@ module _ (E : Edition) (N : ℕ) (plan : List ℕ) where
           dite (decLt fault count)
           (λ l. refused-not-done (check-malformed E N plan count fault refl l ∙ in-count) d)
           (λ g. let l : count ≤ fault = omega (arith, g) in
-          record { some = h .some; few = h .few; even = h .even; most = h .most; sound = sound-where l; counts = same (d ∙ sym (all-fine l)) })
+          record {
+            some = h .some;
+            few = h .few;
+            even = h .even;
+            most = h .most;
+            formed = formed-where l;
+            sound = sound-where l;
+            counts = same (d ∙ sym (all-fine l));
+          })
         where
           same : {x y : Counts} → Done x ≡ Done y → x ≡ y
           same e = cc

@@ -19,15 +19,17 @@ use Rattle.switch.proofs.Check.{no-ports, many-ports}
 use Rattle.plans.specs.declared.Step.{Step}
 use Rattle.plans.specs.declared.Step.the-variants as step
 use Rattle.plans.specs.declared.Stepped.{Stepped}
-use Rattle.records.specs.Record.{hold, outputs, wellFormed, Sound}
-use Rattle.records.specs.Bytes.{encode, recordAt, whole, bytes, laid, Each, none, more}
+use Rattle.switch.specs.Sound.{Sound, Each, none, more}
+use Rattle.records.specs.Record.{hold, outputs, wellFormed}
+use Rattle.records.specs.Bytes.{encode, recordAt, whole, bytes, laid}
 use Rattle.plans.specs.Read.{firstEdition, opening, nothing, given, stepAt}
 use Rattle.records.specs.Write.{Written, refuses, written}
 use Rattle.records.proofs.Bytes.{bytes-size}
 use Rattle.records.proofs.Part.{record-fits, record-size, whole-fits}
 use Rattle.records.proofs.Round.{decoded-encode, record-bytes, whole-bytes, encode-decoded}
 use Rattle.records.proofs.Meaning.{means}
-use Rattle.records.proofs.Sound.{each-width, bytes-fine}
+use Rattle.switch.proofs.Sound.{each-width}
+use Rattle.records.proofs.Sound.{bytes-fine}
 use Rattle.plans.proofs.Read.{opened, opened-records, opening-done, step-end, step-malformed, step-record, step-refused, step-opened}
 use Rattle.records.proofs.Write.{hold-encode, write-ports, write-room, write-malformed, write-done}
 

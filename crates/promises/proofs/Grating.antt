@@ -29,18 +29,18 @@ use Rattle.switch.proofs.Check.{some-ports}
 use Rattle.rules.specs.Exact.{exactPlan}
 use Rattle.rules.specs.Doubled.{unit, divide, stretch, turns, tight, doubledBy, Doubled}
 use Rattle.rules.proofs.Tight.{doubled-tight}
-use Rattle.records.specs.Record.{Sound}
-use Rattle.records.specs.Bytes.{bytes, laid, whole, planOf, Each, none, more}
+use Rattle.switch.specs.Sound.{Sound, Each, none, more}
+use Rattle.records.specs.Bytes.{bytes, laid, whole, planOf}
 use Rattle.records.specs.Write.{Written}
 use Rattle.records.proofs.Round.{planOf-bytes}
-use Rattle.records.proofs.Sound.{each-width}
+use Rattle.switch.proofs.Sound.{each-width}
 use Rattle.plans.specs.Read.{firstEdition, checking}
 use Rattle.plans.proofs.Read.{first-bounded}
 use Rattle.plans.proofs.Plans.{bytes-pass}
 use Rattle.planner.specs.Planned.{Planned}
 use Rattle.audit.specs.Check.{checkPlan}
 use Rattle.audit.proofs.Passes.{sound-passes}
-use Rattle.audit.proofs.Planners.{doubled-by-sound}
+use Rattle.rules.proofs.Sound.{doubled-by-sound}
 use Rattle.wavelengths.specs.Shared.{sharing, mostShared, gratingReport}
 use Rattle.wavelengths.specs.Report.{reported}
 use Rattle.wavelengths.proofs.Report.{report-done}

@@ -11,8 +11,9 @@ use Rattle.switch.specs.declared.Refusal.{Refusal}
 use Rattle.switch.specs.declared.Counts.{Counts}
 use Rattle.switch.specs.Answer.{planCounts}
 use Rattle.switch.specs.Plan.{Record, total}
-use Rattle.records.specs.Bytes.{bytes, laid, whole, planOf, Each, OfWidth}
-use Rattle.records.proofs.Sound.{each-width}
+use Rattle.switch.specs.Sound.{Each, OfWidth}
+use Rattle.records.specs.Bytes.{bytes, laid, whole, planOf}
+use Rattle.switch.proofs.Sound.{each-width}
 use Rattle.plans.specs.declared.Edition.{Edition}
 use Rattle.plans.specs.Read.{firstEdition, Bounded, checking}
 use Rattle.plans.proofs.Read.{first-bounded}

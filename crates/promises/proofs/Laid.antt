@@ -6,7 +6,8 @@ use native.Mathlib.Omega.{arith}
 use lib.ListN.{length, take, drop}
 use lib.Seq.{take-at, drop-at}
 use Rattle.switch.specs.Plan.{Record}
-use Rattle.records.specs.Bytes.{laid, bytes, planOf, Each, OfWidth}
+use Rattle.switch.specs.Sound.{Each, OfWidth}
+use Rattle.records.specs.Bytes.{laid, bytes, planOf}
 use Rattle.records.proofs.Bytes.{bytes-size}
 use Rattle.records.proofs.Round.{planOf-bytes}
 

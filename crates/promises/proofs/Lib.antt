@@ -11,3 +11,9 @@ pub mod Report
 pub mod Listing
 pub mod Grating
 pub mod Worked
+pub mod Planner
+pub mod Exact
+pub mod Doubled
+pub mod Quick
+pub mod Checked
+pub mod Wrong

@@ -61,7 +61,8 @@ none-left N d (suc n) k = rw (nothing (tight N (rotate N) d 1 k) (tight-most N (
 
 -- "The first record of P1 starts 02 00 02 00 00 01, then 62 bytes of 255."
 pub p1-starts : take 68 (bytes 0 2 (exactPlan 64 2 d1)) ≡ 2 ∷ 0 ∷ 2 ∷ 0 ∷ 0 ∷ 1 ∷ replicate 62 255
-unfolding bytes exactPlan exactFrom peels recordOf least tab firstSetting complete free pick put peel fill fillTo fillCell lack longest most row col cell sum δ ind
+unfolding bytes
+    exactPlan exactFrom peels recordOf least tab firstSetting complete free pick put peel fill fillTo fillCell lack longest most row col cell sum δ ind
 p1-starts = refl
 
 -- ---- the lengths of P8: one setting in two records moves the mirrors once

@@ -12,7 +12,8 @@ use Rattle.switch.specs.Check.{portsFine}
 use Rattle.switch.specs.declared.Refusal.the-variants.{Ports, Room, Malformed}
 use Rattle.switch.specs.declared.Counts.{Counts}
 use Rattle.switch.specs.Answer.{planCounts}
-use Rattle.records.specs.Record.{wellFormed, Sound}
+use Rattle.switch.specs.Sound.{Sound}
+use Rattle.records.specs.Record.{wellFormed}
 use Rattle.records.specs.Bytes.{encode, laid, whole, recordAt}
 use Rattle.records.specs.Write.{Written, refuses, writes, written}
 use Rattle.records.proofs.Meaning.{means, encode-sound}

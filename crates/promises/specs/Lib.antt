@@ -9,3 +9,9 @@ pub mod Joined
 pub mod Report
 pub mod Listing
 pub mod Grating
+pub mod Planner
+pub mod Exact
+pub mod Doubled
+pub mod Quick
+pub mod Checked
+pub mod Wrong

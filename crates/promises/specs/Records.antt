@@ -7,7 +7,7 @@ use Rattle.switch.specs.declared.Outcome.{Outcome}
 use Rattle.switch.specs.declared.Outcome.the-variants.{Done}
 use Rattle.switch.specs.declared.Counts.{Counts}
 use Rattle.switch.specs.Answer.{planCounts}
-use Rattle.records.specs.Record.{Sound}
+use Rattle.switch.specs.Sound.{Sound}
 use Rattle.records.specs.Bytes.{recordAt}
 use Rattle.plans.specs.declared.Step.the-variants as step
 use Rattle.plans.specs.declared.Stepped.{Stepped}

@@ -21,7 +21,8 @@ use Rattle.switch.specs.Empty.{emptySlots}
 use Rattle.demand.specs.declared.Checked.the-variants.{Fine, Faulty}
 use Rattle.demand.specs.Check.{checkDemand, Asked}
 use Rattle.demand.proofs.Check.{fine-asked}
-use Rattle.records.specs.Bytes.{whole, bytes, laid, Each, none, more, OfWidth}
+use Rattle.switch.specs.Sound.{Each, none, more, OfWidth}
+use Rattle.records.specs.Bytes.{whole, bytes, laid}
 use Rattle.records.proofs.Bytes.{bytes-size}
 use Rattle.rules.specs.Peel.{peel}
 use Rattle.rules.specs.Exact.{tab}

@@ -5,7 +5,8 @@ use Prim.Native.Nat.{ℕ, _+_, _*_, _≤_}
 use native.Mathlib.Omega.{arith}
 use lib.ListN.{length, length-append}
 use Rattle.switch.specs.Plan.{Record}
-use Rattle.records.specs.Bytes.{encode, bytes, laid, Each, none, more, OfWidth}
+use Rattle.switch.specs.Sound.{Each, none, more, OfWidth}
+use Rattle.records.specs.Bytes.{encode, bytes, laid}
 use Rattle.records.proofs.Laid.{length-laid, laid-more}
 
 pub bytes-none : (e N : ℕ) → bytes e N [] ≡ []

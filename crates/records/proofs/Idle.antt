@@ -7,7 +7,8 @@ use native.Mathlib.Decide.{decLt}
 use native.Mathlib.Omega.{arith}
 use lib.ListN.{replicate, length-replicate, getD-replicate, List·getD-eq-default}
 use Rattle.switch.specs.Plan.{Record, output}
-use Rattle.records.specs.Record.{wellFormed, Sound}
+use Rattle.switch.specs.Sound.{Sound}
+use Rattle.records.specs.Record.{wellFormed}
 use Rattle.records.specs.Bytes.{encode}
 use Rattle.records.proofs.Meaning.{encode-sound}
 

@@ -10,9 +10,9 @@ use native.Mathlib.Omega.{arith}
 use lib.Dec.{eqb, ltb}
 use lib.ListN.{length, getD, length-drop}
 use borrow.Author.Tests.{le-ltb, ne-eqb, ltb-true, eqb-true, eqb-false, not-true}
-use Rattle.switch.specs.Plan.{Record, Full, output}
-use Rattle.switch.proofs.Plan.{full-setting}
-use Rattle.records.specs.Record.{all, hold, outputs, inside, new, later, outputsFine, wellFormed, decoded, Sound, WellFormed}
+use Rattle.switch.specs.Plan.{Record, output}
+use Rattle.switch.specs.Sound.{Sound}
+use Rattle.records.specs.Record.{all, hold, outputs, inside, new, later, outputsFine, wellFormed, decoded, WellFormed}
 use Rattle.records.specs.Bytes.{encode}
 use Rattle.records.proofs.Every.{and-l, and-r, all-intro, all-at, any-none, any-at}
 use Rattle.records.proofs.Write.{encode-fine}
@@ -110,13 +110,3 @@ module _ (W e N : ℕ) (b : List ℕ) (size : length b ≡ W + 4) (few : N ≤ W
 pub encode-sound : (W e N : ℕ) (r : Record) → N ≤ W → N ≤ 255 → Sound W N r → wellFormed W e N (encode e (r .hold) N (r .outputs)) ≡ true
 encode-sound W e N r few small s =
     encode-fine W e (r .hold) N (r .outputs) (λ z. omega (arith, s .held)) ∙ fine-of W N r (s .size) few small s
-
--- a full setting with its later outputs idle is sound
-pub full-sound : (W N : ℕ) (r : Record) → 0 < r .hold → length (r .outputs) ≡ W → Full N (output r) → ((i : ℕ) → N ≤ i → i < W → output r i ≡ 255) → Sound W N r
-full-sound W N r held size f past = record {
-  held = held;
-  size = size;
-  inside = λ i l. inl (f .inside i l);
-  setting = full-setting N (output r) f;
-  later = past;
-}

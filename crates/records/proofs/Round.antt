@@ -8,7 +8,8 @@ use lib.ListN.{length, getD, take, drop}
 use lib.Seq.{take-at, drop-at, drop-drop, drop-cons}
 use Rattle.switch.specs.Plan.{Record}
 use Rattle.records.specs.Record.{hold, decoded}
-use Rattle.records.specs.Bytes.{encode, recordAt, planFrom, planOf, bytes, Each, none, more, OfWidth}
+use Rattle.switch.specs.Sound.{Each, none, more, OfWidth}
+use Rattle.records.specs.Bytes.{encode, recordAt, planFrom, planOf, bytes}
 use Rattle.records.proofs.Bytes.{encode-size, bytes-size}
 
 -- a written record reads back as the same hold and outputs

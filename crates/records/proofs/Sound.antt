@@ -6,22 +6,14 @@ use Prim.Native.Nat.{ℕ, zero, suc, _+_, _*_, _<_, _≤_}
 use native.Mathlib.Nat.{le-of-suc-le-suc, not-suc-le-zero}
 use native.Mathlib.Omega.{arith}
 use lib.ListN.{length}
-use Rattle.switch.specs.Plan.{Record, Plan}
-use Rattle.switch.specs.Plan as plan
-use Rattle.records.specs.Record.{wellFormed, Sound}
-use Rattle.records.specs.Bytes.{encode, recordAt, planFrom, bytes, Each, none, more, OfWidth}
+use Rattle.switch.specs.Plan.{Record}
+use Rattle.switch.specs.Sound.{Sound, Each, none, more}
+use Rattle.records.specs.Record.{wellFormed}
+use Rattle.records.specs.Bytes.{encode, recordAt, planFrom, bytes}
 use Rattle.records.proofs.Bytes.{encode-size}
 use Rattle.records.proofs.Part.{record-fits, record-size}
 use Rattle.records.proofs.Round.{first-record, next-record}
 use Rattle.records.proofs.Meaning.{means, encode-sound}
-
-pub each-plan : (W N : ℕ) {p : List Record} → Each (Sound W N) p → Plan N p
-each-plan W N none = plan.none
-each-plan W N (more s t) = plan.more (s .held) (s .setting) (each-plan W N t)
-
-pub each-width : (W N : ℕ) {p : List Record} → Each (Sound W N) p → Each (OfWidth W) p
-each-width W N none = none
-each-width W N (more s t) = more (s .size) (each-width W N t)
 
 -- is record k of a plan well formed?
 abbrev pub fine : ℕ → ℕ → ℕ → List ℕ → ℕ → Bool

@@ -1,5 +1,4 @@
 -- Plans as bytes: one record after the other, W outputs and W + 4 bytes each, no header. Definitions only.
-use mathlib.Core.Path.{_≡_}
 use mathlib.Core.List.{List, [], _∷_, _++_}
 use Prim.Native.Nat.{ℕ, zero, suc, _+_, _*_, _/_, _%_}
 use lib.ListN.{length, take, drop}
@@ -31,15 +30,6 @@ planOf W plan = planFrom W plan 0 (whole W plan)
 unfoldable pub bytes : ℕ → ℕ → List Record → List ℕ
 bytes e N [] = []
 bytes e N (r ∷ p) = encode e (r .hold) N (r .outputs) ++ bytes e N p
-
--- what holds of each record of a plan
-pub data Each (P : Record → Type 0) : List Record → Type 0 where
-  none : Each P []
-  more : {r : Record} {p : List Record} → P r → Each P p → Each P (r ∷ p)
-
--- a record of W outputs
-abbrev pub OfWidth : ℕ → Record → Type 0
-OfWidth W r = length (r .outputs) ≡ W
 
 -- d with s laid over it from at on
 unfoldable pub laid : List ℕ → ℕ → List ℕ → List ℕ

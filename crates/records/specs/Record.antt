@@ -1,12 +1,12 @@
 -- A plan record over its width W (the number of its outputs, 64) and its edition byte e (0), and when it is well formed. Definitions only.
 use mathlib.Core.Path.{_≡_}
 use mathlib.Core.Bool.{Bool, true, false, not, _&&_, _||_}
-use mathlib.Core.Logic.{_⊎_}
 use mathlib.Core.List.{List}
-use Prim.Native.Nat.{ℕ, zero, suc, _+_, _*_, _<_, _≤_}
-use lib.ListN.{length, getD, drop}
+use Prim.Native.Nat.{ℕ, zero, suc, _+_, _*_}
+use lib.ListN.{getD, drop}
 use lib.Dec.{ltb, eqb}
-use Rattle.switch.specs.Plan.{Record, Setting, output}
+use Rattle.switch.specs.Plan.{Record}
+use Rattle.switch.specs.Sound.{Sound}
 
 -- p holds of every number below n
 unfoldable pub all : ℕ → (ℕ → Bool) → Bool
@@ -54,15 +54,7 @@ wellFormed W e N b = ltb 0 (hold b) && eqb (getD b 2 0) N && eqb (getD b 3 0) e 
 abbrev pub decoded : List ℕ → Record
 decoded b = record { hold = hold b; outputs = outputs b }
 
--- the same in plain statements, of a hold and W outputs
-pub record Sound (W N : ℕ) (r : Record) : Type 0 where
-  pub held : 0 < r .hold
-  pub size : length (r .outputs) ≡ W
-  pub inside : (i : ℕ) → i < N → (output r i < N) ⊎ (output r i ≡ 255)
-  pub setting : Setting N (output r)
-  pub later : (i : ℕ) → N ≤ i → i < W → output r i ≡ 255
-
--- and of a record's bytes
+-- the same in plain statements: the record's N and edition byte, and its hold and outputs sound
 pub record WellFormed (W e N : ℕ) (b : List ℕ) : Type 0 where
   pub ports : getD b 2 0 ≡ N
   pub edition : getD b 3 0 ≡ e

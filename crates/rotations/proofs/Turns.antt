@@ -10,8 +10,10 @@ use Rattle.switch.specs.Plan.{Record, total}
 use Rattle.rules.specs.Exact.{tab}
 use Rattle.rules.specs.Doubled.{held, turns}
 use Rattle.rules.proofs.Peels.{length-tab, getD-tab}
-use Rattle.rules.proofs.Doubled.{total-append, length-held, total-held}
-use Rattle.records.specs.Bytes.{encode, bytes, laid, Each, OfWidth}
+use Rattle.switch.proofs.Append.{total-append}
+use Rattle.rules.proofs.Doubled.{length-held, total-held}
+use Rattle.switch.specs.Sound.{Each, OfWidth}
+use Rattle.records.specs.Bytes.{encode, bytes, laid}
 use Rattle.records.proofs.Laid.{laid-none, copy-start-more, copy-whole}
 use Rattle.records.proofs.Bytes.{bytes-none, bytes-more, bytes-size, encode-size}
 use Rattle.rotations.proofs.Parts.{part-room, part-length, part-fits, part-laid}

@@ -17,6 +17,7 @@ use Rattle.counting.proofs.Sum.{sum-at, sum-mono, sum-mul}
 use Rattle.counting.proofs.Count.{δ-same}
 use Rattle.switch.specs.Demand.{cell, longest}
 use Rattle.switch.specs.Plan.{Full, Record, output, Plan, none, more, grant, total, Covers}
+use Rattle.switch.proofs.Append.{total-append, grant-append, plan-append}
 use Rattle.switch.proofs.Demand.{longest-le, row-le-longest, col-le-longest}
 use Rattle.rules.specs.Exact.{tab, exactPlan}
 use Rattle.rules.specs.Doubled.{unit, divide, stretch, held, turns, doubledBy, Joins, Doubled}
@@ -25,20 +26,6 @@ use Rattle.rules.proofs.Room.{length-le-total}
 use Rattle.rules.proofs.Exact.{exact-covers, exact-total, exact-plan}
 
 -- ---- lists of records
-
-pub total-append : (p q : List Record) → total (p ++ q) ≡ total p + total q
-unfolding total
-total-append [] q = omega arith
-total-append (r ∷ p) q = omega (arith, total-append p q)
-
-pub grant-append : (p q : List Record) (i j : ℕ) → grant (p ++ q) i j ≡ grant p i j + grant q i j
-unfolding grant
-grant-append [] q i j = omega arith
-grant-append (r ∷ p) q i j = omega (arith, grant-append p q i j)
-
-pub plan-append : {N : ℕ} {p q : List Record} → Plan N p → Plan N q → Plan N (p ++ q)
-plan-append none t = t
-plan-append (more h x s) t = more h x (plan-append s t)
 
 pub total-stretch : (u : ℕ) (p : List Record) → total (map (stretch u) p) ≡ total p * u
 unfolding total stretch

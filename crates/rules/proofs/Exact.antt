@@ -12,7 +12,7 @@ use Rattle.switch.proofs.Demand.{row-le-longest, col-le-longest, longest-le}
 use Rattle.switch.proofs.Plan.{least-total}
 use Rattle.rules.specs.Fill.{fill, filled}
 use Rattle.rules.specs.Peel.{Peels}
-use Rattle.rules.specs.Exact.{exactPlan}
+use Rattle.rules.specs.Exact.{exactPlan, Exact}
 use Rattle.rules.proofs.Fill.{filled-row, filled-col, filled-above, fill-same}
 use Rattle.rules.proofs.ExactFrom.{exact-end, from-peels}
 use Rattle.rules.proofs.Peels.{peels-unique, peels-grant, peels-total, peels-plan, peels-cong}
@@ -60,6 +60,10 @@ module _ (W N : ℕ) (pos : 0 < N) (top : N ≤ W) (d : List ℕ) (s : N * N ≤
   -- "It has at most N² - N + 1 records."
   pub exact-records-paper : length (exactPlan W N d) ≤ N * N - N + 1
   exact-records-paper = omega (arith, exact-records, mul-le-mul-left {m = 1} N pos)
+
+  -- what it is worth
+  pub exact : Exact N d (exactPlan W N d)
+  exact = record { plan = exact-plan; covers = exact-covers; held = exact-total; shortest = exact-shortest; few = exact-records }
 
 -- ---- demands with the same N × N cells, as a demand and a longer working copy, have the same exact plan
 

@@ -2,7 +2,7 @@
 use mathlib.Core.Path.{_≡_, refl, sym, ap₂, _∙_}
 use mathlib.Core.List.{List}
 use Prim.Native.Nat.{ℕ, zero, suc, _+_, _*_, _-_, _/_, _%_, _≤_, _<_, min}
-use native.Mathlib.Nat.{div-add-mod', mod-lt, div-lt-iff-lt-mul}
+use native.Mathlib.Nat.{div-add-mod'}
 use native.Mathlib.Omega.{arith}
 use native.Mathlib.Decide.{ℕ-discrete}
 use lib.ListN.{length, length-set}
@@ -12,7 +12,7 @@ use Rattle.counting.specs.Matrix.{row, col}
 use Rattle.counting.proofs.Sum.{sum-cong, sum-tight}
 use Rattle.counting.proofs.Matrix.{total-swap, Raised, raised-row, raised-col, raised-other-row, raised-other-col, raised-up, row-cong, col-cong}
 use Rattle.switch.specs.Demand.{cell, longest}
-use Rattle.switch.proofs.Demand.{index-inj, set-raised, row-le-longest, col-le-longest}
+use Rattle.switch.proofs.Demand.{index-inj, place-in, set-raised, row-le-longest, col-le-longest}
 use Rattle.rules.specs.Fill.{lack, fillCell, fillTo, fill, filled}
 
 pub length-fillTo : (N T : ℕ) (d : List ℕ) (k : ℕ) → length (fillTo N T d k) ≡ length d
@@ -23,11 +23,6 @@ length-fillTo N T d (suc k) = length-set (fillTo N T d k) _ _ ∙ length-fillTo 
 pub length-fill : (N T : ℕ) (d : List ℕ) → length (fill N T d) ≡ length d
 unfolding fill
 length-fill N T d = length-fillTo N T d (N * N)
-
--- the pair of the cell with index k
-pub place-in : (N k : ℕ) → k < N * N → (k / N < N) × (k % N < N)
-place-in zero k l = absurd (omega arith)
-place-in (suc n) k l = (div-lt-iff-lt-mul {k = suc n} (omega arith) .1 l, mod-lt k {m = suc n} (omega arith))
 
 -- ---- what one cell's filling does to the lines
 

@@ -19,3 +19,4 @@ pub mod Quick
 pub mod QuickFrom
 pub mod Empty
 pub mod Larger
+pub mod Sound

@@ -20,7 +20,7 @@ use Rattle.switch.proofs.Demand.{row-le-longest, col-le-longest}
 use Rattle.switch.proofs.Plan.{least-total}
 use Rattle.rules.specs.Peel.{peel}
 use Rattle.rules.specs.Exact.{tab}
-use Rattle.rules.specs.Quick.{slot, slots, quickFrom, quickPlan}
+use Rattle.rules.specs.Quick.{slot, slots, quickFrom, quickPlan, Quick}
 use Rattle.rules.proofs.Ports.{find}
 use Rattle.rules.proofs.Peel.{peel-back, peel-row, peel-col}
 use Rattle.rules.proofs.Peels.{output-tab}
@@ -73,13 +73,13 @@ some-left N M h = go (find N (λ i. (j : ℕ) × (j < N) × (0 < M i j)) (λ i. 
 
 module _ (W N : ℕ) (pos : 0 < N) (wide : N ≤ W) (top : N ≤ 255) where
   -- what is promised of the records of M: where there are any, they are no more than the row, the column and not the cell of some pair hold
-  record Quick (M : ℕ → ℕ → ℕ) (p : List Record) : Type 0 where
+  record Serves (M : ℕ → ℕ → ℕ) (p : List Record) : Type 0 where
     plan : Plan N p
     grants : (i j : ℕ) → i < N → j < N → grant p i j ≡ M i j
     ones : total p ≡ length p
     long : (p ≡ []) ⊎ ((i : ℕ) × (j : ℕ) × (i < N) × (j < N) × (0 < M i j) × (length p + M i j ≤ row N M i + col N M j))
 
-  quick-none : (M : ℕ → ℕ → ℕ) → sum N (row N M) ≡ 0 → Quick M []
+  quick-none : (M : ℕ → ℕ → ℕ) → sum N (row N M) ≡ 0 → Serves M []
   unfolding grant total
   quick-none M e = record {
     plan = none;
@@ -89,8 +89,8 @@ module _ (W N : ℕ) (pos : 0 < N) (wide : N ≤ W) (top : N ≤ 255) where
   }
 
   -- one slot more in front
-  quick-more : (M : ℕ → ℕ → ℕ) (o : ℕ → ℕ) → Maximal N M o → ((i : ℕ) → N ≤ i → o i ≡ 255) → (p : List Record) → sum N (row N M) ≢ 0 → Quick (peel 1 o M) p
-      → Quick M (record { hold = 1; outputs = tab W 0 o } ∷ p)
+  quick-more : (M : ℕ → ℕ → ℕ) (o : ℕ → ℕ) → Maximal N M o → ((i : ℕ) → N ≤ i → o i ≡ 255) → (p : List Record) → sum N (row N M) ≢ 0 → Serves (peel 1 o M) p
+      → Serves M (record { hold = 1; outputs = tab W 0 o } ∷ p)
   unfolding grant total
   quick-more M o m idle p ne q = record {
     plan = more {r = record { hold = 1; outputs = tab W 0 o }} (omega arith) (subst (Setting N) (sym joins) (m .setting)) (q .plan);
@@ -113,7 +113,7 @@ module _ (W N : ℕ) (pos : 0 < N) (wide : N ≤ W) (top : N ≤ 255) where
           left : 0 < M (x .0) (x .1)
           left = omega (arith, x .4, peel-back N 1 o M (m .used) (x .0) (x .1) (x .2) (x .3))
 
-  slots-quick : (k s : ℕ) (M : ℕ → ℕ → ℕ) → sum N (row N M) ≤ k → Quick M (slots W k N s M)
+  slots-quick : (k s : ℕ) (M : ℕ → ℕ → ℕ) → sum N (row N M) ≤ k → Serves M (slots W k N s M)
   unfolding slots
   slots-quick zero s M h = quick-none M (omega arith)
   slots-quick (suc k) s M h = go (ℕ-discrete (sum N (row N M)) 0) (λ l. slots-quick k (suc s) (peel 1 (slot N M s) M) l)
@@ -121,8 +121,8 @@ module _ (W N : ℕ) (pos : 0 < N) (wide : N ≤ W) (top : N ≤ 255) where
       m : Maximal N M (slot N M s)
       m = slot-maximal N pos top M s
 
-      go : Dec (sum N (row N M) ≡ 0) → (sum N (row N (peel 1 (slot N M s) M)) ≤ k → Quick (peel 1 (slot N M s) M) (slots W k N (suc s) (peel 1 (slot N M s) M)))
-          → Quick M (cond (eqb (sum N (row N M)) 0) [] (record { hold = 1; outputs = tab W 0 (slot N M s) } ∷ slots W k N (suc s) (peel 1 (slot N M s) M)))
+      go : Dec (sum N (row N M) ≡ 0) → (sum N (row N (peel 1 (slot N M s) M)) ≤ k → Serves (peel 1 (slot N M s) M) (slots W k N (suc s) (peel 1 (slot N M s) M)))
+          → Serves M (cond (eqb (sum N (row N M)) 0) [] (record { hold = 1; outputs = tab W 0 (slot N M s) } ∷ slots W k N (suc s) (peel 1 (slot N M s) M)))
       go (yes e) deeper = rw (eq-eqb (sum N (row N M)) 0 e) (quick-none M e)
       go (no ne) deeper =
           let x = some-left N M ne in
@@ -132,7 +132,7 @@ module _ (W N : ℕ) (pos : 0 < N) (wide : N ≤ W) (top : N ≤ 255) where
   -- ---- the promises
 
   module _ (d : List ℕ) where
-    quick-is : Quick (cell N d) (quickPlan W N d)
+    quick-is : Serves (cell N d) (quickPlan W N d)
     unfolding quickPlan quickFrom
     quick-is = slots-quick (sum N (row N (cell N d))) 0 (cell N d) (omega arith)
 
@@ -161,3 +161,7 @@ module _ (W N : ℕ) (pos : 0 < N) (wide : N ≤ W) (top : N ≤ 255) where
             → length (quickPlan W N d) ≤ 2 * longest N (cell N d) - 1
         go (inl e) = omega (arith, ap length e)
         go (inr x) = omega (arith, x .4, x .5, row-le-longest N (cell N d) (x .0) (x .2), col-le-longest N (cell N d) (x .1) (x .3))
+
+    -- what it is worth
+    pub quick : Quick N d (quickPlan W N d)
+    quick = record { plan = quick-plan; covers = quick-covers; grants = quick-grants; held = quick-total; least = quick-at-least; most = quick-at-most }

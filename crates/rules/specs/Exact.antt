@@ -1,9 +1,12 @@
 -- The exact plan, computed: fill to T, then take the first full setting for as long as its smallest cell, until all is zero. Definitions only.
+use mathlib.Core.Path.{_≡_}
 use mathlib.Core.List.{List, [], _∷_}
 use mathlib.Core.Option.{none, some}
-use Prim.Native.Nat.{ℕ, zero, suc, _-_, min}
+use Prim.Native.Nat.{ℕ, zero, suc, _+_, _*_, _-_, _≤_, min}
+use lib.ListN.{length}
 use Rattle.counting.specs.Matrix.{row}
-use Rattle.switch.specs.Plan.{Record}
+use Rattle.switch.specs.Demand.{cell, longest}
+use Rattle.switch.specs.Plan.{Record, Plan, total, Covers}
 use Rattle.rules.specs.Fill.{filled}
 use Rattle.rules.specs.Search.{firstSetting}
 use Rattle.rules.specs.Peel.{peel}
@@ -34,3 +37,12 @@ exactFrom W N M = peels W (row N M 0) N M
 -- the exact plan of demand d
 unfoldable pub exactPlan : ℕ → ℕ → List ℕ → List Record
 exactPlan W N d = exactFrom W N (filled N d)
+
+-- what the exact plan is worth: it covers the demand; its total hold is T; no plan that covers, of however many settings, full or with idle
+-- inputs, is held for less; and it has at most T records, and at most N² - 2N + 2
+pub record Exact (N : ℕ) (d : List ℕ) (p : List Record) : Type 0 where
+  pub plan : Plan N p
+  pub covers : Covers N (cell N d) p
+  pub held : total p ≡ longest N (cell N d)
+  pub shortest : (q : List Record) → Plan N q → Covers N (cell N d) q → total p ≤ total q
+  pub few : length p ≤ min (longest N (cell N d)) (N * N + 2 - 2 * N)

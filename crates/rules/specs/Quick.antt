@@ -1,12 +1,14 @@
 -- The quick cover, slot by slot: each input in turn takes the lowest free output with slots left. Definitions only.
+use mathlib.Core.Path.{_≡_}
 use mathlib.Core.Bool.{Bool, true, false, cond, _&&_, not}
 use mathlib.Core.List.{List, [], _∷_}
-use Prim.Native.Nat.{ℕ, zero, suc, _+_, _%_}
+use Prim.Native.Nat.{ℕ, zero, suc, _+_, _*_, _-_, _%_, _≤_, _<_}
+use lib.ListN.{length}
 use lib.Dec.{ltb, eqb}
 use Rattle.counting.specs.Sum.{sum}
 use Rattle.counting.specs.Matrix.{row}
-use Rattle.switch.specs.Demand.{cell}
-use Rattle.switch.specs.Plan.{Record}
+use Rattle.switch.specs.Demand.{cell, longest}
+use Rattle.switch.specs.Plan.{Record, Plan, grant, total, Covers}
 use Rattle.rules.specs.Search.{put}
 use Rattle.rules.specs.Peel.{peel}
 use Rattle.rules.specs.Exact.{tab}
@@ -51,3 +53,13 @@ quickFrom W N s M = slots W (sum N (row N M)) N s M
 -- the quick cover of demand d: for slot s = 0, 1, ..
 unfoldable pub quickPlan : ℕ → ℕ → List ℕ → List Record
 quickPlan W N d = quickFrom W N 0 (cell N d)
+
+-- what the quick cover is worth: it covers the demand and grants no slot beyond it; each record is held for one slot; and there are T to
+-- 2T - 1 records, none where T is 0
+pub record Quick (N : ℕ) (d : List ℕ) (p : List Record) : Type 0 where
+  pub plan : Plan N p
+  pub covers : Covers N (cell N d) p
+  pub grants : (i j : ℕ) → i < N → j < N → grant p i j ≡ cell N d i j
+  pub held : total p ≡ length p
+  pub least : longest N (cell N d) ≤ length p
+  pub most : length p ≤ 2 * longest N (cell N d) - 1

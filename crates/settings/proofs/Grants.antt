@@ -7,7 +7,7 @@ use native.Mathlib.Omega.{arith}
 use lib.ListN.{getD}
 use Rattle.counting.specs.Count.{δ}
 use Rattle.switch.specs.Plan.{Record, output, grant, total}
-use Rattle.records.specs.Bytes.{Each, none, more}
+use Rattle.switch.specs.Sound.{Each, none, more}
 use Rattle.settings.specs.Sums.{addHold, sumsOnto, sums}
 use Rattle.settings.proofs.Same.{same?}
 use Rattle.settings.proofs.Sums.{add-here, add-later}

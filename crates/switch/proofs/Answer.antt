@@ -3,7 +3,8 @@ use mathlib.Core.Path.{_≡_, refl, sym, ap, _∙_}
 use mathlib.Core.Bool.{cond}
 use Prim.Native.Nat.{ℕ}
 use lib.Dec.{eqb}
-use Rattle.switch.specs.Answer.{Answer, answerOf}
+use borrow.Author.Tests.{eq-eqb}
+use Rattle.switch.specs.Answer.{Answer, codeOf, countsOf, answerOf}
 use Rattle.switch.specs.declared.Side.{Side}
 use Rattle.switch.specs.declared.Side.the-variants.{Input, Output}
 use Rattle.switch.specs.declared.Refusal.{Refusal}
@@ -56,6 +57,11 @@ told (Refused (Uncovered k)) = refl
 -- outcomes with the same code, place, side and counts are the same
 pub answer-tells : (o p : Outcome) → answerOf o ≡ answerOf p → o ≡ p
 answer-tells o p e = sym (told o) ∙ ap outcomeFrom e ∙ told p
+
+-- code 0 is given to what is done, and to nothing else
+pub code-done : (o : Outcome) → codeOf o ≡ 0 → o ≡ Done (countsOf o)
+unfolding outcomeFrom
+code-done o e = sym (told o) ∙ rw (eq-eqb (codeOf o) 0 e)
 
 -- A contract that gives a result by a definition determines it: any two results that satisfy it are equal.
 pub determined : {A : Type 0} (a b given : A) → a ≡ given → b ≡ given → a ≡ b

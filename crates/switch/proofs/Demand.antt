@@ -1,9 +1,9 @@
 -- The laws of cells and lines: a cell's index tells its pair, and the 2N lines are the rows and then the columns.
 use mathlib.Core.Path.{_≡_, sym, ap, ap₂, _∙_}
 use mathlib.Core.List.{List, _++_}
-use Prim.Native.Nat.{ℕ, _+_, _*_, _-_, _/_, _%_, _≤_, _<_, max}
+use Prim.Native.Nat.{ℕ, zero, suc, _+_, _*_, _-_, _/_, _%_, _≤_, _<_, max}
 use native.Mathlib.Omega.{arith}
-use native.Mathlib.Nat.{mul-le-mul}
+use native.Mathlib.Nat.{mul-le-mul, mod-lt, div-lt-iff-lt-mul}
 use lib.ListN.{getD, length, set, List·getD-append}
 use lib.Seq.{getD-set-same, getD-set-other}
 use lib.Arith.{digits-div, digits-mod, digits-lt}
@@ -26,6 +26,11 @@ index-inj N a b i j l k e = (
   sym (digits-div a {m = N} l) ∙ ap (λ x. x / N) e ∙ digits-div i {m = N} k,
   sym (digits-mod a {m = N} l) ∙ ap (λ x. x % N) e ∙ digits-mod i {m = N} k,
 )
+
+-- a cell's index tells its pair, which is one of the switch
+pub place-in : (N k : ℕ) → k < N * N → (k / N < N) × (k % N < N)
+place-in zero k l = absurd (omega arith)
+place-in (suc n) k l = (div-lt-iff-lt-mul {k = suc n} (omega arith) .1 l, mod-lt k {m = suc n} (omega arith))
 
 -- cells behind the N × N are none of the demand's
 pub cell-append : (N : ℕ) (d z : List ℕ) → length d ≡ N * N → (i j : ℕ) → i < N → j < N → cell N (d ++ z) i j ≡ cell N d i j

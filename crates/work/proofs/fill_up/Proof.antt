@@ -5,7 +5,8 @@ use Prim.Native.Nat.{ℕ, _*_, _-_, _/_, _%_, _≤_}
 use native.Mathlib.Omega.{arith}
 use lib.ListN.{length, length-set}
 use Rattle.rules.specs.Fill.{fill, fillTo, fillCell}
-use Rattle.rules.proofs.Fill.{length-fillTo, place-in}
+use Rattle.switch.proofs.Demand.{place-in}
+use Rattle.rules.proofs.Fill.{length-fillTo}
 use Rattle.work.specs.Level.{Lacking}
 use Rattle.work.proofs.Cells.{square-small}
 use Rattle.work.proofs.Filling.{within-so-far, fillTo-zero, fillTo-next, fill-fits, filled-cell, lacking-filled}

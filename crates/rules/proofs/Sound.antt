@@ -1,11 +1,10 @@
--- The planners' plans pass the checker for their demand: their records are settings below N with all later outputs idle, they are few
--- enough, and they cover.
+-- Every record of the rules' plans is sound: a setting below N, held at least 1, with all later outputs idle.
 use mathlib.Core.Path.{_≡_, refl, sym, ap, _∙_, subst}
 use mathlib.Core.Logic.{_⊎_, inl, inr}
 use mathlib.Core.Bool.{Bool, cond}
 use mathlib.Core.List.{List, [], _∷_, _++_, map}
 use Prim.Native.Nat.{ℕ, zero, suc, _+_, _*_, _%_, _<_, _≤_}
-use native.Mathlib.Nat.{mul-le-mul, mul-le-mul-right}
+use native.Mathlib.Nat.{mul-le-mul-right}
 use native.Mathlib.Decide.{ℕ-discrete}
 use native.Mathlib.Omega.{arith}
 use lib.ListN.{length}
@@ -13,41 +12,24 @@ use lib.Dec.{eqb}
 use borrow.Author.Tests.{eq-eqb, ne-eqb}
 use Rattle.counting.specs.Sum.{sum}
 use Rattle.counting.specs.Matrix.{row}
-use Rattle.switch.specs.declared.Outcome.the-variants.{Done}
-use Rattle.switch.specs.Answer.{demandCounts}
 use Rattle.switch.specs.Demand.{cell, longest}
-use Rattle.switch.specs.Plan.{Setting, Record, output, total, Covers}
-use Rattle.switch.specs.Empty.{emptySlots}
+use Rattle.switch.specs.Plan.{Setting, Record, output}
+use Rattle.switch.specs.Sound.{Each, none, more, Sound}
 use Rattle.switch.proofs.Plan.{full-setting}
+use Rattle.switch.proofs.Sound.{each-append, full-sound}
 use Rattle.rules.specs.Search.{put}
 use Rattle.rules.specs.Peel as rule
 use Rattle.rules.specs.Peel.{Peels, peel}
 use Rattle.rules.specs.Exact.{tab, exactPlan}
-use Rattle.rules.specs.Doubled.{unit, divide, stretch, held, turns, rotate, flat, tight, doubledBy, doubledPlan, tightPlan, Joins, Doubled}
+use Rattle.rules.specs.Doubled.{unit, divide, stretch, held, turns, rotate, flat, tight, doubledBy, doubledPlan, tightPlan, Joins}
 use Rattle.rules.specs.Quick.{lowest, may, seat, visits, slot, slots, quickFrom, quickPlan}
 use Rattle.rules.proofs.Peels.{length-tab, output-tab}
 use Rattle.rules.proofs.Ports.{put-same, put-other}
-use Rattle.rules.proofs.Exact.{exact-peels, exact-covers, exact-records}
+use Rattle.rules.proofs.Exact.{exact-peels}
 use Rattle.rules.proofs.Doubled.{length-divide, unit-above}
-use Rattle.rules.proofs.Rotate.{rotate-joins, rotate-idle, doubled}
-use Rattle.rules.proofs.Tight.{tight-doubled}
+use Rattle.rules.proofs.Rotate.{rotate-joins, rotate-idle}
 use Rattle.rules.proofs.Slot.{Low, lowest-low, slot-maximal, slot-idle}
 use Rattle.rules.proofs.Slot as low
-use Rattle.rules.proofs.Quick.{quick-covers, quick-at-most}
-use Rattle.demand.specs.declared.Checked.the-variants.{Fine}
-use Rattle.demand.specs.Check.{checkDemand, Asked}
-use Rattle.demand.proofs.Check.{fine-asked}
-use Rattle.records.specs.Record.{Sound}
-use Rattle.records.specs.Bytes.{bytes, Each, none, more}
-use Rattle.records.proofs.Meaning.{full-sound}
-use Rattle.plans.specs.declared.Edition.{Edition}
-use Rattle.plans.specs.Read.{firstEdition, Bounded}
-use Rattle.audit.specs.Check.{checkPlan}
-use Rattle.audit.proofs.Passes.{sound-passes}
-
-each-append : {P : Record → Type 0} {p q : List Record} → Each P p → Each P q → Each P (p ++ q)
-each-append none t = t
-each-append (more x s) t = more x (each-append s t)
 
 module _ (W N : ℕ) where
   -- ---- the exact plan
@@ -170,53 +152,3 @@ module _ (W N : ℕ) where
       pub quick-sound : N ≤ 255 → (d : List ℕ) → Each (Sound W N) (quickPlan W N d)
       unfolding quickPlan quickFrom
       quick-sound few d = slots-sound pos few (sum N (row N (cell N d))) 0 (cell N d)
-
--- ---- they pass
-
--- room for every planner's plan: N² - 2N + 2, 2N and 2T - 1 records, with T at most 1,024
-abbrev pub Roomy : Edition → Type 0
-Roomy E = E .ports * E .ports + 2048 ≤ E .records
-
-pub first-roomy : Roomy firstEdition
-first-roomy = omega arith
-
--- a plan of sound records whose bytes pass, with its own records, the demand's T, its own total and its empty slots
-pub record PassesAs (E : Edition) (N T : ℕ) (d : List ℕ) (p : List Record) : Type 0 where
-  pub sound : Each (Sound (E .width) N) p
-  pub passes : checkPlan E N d (bytes (E .byte) N p) ≡ Done (demandCounts (length p) T (total p) (emptySlots N (cell N d) p))
-
-module _ (E : Edition) (bounds : Bounded E) (roomy : Roomy E) (N T : ℕ) (d : List ℕ) (fine : Fine T ≡ checkDemand (E .ports) N d) where
-  asked : Asked (E .ports) N T d
-  asked = fine-asked (E .ports) N T d (sym fine)
-
-  top : N ≤ E .width
-  top = omega (arith, asked .few, bounds .ports)
-
-  enough : N * N ≤ length d
-  enough = omega (arith, asked .size)
-
-  square : N * N ≤ E .ports * E .ports
-  square = mul-le-mul (asked .few) (asked .few)
-
-  pass : {p : List Record} → length p ≤ E .records → Each (Sound (E .width) N) p → Covers N (cell N d) p → PassesAs E N T d p
-  pass few s h = record { sound = s; passes = sound-passes E bounds N T d fine few s h }
-
-  pub exact-passes : PassesAs E N T d (exactPlan (E .width) N d)
-  exact-passes = pass (omega (arith, square, roomy, exact-records (E .width) N (asked .some) top d enough))
-      (exact-sound (E .width) N top (asked .some) d enough) (exact-covers (E .width) N (asked .some) top d enough)
-
-  -- any plan of sound records that keeps the doubled plan's promises, whatever the rule
-  pub keeps-passes : {p : List Record} → Doubled N d p → Each (Sound (E .width) N) p → PassesAs E N T d p
-  keeps-passes k s = pass (omega (arith, roomy, k .few, top, bounds .width)) s (k .covers)
-
-  pub doubled-passes : PassesAs E N T d (doubledPlan (E .width) N d)
-  doubled-passes = keeps-passes (doubled (E .width) N (asked .some) top d enough) (doubled-sound (E .width) N top (asked .some) d enough)
-
-  pub tight-passes : PassesAs E N T d (tightPlan (E .width) N d)
-  tight-passes = keeps-passes (tight-doubled (E .width) N (asked .some) top d enough) (tight-sound (E .width) N top (asked .some) d enough)
-
-  pub quick-passes : T ≤ 1024 → PassesAs E N T d (quickPlan (E .width) N d)
-  quick-passes l =
-      let few : N ≤ 255 = omega (arith, top, bounds .width) in
-      pass (omega (arith, roomy, asked .longest-is, quick-at-most (E .width) N (asked .some) top few d))
-      (quick-sound (E .width) N top (asked .some) few d) (quick-covers (E .width) N (asked .some) top few d)
