@@ -19,7 +19,7 @@ use switch::Counts;
 use switch::Outcome;
 use switch::PORTS;
 use switch::Refusal;
-use switch::counts_of;
+use switch::numbers_of;
 ghost use mathlib.Core.Path.{_≡_};
 ghost use mathlib.Core.List.{_++_};
 ghost use Prim.Native.Nat.{_+_, _*_, _<_, _≤_};
@@ -66,7 +66,7 @@ fn plan_fine(n: usize, longest: u64, cells: &[u32], work: &mut [u32], plan: &mut
     let unit = unit_of(n, longest);
     quotients(cells, work, unit);
     let mut first = [0u8; FIRST];
-    let made = counts_of(exact_plan(n, work, &mut first));
+    let made = numbers_of(exact_plan(n, work, &mut first)).counts;
     plan_parts(n, cells, unit, &first, made.records, made.total, plan)
 }
 

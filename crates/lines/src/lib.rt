@@ -92,13 +92,10 @@ pub fn put_refusal(text: &mut [u8], refusal: Refusal) -> usize
     requires { ⌜ 64 ≤ length (now text) ⌝ }
     ensures { λ r. ⌜ Put (refusedLine refusal) (now (text .entry)) 0 (now (text .exit)) r ⌝ }
 {
-    let refused = Outcome::Refused(refusal);
-    let code = switch::code_of(refused);
-    let side = switch::side_of(refused);
-    let place = switch::place_of(refused);
-    let after_code = put_field(text, 0, b"refused", code);
-    let after_side = put_side(text, after_code, side);
-    let after_place = put_number(text, after_side, place as u64);
+    let told = switch::numbers_of(Outcome::Refused(refusal));
+    let after_code = put_field(text, 0, b"refused", told.code);
+    let after_side = put_side(text, after_code, told.side);
+    let after_place = put_number(text, after_side, told.place as u64);
     put_bytes(text, after_place, b"\n")
 }
 

@@ -1,9 +1,14 @@
--- Document 01's numbers for each case of an answer: code, place, side, records, T, total, length and empty slots. Definitions only.
+-- The numbers on paper for each case of an answer: code, place, side, records, T, total, length and empty slots; and what a refusal is about. Definitions only.
 use Prim.Native.Nat.{ℕ}
 use Rattle.switch.specs.declared.Side.{Side}
 use Rattle.switch.specs.declared.Side.the-variants.{Input, Output}
 use Rattle.switch.specs.declared.Refusal.{Refusal}
-use Rattle.switch.specs.declared.Refusal.the-variants.{Ports, Cells, Line, Longest, Room, NotFinite, BelowZero, AboveMost, Torn, Records, Malformed, Named, Uncovered}
+use Rattle.switch.specs.declared.Refusal.the-variants.{Ports, Cells, Line, Longest, Room, NotFinite, BelowZero, AboveMost}
+use Rattle.switch.specs.declared.Refusal.the-variants.{Torn, Records, Malformed, Named, Uncovered}
+use Rattle.switch.specs.declared.Refusal.the-variants.{LongestOver, NotInForce, FirstOver, ListRoom, Limit}
+use Rattle.switch.specs.declared.About.{About}
+use Rattle.switch.specs.declared.About.the-variants as about
+use Rattle.switch.specs.declared.Numbers.{Numbers}
 use Rattle.switch.specs.declared.Counts.{Counts}
 use Rattle.switch.specs.declared.Outcome.{Outcome}
 use Rattle.switch.specs.declared.Outcome.the-variants.{Done, Refused}
@@ -23,6 +28,11 @@ refusalCode (Records k) = 10
 refusalCode (Malformed k) = 11
 refusalCode (Named k) = 12
 refusalCode (Uncovered k) = 13
+refusalCode LongestOver = 3
+refusalCode NotInForce = 14
+refusalCode (FirstOver k) = 15
+refusalCode (ListRoom k) = 16
+refusalCode Limit = 17
 
 -- a line's number on its side
 abbrev pub lineNumber : Side → ℕ
@@ -44,13 +54,18 @@ refusalPlace (Records k) = k
 refusalPlace (Malformed k) = k
 refusalPlace (Named k) = k
 refusalPlace (Uncovered k) = k
+refusalPlace LongestOver = 0
+refusalPlace NotInForce = 0
+refusalPlace (FirstOver k) = k
+refusalPlace (ListRoom k) = k
+refusalPlace Limit = 0
 
 -- the side's number: 1 input, 2 output
 abbrev pub sideNumber : Side → ℕ
 sideNumber (Input p) = 1
 sideNumber (Output p) = 2
 
--- a refusal with code 3 says which side the line is on; 0 for any other
+-- the side of the line that is refused; 0 where no line is
 abbrev pub refusalSide : Refusal → ℕ
 refusalSide Ports = 0
 refusalSide (Cells k) = 0
@@ -65,6 +80,11 @@ refusalSide (Records k) = 0
 refusalSide (Malformed k) = 0
 refusalSide (Named k) = 0
 refusalSide (Uncovered k) = 0
+refusalSide LongestOver = 0
+refusalSide NotInForce = 0
+refusalSide (FirstOver k) = 0
+refusalSide (ListRoom k) = 0
+refusalSide Limit = 0
 
 -- code 0: nothing refused
 abbrev pub codeOf : Outcome → ℕ
@@ -87,15 +107,19 @@ abbrev pub countsOf : Outcome → Counts
 countsOf (Done c) = c
 countsOf (Refused r) = noCounts
 
--- a call answers code, place, records, T, total and empty slots; what does not apply is 0
-pub record Answer : Type 0 where
-  pub code : ℕ
-  pub place : ℕ
-  pub side : ℕ
-  pub counts : Counts
+-- what a call answers on paper; what does not apply is 0
+abbrev pub numbersOf : Outcome → Numbers
+numbersOf o = record { code = codeOf o; place = placeOf o; side = sideOf o; counts = countsOf o }
 
-abbrev pub answerOf : Outcome → Answer
-answerOf o = record { code = codeOf o; place = placeOf o; side = sideOf o; counts = countsOf o }
+-- the number of what a refusal is about; 0 where there is nothing to tell apart
+abbrev pub aboutNumber : About → ℕ
+aboutNumber about.Nothing = 0
+aboutNumber about.Tonight = 1
+aboutNumber about.Standby = 2
+aboutNumber about.Plan = 3
+aboutNumber about.Demand = 4
+aboutNumber about.Wished = 5
+aboutNumber about.Sum = 6
 
 -- what the planners and the checker count: records, T, total and empty slots
 abbrev pub demandCounts : ℕ → ℕ → ℕ → ℕ → Counts

@@ -2,7 +2,7 @@
 // What a demand, a line, T, a setting, a plan, its grants, its cover and its empty slots are stands in specs/, over any number of ports, and
 // in proofs/ that no plan that covers a demand is held for less than T. Checking a demand and planning it are left to the crates above.
 ghost use mathlib.Core.Path.{_≡_};
-ghost use Rattle.switch.specs.Answer.{codeOf, placeOf, sideOf, countsOf};
+ghost use Rattle.switch.specs.Answer.{refusalCode, refusalPlace, refusalSide, noCounts, numbersOf, aboutNumber};
 
 // N is 1 to 64.
 pub const PORTS: usize = 64;
@@ -21,7 +21,7 @@ pub enum Side {
     Output(OutputPort),
 }
 
-// Why a call refuses, codes 1 to 13 in this order. What a case holds is its place.
+// Why a call refuses: codes 1 to 13 in this order, then those of later requests. What a case holds is its place.
 pub enum Refusal {
     // N is not a number of ports.
     Ports,
@@ -49,6 +49,27 @@ pub enum Refusal {
     Named(usize),
     // A pair, given by its cell, is not covered.
     Uncovered(usize),
+    // T alone is told and is over 65,535: code 3 with no line to name.
+    LongestOver,
+    // Tonight's plan has run out and there is no standby plan.
+    NotInForce,
+    // More first records are asked for than the plan has, which is what it holds.
+    FirstOver(usize),
+    // The list's buffer holds fewer whole entries than are needed, which it holds.
+    ListRoom(usize),
+    // At most 0 inputs may share a wavelength.
+    Limit,
+}
+
+// What a refusal is about, where a call reads more than one plan or demand.
+pub enum About {
+    Nothing,
+    Tonight,
+    Standby,
+    Plan,
+    Demand,
+    Wished,
+    Sum,
 }
 
 // What a call counted; what does not apply is 0.
@@ -67,96 +88,93 @@ pub enum Outcome {
     Refused(Refusal),
 }
 
-// Document 01's code of an answer, 0 where nothing is refused.
-pub fn code_of(o: Outcome) -> u64
-    ensures { λ r. ⌜ r ≡ codeOf o ⌝ }
-{
-    let Outcome::Refused(r) = o else {
-        return 0;
-    };
-    match r {
-        Refusal::Ports => 1,
-        Refusal::Cells(_) => 2,
-        Refusal::Line(_) => 3,
-        Refusal::Longest => 4,
-        Refusal::Room(_) => 5,
-        Refusal::NotFinite(_) => 6,
-        Refusal::BelowZero(_) => 7,
-        Refusal::AboveMost(_) => 8,
-        Refusal::Torn(_) => 9,
-        Refusal::Records(_) => 10,
-        Refusal::Malformed(_) => 11,
-        Refusal::Named(_) => 12,
-        Refusal::Uncovered(_) => 13,
-    }
+// An outcome on paper.
+pub struct Numbers {
+    // 0 where nothing is refused.
+    pub code: u64,
+    pub place: usize,
+    // 1 where a refused line is an input's, 2 where it is an output's, else 0.
+    pub side: u64,
+    pub counts: Counts,
 }
 
-// Document 01's place of an answer, 0 where nothing is refused.
-pub fn place_of(o: Outcome) -> usize
-    ensures { λ r. ⌜ r ≡ placeOf o ⌝ }
-{
-    let Outcome::Refused(r) = o else {
-        return 0;
-    };
-    match r {
-        Refusal::Ports => 0,
-        Refusal::Cells(k) => k,
-        Refusal::Line(s) => match s {
-            Side::Input(p) => p.0,
-            Side::Output(p) => p.0,
-        },
-        Refusal::Longest => 0,
-        Refusal::Room(k) => k,
-        Refusal::NotFinite(k) => k,
-        Refusal::BelowZero(k) => k,
-        Refusal::AboveMost(k) => k,
-        Refusal::Torn(k) => k,
-        Refusal::Records(k) => k,
-        Refusal::Malformed(k) => k,
-        Refusal::Named(k) => k,
-        Refusal::Uncovered(k) => k,
-    }
-}
-
-// Which side a refused line is on: 1 for an input's, 2 for an output's, 0 for any other answer.
-pub fn side_of(o: Outcome) -> u64
-    ensures { λ r. ⌜ r ≡ sideOf o ⌝ }
-{
-    let Outcome::Refused(r) = o else {
-        return 0;
-    };
-    match r {
-        Refusal::Line(s) => match s {
-            Side::Input(_) => 1,
-            Side::Output(_) => 2,
-        },
-        Refusal::Ports => 0,
-        Refusal::Cells(_) => 0,
-        Refusal::Longest => 0,
-        Refusal::Room(_) => 0,
-        Refusal::NotFinite(_) => 0,
-        Refusal::BelowZero(_) => 0,
-        Refusal::AboveMost(_) => 0,
-        Refusal::Torn(_) => 0,
-        Refusal::Records(_) => 0,
-        Refusal::Malformed(_) => 0,
-        Refusal::Named(_) => 0,
-        Refusal::Uncovered(_) => 0,
-    }
-}
-
-// What a call counted, all 0 where it is refused.
-pub fn counts_of(o: Outcome) -> Counts
-    ensures { λ r. ⌜ r ≡ countsOf o ⌝ }
+// Document 01's numbers of an outcome.
+pub fn numbers_of(o: Outcome) -> Numbers
+    ensures { λ r. ⌜ r ≡ numbersOf o ⌝ }
 {
     match o {
-        Outcome::Done(c) => c,
-        Outcome::Refused(_) => Counts {
-            records: 0,
-            longest: 0,
-            total: 0,
-            length: 0,
-            empty: 0,
+        Outcome::Done(counts) => Numbers {
+            code: 0,
+            place: 0,
+            side: 0,
+            counts,
         },
+        Outcome::Refused(r) => refused(entry_of(r)),
+    }
+}
+
+// A refusal's code, place and side.
+struct Entry(u64, usize, u64);
+
+// The tables of codes and places.
+fn entry_of(r: Refusal) -> Entry
+    ensures { λ e. ⌜ (e .0 ≡ refusalCode r) × (e .1 ≡ refusalPlace r) × (e .2 ≡ refusalSide r) ⌝ }
+{
+    match r {
+        Refusal::Ports => Entry(1, 0, 0),
+        Refusal::Cells(k) => Entry(2, k, 0),
+        Refusal::Line(s) => match s {
+            Side::Input(p) => Entry(3, p.0, 1),
+            Side::Output(p) => Entry(3, p.0, 2),
+        },
+        Refusal::Longest => Entry(4, 0, 0),
+        Refusal::Room(k) => Entry(5, k, 0),
+        Refusal::NotFinite(k) => Entry(6, k, 0),
+        Refusal::BelowZero(k) => Entry(7, k, 0),
+        Refusal::AboveMost(k) => Entry(8, k, 0),
+        Refusal::Torn(k) => Entry(9, k, 0),
+        Refusal::Records(k) => Entry(10, k, 0),
+        Refusal::Malformed(k) => Entry(11, k, 0),
+        Refusal::Named(k) => Entry(12, k, 0),
+        Refusal::Uncovered(k) => Entry(13, k, 0),
+        Refusal::LongestOver => Entry(3, 0, 0),
+        Refusal::NotInForce => Entry(14, 0, 0),
+        Refusal::FirstOver(k) => Entry(15, k, 0),
+        Refusal::ListRoom(k) => Entry(16, k, 0),
+        Refusal::Limit => Entry(17, 0, 0),
+    }
+}
+
+// A refusal counts nothing.
+fn refused(entry: Entry) -> Numbers
+    ensures { λ r. ⌜ r ≡ record { code = entry .0; place = entry .1; side = entry .2; counts = noCounts } ⌝ }
+{
+    let counts = Counts {
+        records: 0,
+        longest: 0,
+        total: 0,
+        length: 0,
+        empty: 0,
+    };
+    Numbers {
+        code: entry.0,
+        place: entry.1,
+        side: entry.2,
+        counts,
+    }
+}
+
+// The number of what a refusal is about.
+pub fn about_number(about: About) -> u64
+    ensures { λ r. ⌜ r ≡ aboutNumber about ⌝ }
+{
+    match about {
+        About::Nothing => 0,
+        About::Tonight => 1,
+        About::Standby => 2,
+        About::Plan => 3,
+        About::Demand => 4,
+        About::Wished => 5,
+        About::Sum => 6,
     }
 }

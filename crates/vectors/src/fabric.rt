@@ -16,7 +16,7 @@ const SHORT: usize = 128;
 pub fn report_written(n: usize, outcome: Outcome, lent: &[u8])
     requires { ⌜ length (now lent) ≤ 278783 ⌝ }
 {
-    let count = tape::within(switch::counts_of(outcome).records, lent);
+    let count = tape::within(switch::numbers_of(outcome).counts.records, lent);
     let size = tape::within(count * RECORD, lent);
     show::text(b"reported:");
     report(n, &lent[..size], SHORT);
@@ -41,7 +41,7 @@ fn report_into(n: usize, plan: &[u8], lent: &mut [u8]) {
 
 // The numbers of a report, if they are few, in a line.
 fn numbers(outcome: Outcome, report: &[u8]) {
-    let records = switch::counts_of(outcome).records;
+    let records = switch::numbers_of(outcome).counts.records;
     if SHORT < records {
         return;
     }

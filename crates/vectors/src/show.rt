@@ -20,10 +20,11 @@ const PRIME: u64 = 4294967291;
 
 // What a call answered: code, place, side, and its counts.
 pub fn answer(o: Outcome) {
-    let counts = switch::counts_of(o);
-    field(b" code ", switch::code_of(o));
-    field(b" place ", switch::place_of(o) as u64);
-    side(switch::side_of(o));
+    let told = switch::numbers_of(o);
+    let counts = told.counts;
+    field(b" code ", told.code);
+    field(b" place ", told.place as u64);
+    side(told.side);
     field(b" records ", counts.records as u64);
     field(b" longest ", counts.longest);
     field(b" total ", counts.total);
@@ -60,7 +61,7 @@ fn checksum(bytes: &[u8]) -> u64 {
 
 // The records of a plan that was written, if they are few: a line each, hold, then the outputs of the first n inputs.
 pub fn plan(n: usize, o: Outcome, bytes: &[u8]) {
-    let count = switch::counts_of(o).records;
+    let count = switch::numbers_of(o).counts.records;
     if count > SHORT {
         return;
     }

@@ -3,6 +3,7 @@ use mathlib.Core.Path.{ap, _∙_}
 use Prim.Native.Nat.{ℕ, _/_, _≤_, _<_}
 use native.Mathlib.Omega.{arith}
 use lib.ListN.{replicate, length-replicate}
+use Rattle.switch.specs.declared.Numbers.{Numbers}
 use Rattle.demand.specs.declared.Checked.the-variants.{Fine}
 use Rattle.demand.proofs.Check.{fine-asked}
 use Rattle.records.specs.Bytes.{whole}
@@ -42,8 +43,8 @@ slice-aggregate-exact-plan c = search needs
 exact-plan-requires : tie.Need-exact-plan-requires
 exact-plan-requires c κs = search needs
 
-counts-of-requires : tie.Need-counts-of-requires
-counts-of-requires c κs = search needs
+numbers-of-requires : tie.Need-numbers-of-requires
+numbers-of-requires c κs = search needs
 
 slice-aggregate-plan-parts : tie.Need-slice-aggregate-plan-parts
 slice-aggregate-plan-parts c = search needs
@@ -52,7 +53,7 @@ plan-parts-requires : tie.Need-plan-parts-requires
 plan-parts-requires c κs =
     let a = c .before .before .before .before .before .before .before .before .before .before .before .before .before .before .before .before .args in
     let x = c .before .before .before .before .exact-plan in
-    parted 64 (a .n) (a .longest) _ (a .cells .now) _ (c .before .before .before .before .before .before .before .before .before .before .before .before .before .before .before .before .pre .0) (omega (arith, c .before .before .before .before .before .before .before .before .before .before .before .before .if1 .left)) (c .before .before .before .before .before .before .before .before .before .before .before .unit-of .ensures) (c .before .before .before .before .before .before .before .before .before .quotients .ensures) 0 _ first-room _ _ _ (x .ensures .0) (x .ensures .1) (c .before .before .counts-of .ensures) (x .kept .1 .1 .0)
+    parted 64 (a .n) (a .longest) _ (a .cells .now) _ (c .before .before .before .before .before .before .before .before .before .before .before .before .before .before .before .before .pre .0) (omega (arith, c .before .before .before .before .before .before .before .before .before .before .before .before .if1 .left)) (c .before .before .before .before .before .before .before .before .before .before .before .unit-of .ensures) (c .before .before .before .before .before .before .before .before .before .quotients .ensures) 0 _ first-room _ _ _ (x .ensures .0) (x .ensures .1) (ap (λ (x : Numbers). x .counts) (c .before .before .numbers-of .ensures)) (x .kept .1 .1 .0)
 
 same-length : tie.Need-same-length
 same-length c = search needs
@@ -77,7 +78,7 @@ plan-fine-spec =
     quotients-requires
     slice-aggregate-exact-plan
     exact-plan-requires
-    counts-of-requires
+    numbers-of-requires
     slice-aggregate-plan-parts
     plan-parts-requires
     same-length

@@ -4,6 +4,7 @@ use mathlib.Core.List.{List, _∷_, _++_}
 use Prim.Native.Nat.{ℕ}
 use native.Mathlib.Omega.{arith}
 use lib.ListN.{length}
+use Rattle.switch.specs.declared.Numbers.{Numbers}
 use Rattle.lines.specs.Ascii.{ascii}
 use Rattle.lines.specs.Decimal.{decimal}
 use Rattle.lines.specs.Line.{space, spaced}
@@ -15,23 +16,24 @@ use Rattle.lines.proofs.put_refusal.Statement.{statement}
 use Rattle.lines.proofs.put_refusal.Tie as tie
 
 -- the numbers
-abbrev code : tie.After-place-of → ℕ
-code p = p .before .before .code-of .result
+abbrev code : tie.After-numbers-of → ℕ
+code p = p .numbers-of .result .code
 
-abbrev side : tie.After-place-of → ℕ
-side p = p .before .side-of .result
+abbrev side : tie.After-numbers-of → ℕ
+side p = p .numbers-of .result .side
 
-abbrev place : tie.After-place-of → ℕ
-place p = p .place-of .result
+abbrev place : tie.After-numbers-of → ℕ
+place p = p .numbers-of .result .place
 
 -- what is left to put before the first piece, and after each
-abbrev Goes : tie.After-place-of → List ℕ → ℕ → List ℕ → Type 0
-Goes p d at t = Left (p .before .before .before .before .args .text .now) 0 (refusedLine (p .before .before .before .before .args .refusal)) d at t
+abbrev Goes : tie.After-numbers-of → List ℕ → ℕ → List ℕ → Type 0
+Goes p d at t = Left (p .before .before .args .text .now) 0 (refusedLine (p .before .before .args .refusal)) d at t
 
-left : (p : tie.After-place-of) → Goes p (p .before .before .before .before .args .text .now) 0 (field (ascii "refused") (code p) ++ after-code (side p) (place p))
+left : (p : tie.After-numbers-of) → Goes p (p .before .before .args .text .now) 0 (field (ascii "refused") (code p) ++ after-code (side p) (place p))
 left p =
-    let start = p .before .before .before .before in
-    let pieces = refused-pieces (start .args .refusal) (code p) (side p) (place p) (p .before .before .code-of .ensures) (p .before .side-of .ensures) (p .place-of .ensures) in
+    let start = p .before .before in
+    let told = p .numbers-of .ensures in
+    let pieces = refused-pieces (start .args .refusal) (code p) (side p) (place p) (ap (λ (x : Numbers). x .code) told) (ap (λ (x : Numbers). x .side) told) (ap (λ (x : Numbers). x .place) told) in
     left-as pieces (all-left _ _ _ (omega (arith, start .pre, ap length pieces, refused-size (code p) (side p) (place p) (omega arith) (omega arith))))
 
 left-code : (c : tie.After-put-field) → (let p = c .before .before .before in Goes p (c .put-field .last .0) (c .put-field .result) (after-code (side p) (place p)))
@@ -43,14 +45,8 @@ left-side c = let p = c .before .before .before .before .before .before .before 
 left-place : (c : tie.After-put-number) → (let p = c .before .before .before .before .before .before .before .before .before .before .before in Goes p (c .put-number .last .0) (c .put-number .result) (ascii "\n"))
 left-place c = let p = c .before .before .before .before .before .before .before .before .before .before .before in put-next _ _ _ _ _ (space ∷ decimal (place p)) (ascii "\n") _ _ (left-side (c .before .before .before .before)) (c .put-number .ensures)
 
-code-of-requires : tie.Need-code-of-requires
-code-of-requires c κs = search needs
-
-side-of-requires : tie.Need-side-of-requires
-side-of-requires c κs = search needs
-
-place-of-requires : tie.Need-place-of-requires
-place-of-requires c κs = search needs
+numbers-of-requires : tie.Need-numbers-of-requires
+numbers-of-requires c κs = search needs
 
 slice-aggregate-put-field : tie.Need-slice-aggregate-put-field
 slice-aggregate-put-field c = search needs
@@ -80,9 +76,7 @@ pub put-refusal-spec : {M : Type 1} → statement M
 put-refusal-spec =
     tie.close
     (tie.spec
-    code-of-requires
-    side-of-requires
-    place-of-requires
+    numbers-of-requires
     slice-aggregate-put-field
     put-field-requires
     put-side-requires

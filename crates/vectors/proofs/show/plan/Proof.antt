@@ -10,8 +10,8 @@ Inv-loop n bytes count k₀ k = k ≤ count
 abbrev μ-loop : tie.MeasureT-loop
 μ-loop n bytes count k₀ k = count - k
 
-counts-of-requires : tie.Need-counts-of-requires Inv-loop μ-loop
-counts-of-requires c κs = search needs
+numbers-of-requires : tie.Need-numbers-of-requires Inv-loop μ-loop
+numbers-of-requires c κs = search needs
 
 returns : tie.Need-returns Inv-loop μ-loop
 returns c = search needs
@@ -64,7 +64,7 @@ plan-spec =
     (tie.spec
     Inv-loop
     μ-loop
-    counts-of-requires
+    numbers-of-requires
     returns
     mul-if2
     returns-2
