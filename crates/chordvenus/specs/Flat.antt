@@ -1,5 +1,7 @@
 -- Answers and steps as the numbers that cross the edge. Definitions only.
+use mathlib.Core.Bool.{cond}
 use Prim.Native.Nat.{ℕ}
+use lib.Dec.{eqb}
 use Rattle.switch.specs.declared.Outcome.{Outcome}
 use Rattle.switch.specs.Answer.{codeOf, placeOf, sideOf, countsOf}
 use Rattle.wish.specs.declared.Wish.{Wish}
@@ -7,10 +9,15 @@ use Rattle.wish.specs.Wish as wish
 use Rattle.plans.specs.declared.Step.{Step}
 use Rattle.plans.specs.declared.Step.the-variants.{Record, End, Malformed}
 use Rattle.plans.specs.declared.Stepped.{Stepped}
+use Rattle.plans.specs.Read.{stepPlace}
 use Rattle.chordvenus.specs.declared.CvAnswer.{CvAnswer}
 use Rattle.chordvenus.specs.declared.CvStep.{CvStep}
 
--- code, place, side, records, T, total, length and empty slots
+-- the version of the edge, which the header names too
+abbrev pub version : ℕ
+version = 1
+
+-- code, place, side, records, T, total, length and empty slots; nothing is added or dropped, and there is one plan or demand to be about
 abbrev pub flat : Outcome → CvAnswer
 flat o =
     record {
@@ -22,11 +29,27 @@ flat o =
       total = countsOf o .total;
       length = countsOf o .length;
       empty = countsOf o .empty;
+      added = 0;
+      dropped = 0;
+      about = 0;
     }
 
 -- one wish: its code, and its slots as total
 abbrev pub flatWish : Wish → CvAnswer
-flatWish w = record { code = wish.codeOf w; place = 0; side = 0; records = 0; longest = 0; total = wish.slotsOf w; length = 0; empty = 0 }
+flatWish w =
+    record {
+      code = wish.codeOf w;
+      place = 0;
+      side = 0;
+      records = 0;
+      longest = 0;
+      total = wish.slotsOf w;
+      length = 0;
+      empty = 0;
+      added = 0;
+      dropped = 0;
+      about = 0;
+    }
 
 -- 0 a record, 1 the end, 2 code 11
 abbrev pub kindOf : Step → ℕ
@@ -34,11 +57,9 @@ kindOf Record = 0
 kindOf End = 1
 kindOf (Malformed k) = 2
 
--- code 11 with the record's number
-abbrev pub stepPlace : Step → ℕ
-stepPlace Record = 0
-stepPlace End = 0
-stepPlace (Malformed k) = k
+-- the code that a kind stands for
+abbrev pub kindCode : ℕ → ℕ
+kindCode k = cond (eqb k 2) 11 0
 
 abbrev pub flatStep : Stepped → CvStep
 flatStep s = record { kind = kindOf (s .step); place = stepPlace (s .step); hold = s .hold; outputs = s .outputs }

@@ -12,13 +12,16 @@ ghost use Rattle.rules.specs.Doubled.{doubledPlan, tightPlan};
 ghost use Rattle.rules.specs.Quick.{quickPlan};
 ghost use Rattle.planner.specs.Planned.{planned, plannedUpTo};
 ghost use Rattle.records.specs.Write.{written};
-ghost use Rattle.plans.specs.Read.{firstEdition, opening, stepAt};
+ghost use Rattle.plans.specs.Read.{firstEdition, opening, stepAt, stepPlace};
 ghost use Rattle.audit.specs.Check.{checkPlan};
 ghost use Rattle.audit.specs.Length.{planLength};
 ghost use Rattle.joining.specs.Join.{joining};
 ghost use Rattle.wavelengths.specs.Report.{reported};
 ghost use Rattle.grating.specs.Grating.{gratingPlanned};
-ghost use Rattle.chordvenus.specs.Flat.{flat, flatStep, flatWish};
+ghost use Rattle.chordvenus.specs.Flat.{version, flat, kindOf, flatStep, flatWish};
+
+// The version of the structs and functions below. A struct that is returned by value cannot grow: whoever adds a field makes it one more.
+const VERSION: u64 = 1;
 
 // What every call answers; what does not apply is 0.
 #[repr(C)]
@@ -31,6 +34,11 @@ pub struct CvAnswer {
     pub total: u64,
     pub length: u64,
     pub empty: u64,
+    // How many records a rescue added and dropped.
+    pub added: u64,
+    pub dropped: u64,
+    // What a refusal is about, where a call reads more than one plan or demand.
+    pub about: u64,
 }
 
 // One step of reading a plan: kind 0 is a record, 1 the end, 2 code 11.
@@ -40,6 +48,14 @@ pub struct CvStep {
     pub place: u64,
     pub hold: u64,
     pub outputs: [u8; 64],
+}
+
+// The version of the archive, for a caller to hold against its header's.
+#[no_mangle]
+pub extern "C" fn cv_version() -> u64
+    ensures { λ r. ⌜ r ≡ version ⌝ }
+{
+    VERSION
 }
 
 // One wish: its code, and its slots as total.
@@ -57,6 +73,9 @@ pub extern "C" fn cv_wish(bits: u32) -> CvAnswer
         total: wish::slots_of(asked) as u64,
         length: 0,
         empty: 0,
+        added: 0,
+        dropped: 0,
+        about: 0,
     }
 }
 
@@ -164,26 +183,33 @@ pub extern "C" fn cv_step_at(n: usize, plan: &[u8], at: usize) -> CvStep
     let stepped = plans::step_at(n, plan, at);
     let outputs = stepped.outputs;
     let step = stepped.step;
-    let hold = stepped.hold as u64;
+    CvStep {
+        kind: kind_of(step),
+        place: place_of(step),
+        hold: stepped.hold as u64,
+        outputs,
+    }
+}
+
+// A step's kind.
+fn kind_of(step: Step) -> u64
+    ensures { λ r. ⌜ r ≡ kindOf step ⌝ }
+{
     match step {
-        Step::Record => CvStep {
-            kind: 0,
-            place: 0,
-            hold,
-            outputs,
-        },
-        Step::End => CvStep {
-            kind: 1,
-            place: 0,
-            hold,
-            outputs,
-        },
-        Step::Malformed(k) => CvStep {
-            kind: 2,
-            place: k as u64,
-            hold,
-            outputs,
-        },
+        Step::Record => 0,
+        Step::End => 1,
+        Step::Malformed(_) => 2,
+    }
+}
+
+// The record that a step finds damaged, 0 where it finds none.
+fn place_of(step: Step) -> u64
+    ensures { λ r. ⌜ r ≡ stepPlace step ⌝ }
+{
+    match step {
+        Step::Record => 0,
+        Step::End => 0,
+        Step::Malformed(k) => k as u64,
     }
 }
 
@@ -191,15 +217,19 @@ pub extern "C" fn cv_step_at(n: usize, plan: &[u8], at: usize) -> CvStep
 fn flatten(o: Outcome) -> CvAnswer
     ensures { λ r. ⌜ r ≡ flat o ⌝ }
 {
-    let counts = switch::counts_of(o);
+    let told = switch::numbers_of(o);
+    let counts = told.counts;
     CvAnswer {
-        code: switch::code_of(o),
-        place: switch::place_of(o) as u64,
-        side: switch::side_of(o),
+        code: told.code,
+        place: told.place as u64,
+        side: told.side,
         records: counts.records as u64,
         longest: counts.longest,
         total: counts.total,
         length: counts.length,
         empty: counts.empty,
+        added: 0,
+        dropped: 0,
+        about: 0,
     }
 }

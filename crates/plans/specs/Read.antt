@@ -36,6 +36,17 @@ opening E N plan =
     (Refused (Torn (whole (E .width) plan))))
     (Refused Ports)
 
+-- a step's code on paper, and its place: only a damaged record has one
+abbrev pub stepCode : Step → ℕ
+stepCode step.Record = 0
+stepCode step.End = 0
+stepCode (step.Malformed k) = 11
+
+abbrev pub stepPlace : Step → ℕ
+stepPlace step.Record = 0
+stepPlace step.End = 0
+stepPlace (step.Malformed k) = k
+
 -- both come with hold 0 and 64 outputs of 255, and leave the place reached
 abbrev pub nothing : Step → ℕ → Stepped
 nothing s at = record { step = s; hold = 0; outputs = replicate 64 255; next = at }

@@ -4,3 +4,4 @@ pub mod Check
 pub mod Plan
 pub mod Sound
 pub mod Empty
+pub mod Result

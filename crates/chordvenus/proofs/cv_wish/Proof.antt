@@ -32,6 +32,9 @@ returns c =
       total = (c .slots-of .ensures ∙ ap slotsOf w) i;
       length = 0;
       empty = 0;
+      added = 0;
+      dropped = 0;
+      about = 0;
     }
 
 pub cv-wish-spec : {M : Type 1} → statement M

@@ -11,8 +11,8 @@ Inv-loop report records count k₀ t6 t7 k = count ≤ length report
 abbrev μ-loop : tie.MeasureT-loop
 μ-loop report records count k₀ t6 t7 k = count - k
 
-counts-of-requires : tie.Need-counts-of-requires Inv-loop μ-loop
-counts-of-requires c κs = search needs
+numbers-of-requires : tie.Need-numbers-of-requires Inv-loop μ-loop
+numbers-of-requires c κs = search needs
 
 returns : tie.Need-returns Inv-loop μ-loop
 returns c = search needs
@@ -59,7 +59,7 @@ numbers-spec =
     (tie.spec
     Inv-loop
     μ-loop
-    counts-of-requires
+    numbers-of-requires
     returns
     within-requires
     loop-holds
