@@ -66,8 +66,16 @@ fn plan_fine(n: usize, longest: u64, cells: &[u32], work: &mut [u32], plan: &mut
     let unit = unit_of(n, longest);
     quotients(cells, work, unit);
     let mut first = [0u8; FIRST];
-    let made = numbers_of(exact_plan(n, work, &mut first)).counts;
-    plan_parts(n, cells, unit, &first, made.records, made.total, plan)
+    let made = numbers_of(exact_plan(n, work, &mut first));
+    plan_parts(
+        n,
+        cells,
+        unit,
+        &first,
+        made.counts.records,
+        made.counts.total,
+        plan,
+    )
 }
 
 // u is T / N rounded up.

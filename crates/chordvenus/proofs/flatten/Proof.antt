@@ -8,7 +8,7 @@ numbers-of-requires c κs = search needs
 
 returns : tie.Need-returns
 returns c =
-    let told = c .numbers-of .ensures in
+    let told = c .before .numbers-of .ensures in
     λ i. record {
       code = told i .code;
       place = told i .place;
