@@ -15,7 +15,7 @@ use Rattle.switch.specs.Plan.{grant, total}
 use Rattle.demand.specs.declared.Checked.{Checked}
 use Rattle.demand.specs.declared.Checked.the-variants.{Fine, Faulty}
 use Rattle.demand.specs.Check.{checkDemand, Asked}
-use Rattle.plans.specs.declared.Edition.{Edition}
+use Rattle.switch.specs.declared.Edition.{Edition}
 use Rattle.plans.specs.Read.{opening}
 use Rattle.records.specs.Bytes.{whole, planFrom, planOf}
 use Rattle.audit.specs.Reading.{reading, Passed}

@@ -11,7 +11,7 @@ use Rattle.switch.specs.declared.Counts.{Counts}
 use Rattle.switch.specs.declared.Outcome.{Outcome}
 use Rattle.switch.specs.declared.Outcome.the-variants.{Done}
 use Rattle.switch.specs.Plan.{Record, total}
-use Rattle.plans.specs.declared.Edition.{Edition}
+use Rattle.switch.specs.declared.Edition.{Edition}
 use Rattle.plans.specs.Read.{opening}
 use Rattle.records.specs.Record.{outputs}
 use Rattle.records.specs.Bytes.{recordAt, whole, planFrom, planOf}

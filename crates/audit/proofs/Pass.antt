@@ -10,7 +10,7 @@ use borrow.Author.Tests.{not-true, not-false}
 use Rattle.counting.specs.Count.{δ}
 use Rattle.switch.specs.Plan.{Record, output, grant, total}
 use Rattle.switch.proofs.Append.{total-append, grant-append}
-use Rattle.plans.specs.declared.Edition.{Edition}
+use Rattle.switch.specs.declared.Edition.{Edition}
 use Rattle.records.specs.Record.{hold, decoded, wellFormed}
 use Rattle.records.specs.Bytes.{recordAt, whole, planFrom}
 use Rattle.plans.specs.Read.{malformed}

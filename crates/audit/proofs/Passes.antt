@@ -27,8 +27,9 @@ use Rattle.switch.specs.Sound.{Sound, Each}
 use Rattle.records.specs.Bytes.{whole, planFrom, planOf, bytes}
 use Rattle.records.proofs.Round.{planOf-bytes}
 use Rattle.switch.proofs.Sound.{each-plan, each-width}
-use Rattle.plans.specs.declared.Edition.{Edition}
-use Rattle.plans.specs.Read.{Bounded, opening, malformed, checkingIn, checkingOf, checking}
+use Rattle.switch.specs.declared.Edition.{Edition}
+use Rattle.switch.specs.Editions.{Bounded}
+use Rattle.plans.specs.Read.{opening, malformed, checkingIn, checkingOf, checking}
 use Rattle.plans.proofs.Plans.{checked, bytes-pass}
 use Rattle.switch.proofs.Demand.{place-in}
 use Rattle.audit.specs.Check.{uncovered, Short, covering, checkPlan}

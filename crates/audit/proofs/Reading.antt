@@ -8,9 +8,10 @@ use Rattle.switch.specs.declared.Outcome.the-variants.{Done, Refused}
 use Rattle.switch.specs.declared.Refusal.{Refusal}
 use Rattle.switch.specs.declared.Refusal.the-variants.{Malformed}
 use Rattle.switch.specs.Plan.{Record, total}
-use Rattle.plans.specs.declared.Edition.{Edition}
+use Rattle.switch.specs.declared.Edition.{Edition}
 use Rattle.records.specs.Bytes.{whole, planOf}
-use Rattle.plans.specs.Read.{Bounded, opening, checkingIn, checking}
+use Rattle.switch.specs.Editions.{Bounded}
+use Rattle.plans.specs.Read.{opening, checkingIn, checking}
 use Rattle.plans.proofs.Read.{opened, opened-records, check-refused, check-opened, check-malformed, check-done}
 use Rattle.audit.specs.Reading.{firstMalformed, afterChecking, reading, Readable}
 use native.Mathlib.Omega.{arith}

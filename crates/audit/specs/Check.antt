@@ -17,7 +17,7 @@ use Rattle.demand.specs.declared.Checked.{Checked}
 use Rattle.demand.specs.declared.Checked.the-variants.{Fine, Faulty}
 use Rattle.demand.specs.Lines.{over}
 use Rattle.demand.specs.Check.{checkDemand}
-use Rattle.plans.specs.declared.Edition.{Edition}
+use Rattle.switch.specs.declared.Edition.{Edition}
 use Rattle.audit.specs.declared.Meeting.{Meeting}
 use Rattle.audit.specs.declared.Meeting.the-variants.{Misses, Meets}
 use Rattle.audit.specs.Reading.{reading}

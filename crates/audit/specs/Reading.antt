@@ -5,9 +5,10 @@ use Prim.Native.Nat.{ℕ, _≤_}
 use Rattle.switch.specs.declared.Outcome.{Outcome}
 use Rattle.switch.specs.declared.Outcome.the-variants.{Done, Refused}
 use Rattle.switch.specs.Plan.{Record, total}
-use Rattle.plans.specs.declared.Edition.{Edition}
+use Rattle.switch.specs.declared.Edition.{Edition}
 use Rattle.records.specs.Bytes.{whole, planFrom, planOf}
-use Rattle.plans.specs.Read.{Bounded, malformed, checking}
+use Rattle.switch.specs.Editions.{Bounded}
+use Rattle.plans.specs.Read.{malformed, checking}
 
 -- the first record that is not well formed; the number of records where all are
 abbrev pub firstMalformed : Edition → ℕ → List ℕ → ℕ

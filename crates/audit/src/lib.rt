@@ -3,9 +3,9 @@
 // place, in document 01's order. A plan is gone over once. What a well-formed record is stands in the crate records, and what a demand
 // is refused for in the crate demand; who makes plans is left to the crates above, whose plans pass here by a law of proofs/.
 use demand::Checked;
-use plans::Edition;
 use records::HEAD;
 use switch::Counts;
+use switch::Edition;
 use switch::InputPort;
 use switch::Outcome;
 use switch::OutputPort;
@@ -16,7 +16,7 @@ ghost use lib.ListN.{length};
 ghost use Rattle.switch.specs.Demand.{cell};
 ghost use Rattle.records.specs.Record.{decoded};
 ghost use Rattle.records.specs.Bytes.{whole, planOf, planFrom};
-ghost use Rattle.plans.specs.Read.{firstEdition, Bounded};
+ghost use Rattle.switch.specs.Editions.{firstEdition, Bounded};
 ghost use Rattle.audit.specs.Reading.{reading, Readable, Passed};
 ghost use Rattle.audit.specs.Check.{meeting, covering, checkPlan, Blank, Grants, Granting, Granted};
 ghost use Rattle.audit.specs.Length.{charge, planLength, Charged};
@@ -37,14 +37,14 @@ pub fn check_plan(n: usize, cells: &[u32], plan: &[u8]) -> Outcome
     ensures { λ r. ⌜ r ≡ checkPlan firstEdition n (now (cells .entry)) (now (plan .entry)) ⌝ }
 {
     let mut grants = [0u32; PAIRS];
-    check_for(n, cells, plan, plans::first_edition(), &mut grants)
+    check_for(n, cells, plan, switch::first_edition(), &mut grants)
 }
 
 // The length of a plan at a switching time of d slots: refusals 1, 9, 10 and 11, else its length, records and total.
 pub fn plan_length(n: usize, plan: &[u8], d: u16) -> Outcome
     ensures { λ r. ⌜ r ≡ planLength firstEdition d n (now (plan .entry)) ⌝ }
 {
-    length_for(n, plan, d, plans::first_edition())
+    length_for(n, plan, d, switch::first_edition())
 }
 
 // The checker for an edition. The grants are lent, a number for each pair of its largest switch, all 0.

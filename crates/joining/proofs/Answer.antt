@@ -16,8 +16,9 @@ use Rattle.records.specs.Bytes.{whole, planFrom, planOf, bytes, laid}
 use Rattle.records.proofs.Bytes.{bytes-size}
 use Rattle.records.proofs.Part.{whole-fits}
 use Rattle.switch.proofs.Sound.{each-width}
-use Rattle.plans.specs.declared.Edition.{Edition}
-use Rattle.plans.specs.Read.{Bounded, checking}
+use Rattle.switch.specs.declared.Edition.{Edition}
+use Rattle.switch.specs.Editions.{Bounded}
+use Rattle.plans.specs.Read.{checking}
 use Rattle.plans.proofs.Plans.{Checked, checked}
 use Rattle.planner.specs.Planned.{Planned, refuses, writes, roomFor}
 use Rattle.planner.proofs.Planned.{no-room, room, written-outcome, written-bytes}

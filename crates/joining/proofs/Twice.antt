@@ -19,8 +19,9 @@ use Rattle.records.specs.Bytes.{recordAt, whole, planFrom, planOf, bytes, laid}
 use Rattle.records.proofs.Bytes.{bytes-size}
 use Rattle.switch.proofs.Sound.{each-width}
 use Rattle.records.proofs.Round.{planOf-bytes}
-use Rattle.plans.specs.declared.Edition.{Edition}
-use Rattle.plans.specs.Read.{Bounded, checking}
+use Rattle.switch.specs.declared.Edition.{Edition}
+use Rattle.switch.specs.Editions.{Bounded}
+use Rattle.plans.specs.Read.{checking}
 use Rattle.plans.proofs.Plans.{Checked, checked, bytes-pass, length-plan}
 use Rattle.planner.specs.Planned.{Planned, refuses, writes, roomFor}
 use Rattle.joining.specs.Join.{joinPlan, joining}

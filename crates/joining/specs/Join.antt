@@ -6,7 +6,7 @@ use Rattle.switch.specs.declared.Outcome.{Outcome}
 use Rattle.switch.specs.declared.Outcome.the-variants.{Done, Refused}
 use Rattle.switch.specs.Plan.{Record}
 use Rattle.records.specs.Bytes.{planOf}
-use Rattle.plans.specs.declared.Edition.{Edition}
+use Rattle.switch.specs.declared.Edition.{Edition}
 use Rattle.plans.specs.Read.{checking}
 use Rattle.planner.specs.Planned.{Planned, refuses, roomFor}
 use Rattle.settings.specs.Sums.{sums}

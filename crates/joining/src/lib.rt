@@ -2,9 +2,9 @@
 // held for the sum of its holds. Promised are the whole answer and every byte of the second buffer, for any N and any bytes; in proofs/,
 // that every pair is granted just what it was granted before and that joining twice changes nothing further.
 // Finding equal settings is the crate settings' matter.
-use plans::Edition;
 use records::HEAD;
 use switch::Counts;
+use switch::Edition;
 use switch::Outcome;
 use switch::Refusal;
 ghost use mathlib.Core.Path.{_≡_};
@@ -12,7 +12,7 @@ ghost use mathlib.Core.List.{List};
 ghost use Prim.Native.Nat.{ℕ, _+_, _<_, _≤_, min};
 ghost use lib.ListN.{length, getD};
 ghost use Rattle.records.specs.Bytes.{whole, bytes, laid};
-ghost use Rattle.plans.specs.Read.{firstEdition, Bounded};
+ghost use Rattle.switch.specs.Editions.{firstEdition, Bounded};
 ghost use Rattle.settings.specs.Table.{entriesFrom, Roomy, Empty};
 ghost use Rattle.joining.specs.Join.{pieces, cut, joining};
 
@@ -24,13 +24,13 @@ pub fn join_plan(n: usize, plan: &[u8], joined: &mut [u8]) -> Outcome
     ensures { λ r. ⌜ (r ≡ joining firstEdition n (now (plan .entry)) (now (joined .entry)) .outcome) × (now (joined .exit) ≡ joining firstEdition n (now (plan .entry)) (now (joined .entry)) .bytes) ⌝ }
 {
     let mut heads = [0u32; settings::BUCKETS];
-    let mut nexts = [0u32; plans::RECORDS];
-    let mut firsts = [0u32; plans::RECORDS];
-    let mut totals = [0u32; plans::RECORDS];
+    let mut nexts = [0u32; switch::RECORDS];
+    let mut firsts = [0u32; switch::RECORDS];
+    let mut totals = [0u32; switch::RECORDS];
     join_for(
         n,
         plan,
-        plans::first_edition(),
+        switch::first_edition(),
         &mut heads,
         &mut nexts,
         &mut firsts,

@@ -15,11 +15,12 @@ use Rattle.switch.specs.declared.Outcome.the-variants.{Done, Refused}
 use Rattle.switch.specs.declared.Refusal.{Refusal}
 use Rattle.switch.specs.Answer.{planCounts}
 use Rattle.switch.specs.Plan.{Record, total}
-use Rattle.plans.specs.declared.Edition.{Edition}
+use Rattle.switch.specs.declared.Edition.{Edition}
 use Rattle.switch.specs.Sound.{Sound, Each}
 use Rattle.records.specs.Record.{decoded}
 use Rattle.records.specs.Bytes.{recordAt, whole, planFrom, planOf, bytes}
-use Rattle.plans.specs.Read.{Bounded, opening, malformed, checkingIn, checking}
+use Rattle.switch.specs.Editions.{Bounded}
+use Rattle.plans.specs.Read.{opening, malformed, checkingIn, checking}
 use Rattle.records.proofs.Bytes.{bytes-size}
 use Rattle.records.proofs.Part.{whole-fits}
 use Rattle.records.proofs.Round.{whole-bytes, planOf-bytes}

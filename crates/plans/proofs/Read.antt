@@ -18,15 +18,13 @@ use Rattle.switch.specs.Answer.{planCounts}
 use Rattle.switch.specs.Check.{portsFine}
 use Rattle.switch.specs.Plan.{total}
 use Rattle.switch.proofs.Check.{no-ports, many-ports, some-ports}
-use Rattle.plans.specs.declared.Edition.{Edition}
+use Rattle.switch.specs.declared.Edition.{Edition}
 use Rattle.plans.specs.declared.Step.the-variants as step
 use Rattle.plans.specs.declared.Stepped.{Stepped}
 use Rattle.records.specs.Record.{hold, wellFormed}
 use Rattle.records.specs.Bytes.{recordAt, whole, planFrom}
-use Rattle.plans.specs.Read.{firstEdition, Bounded, opening, nothing, given, stepIn, stepOf, stepAt, malformed, checkingIn, checkingOf, checking}
-
-pub first-bounded : Bounded firstEdition
-first-bounded = record { width = omega arith; ports = omega arith; records = omega arith }
+use Rattle.switch.specs.Editions.{firstEdition, Bounded}
+use Rattle.plans.specs.Read.{opening, nothing, given, stepIn, stepOf, stepAt, malformed, checkingIn, checkingOf, checking}
 
 -- what is known of a plan that opening does not refuse
 pub record Opened (E : Edition) (N : ℕ) (plan : List ℕ) (c : Counts) : Type 0 where

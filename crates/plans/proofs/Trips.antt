@@ -22,7 +22,8 @@ use Rattle.plans.specs.declared.Stepped.{Stepped}
 use Rattle.switch.specs.Sound.{Sound, Each, none, more}
 use Rattle.records.specs.Record.{hold, outputs, wellFormed}
 use Rattle.records.specs.Bytes.{encode, recordAt, whole, bytes, laid}
-use Rattle.plans.specs.Read.{firstEdition, opening, nothing, given, stepAt}
+use Rattle.switch.specs.Editions.{firstEdition}
+use Rattle.plans.specs.Read.{opening, nothing, given, stepAt}
 use Rattle.records.specs.Write.{Written, refuses, written}
 use Rattle.records.proofs.Bytes.{bytes-size}
 use Rattle.records.proofs.Part.{record-fits, record-size, whole-fits}

@@ -8,33 +8,22 @@ use Rattle.switch.specs.declared.Outcome.{Outcome}
 use Rattle.switch.specs.declared.Outcome.the-variants.{Done, Refused}
 use Rattle.switch.specs.declared.Refusal.the-variants.{Ports, Torn, Records, Malformed}
 use Rattle.switch.specs.Answer.{planCounts}
-use Rattle.switch.specs.Check.{portsFine}
+use Rattle.switch.specs.Check.{portsFine, unless}
+use Rattle.switch.specs.Editions.{firstEdition}
 use Rattle.switch.specs.Plan.{total}
-use Rattle.plans.specs.declared.Edition.{Edition}
+use Rattle.switch.specs.declared.Edition.{Edition}
 use Rattle.plans.specs.declared.Step.{Step}
 use Rattle.plans.specs.declared.Step.the-variants as step
 use Rattle.plans.specs.declared.Stepped.{Stepped}
 use Rattle.records.specs.Record.{hold, outputs, wellFormed}
 use Rattle.records.specs.Bytes.{recordAt, whole, planFrom}
 
--- document 01's records: 64 outputs, a zero byte, N of 1 to 64, at most 8,192 records
-abbrev pub firstEdition : Edition
-firstEdition = record { width = 64; byte = 0; ports = 64; records = 8192 }
-
--- what the code relies on of an edition
-pub record Bounded (E : Edition) : Type 0 where
-  pub width : E .width ≤ 128
-  pub ports : E .ports ≤ E .width
-  pub records : E .records ≤ 65536
-
 -- opening refuses by codes 1, 9 and 10, and gives records only
 unfoldable pub opening : Edition → ℕ → List ℕ → Outcome
 opening E N plan =
-    cond (portsFine (E .ports) N)
-    (cond (eqb (length plan % (E .width + 4)) 0)
-    (cond (leb (whole (E .width) plan) (E .records)) (Done (planCounts (whole (E .width) plan) 0 0)) (Refused (Records (E .records))))
-    (Refused (Torn (whole (E .width) plan))))
-    (Refused Ports)
+    unless (portsFine (E .ports) N) Ports
+    (unless (eqb (length plan % (E .width + 4)) 0) (Torn (whole (E .width) plan))
+    (unless (leb (whole (E .width) plan) (E .records)) (Records (E .records)) (Done (planCounts (whole (E .width) plan) 0 0))))
 
 -- a step's code on paper, and its place: only a damaged record has one
 abbrev pub stepCode : Step → ℕ

@@ -7,25 +7,17 @@ use records::IDLE;
 use records::OUTPUTS;
 use records::RECORD;
 use switch::Counts;
+use switch::Edition;
 use switch::Outcome;
 use switch::Refusal;
+use switch::first_edition;
 ghost use mathlib.Core.Path.{_≡_};
 ghost use Prim.Native.Nat.{_+_, _*_, _<_, _≤_};
 ghost use lib.ListN.{length};
 ghost use Rattle.switch.specs.Plan.{total};
 ghost use Rattle.records.specs.Bytes.{recordAt, whole, planFrom};
-ghost use Rattle.plans.specs.Read.{firstEdition, Bounded, opening, nothing, given, stepAt, malformed, checking};
-
-// A plan has at most 8,192 records.
-pub const RECORDS: usize = 8192;
-
-// What is the same for all records of a plan, and how many there may be.
-pub struct Edition {
-    pub width: usize,
-    pub byte: u8,
-    pub ports: usize,
-    pub records: usize,
-}
+ghost use Rattle.switch.specs.Editions.{firstEdition, Bounded};
+ghost use Rattle.plans.specs.Read.{opening, nothing, given, stepAt, malformed, checking};
 
 // What a step over a plan finds.
 pub enum Step {
@@ -70,18 +62,6 @@ pub fn step_at(n: usize, plan: &[u8], at: usize) -> Stepped
         return no_record(Step::Malformed(at), at);
     }
     a_record(rec, at + 1)
-}
-
-// Document 01's edition.
-pub fn first_edition() -> Edition
-    ensures { λ r. ⌜ r ≡ firstEdition ⌝ }
-{
-    Edition {
-        width: OUTPUTS,
-        byte: EDITION,
-        ports: switch::PORTS,
-        records: RECORDS,
-    }
 }
 
 // Opens a plan of an edition for n.

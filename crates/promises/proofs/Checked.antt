@@ -16,9 +16,11 @@ use Rattle.demand.proofs.Check.{fine-asked}
 use Rattle.records.specs.Bytes.{whole, recordAt, planOf}
 use Rattle.records.proofs.Meaning.{means, meant}
 use Rattle.records.proofs.Part.{whole-fits, record-fits, record-size}
-use Rattle.plans.specs.declared.Edition.{Edition}
-use Rattle.plans.specs.Read.{firstEdition, Bounded, checking}
-use Rattle.plans.proofs.Read.{first-bounded, opening-done}
+use Rattle.switch.specs.declared.Edition.{Edition}
+use Rattle.switch.specs.Editions.{firstEdition, Bounded}
+use Rattle.plans.specs.Read.{checking}
+use Rattle.switch.proofs.Editions.{first-bounded}
+use Rattle.plans.proofs.Read.{opening-done}
 use Rattle.plans.proofs.Plans as plans
 use Rattle.audit.specs.Check.{uncovered, covering, checkPlan}
 use Rattle.audit.proofs.Reading.{after-checking}

@@ -10,8 +10,8 @@ use Rattle.rules.specs.Doubled.{Doubled}
 use Rattle.rules.proofs.Rotate.{doubled}
 use Rattle.rules.proofs.Tight.{tight-doubled}
 use Rattle.rules.proofs.Sound.{doubled-sound, tight-sound}
-use Rattle.plans.specs.declared.Edition.{Edition}
-use Rattle.plans.specs.Read.{firstEdition}
+use Rattle.switch.specs.declared.Edition.{Edition}
+use Rattle.switch.specs.Editions.{firstEdition}
 use Rattle.planner.specs.Planned.{planned}
 use Rattle.promises.specs.Calls.{DoubledPlan, EveryRotation}
 use Rattle.promises.specs.Planner.{Serves, Fair}

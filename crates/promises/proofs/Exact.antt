@@ -7,8 +7,8 @@ use Rattle.switch.specs.declared.Outcome.{Outcome}
 use Rattle.rules.specs.Exact.{exactPlan, Exact}
 use Rattle.rules.proofs.Exact.{exact}
 use Rattle.rules.proofs.Sound.{exact-sound}
-use Rattle.plans.specs.declared.Edition.{Edition}
-use Rattle.plans.specs.Read.{firstEdition}
+use Rattle.switch.specs.declared.Edition.{Edition}
+use Rattle.switch.specs.Editions.{firstEdition}
 use Rattle.planner.specs.Planned.{planned}
 use Rattle.promises.specs.Calls.{ExactPlan}
 use Rattle.promises.specs.Planner.{Serves, Fair}

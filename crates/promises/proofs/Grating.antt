@@ -34,8 +34,9 @@ use Rattle.records.specs.Bytes.{bytes, laid, whole, planOf}
 use Rattle.records.specs.Write.{Written}
 use Rattle.records.proofs.Round.{planOf-bytes}
 use Rattle.switch.proofs.Sound.{each-width}
-use Rattle.plans.specs.Read.{firstEdition, checking}
-use Rattle.plans.proofs.Read.{first-bounded}
+use Rattle.switch.specs.Editions.{firstEdition}
+use Rattle.plans.specs.Read.{checking}
+use Rattle.switch.proofs.Editions.{first-bounded}
 use Rattle.plans.proofs.Plans.{bytes-pass}
 use Rattle.planner.specs.Planned.{Planned}
 use Rattle.audit.specs.Check.{checkPlan}

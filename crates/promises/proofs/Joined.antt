@@ -14,9 +14,10 @@ use Rattle.switch.specs.Plan.{Record, total}
 use Rattle.switch.specs.Sound.{Each, OfWidth}
 use Rattle.records.specs.Bytes.{bytes, laid, whole, planOf}
 use Rattle.switch.proofs.Sound.{each-width}
-use Rattle.plans.specs.declared.Edition.{Edition}
-use Rattle.plans.specs.Read.{firstEdition, Bounded, checking}
-use Rattle.plans.proofs.Read.{first-bounded}
+use Rattle.switch.specs.declared.Edition.{Edition}
+use Rattle.switch.specs.Editions.{firstEdition, Bounded}
+use Rattle.plans.specs.Read.{checking}
+use Rattle.switch.proofs.Editions.{first-bounded}
 use Rattle.plans.proofs.Plans.{checked, length-plan}
 use Rattle.planner.specs.Planned.{Planned, refuses, writes}
 use Rattle.settings.proofs.Sums.{sums-summed}

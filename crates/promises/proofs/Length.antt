@@ -8,9 +8,10 @@ use Rattle.switch.specs.declared.Outcome.{Outcome}
 use Rattle.switch.specs.declared.Outcome.the-variants.{Done, Refused}
 use Rattle.switch.specs.Plan.{Record}
 use Rattle.records.specs.Bytes.{planOf}
-use Rattle.plans.specs.declared.Edition.{Edition}
-use Rattle.plans.specs.Read.{firstEdition, Bounded, checking}
-use Rattle.plans.proofs.Read.{first-bounded}
+use Rattle.switch.specs.declared.Edition.{Edition}
+use Rattle.switch.specs.Editions.{firstEdition, Bounded}
+use Rattle.plans.specs.Read.{checking}
+use Rattle.switch.proofs.Editions.{first-bounded}
 use Rattle.audit.specs.Reading.{reading, afterChecking}
 use Rattle.audit.specs.Length.{charge, lengthOf, lengthCounts, planLength}
 use Rattle.audit.proofs.Length.{charge-first, charge-moved, charge-kept, length-le, length-none}

@@ -30,9 +30,9 @@ use Rattle.records.proofs.Bytes.{bytes-size}
 use Rattle.records.proofs.Part.{whole-fits}
 use Rattle.records.proofs.Round.{planOf-bytes}
 use Rattle.records.proofs.Laid.{length-laid}
-use Rattle.plans.specs.declared.Edition.{Edition}
-use Rattle.plans.specs.Read.{firstEdition}
-use Rattle.plans.proofs.Read.{first-bounded}
+use Rattle.switch.specs.declared.Edition.{Edition}
+use Rattle.switch.specs.Editions.{firstEdition}
+use Rattle.switch.proofs.Editions.{first-bounded}
 use Rattle.planner.specs.Planned.{Planned, refuses, writes, planned, plannedUpTo}
 use Rattle.planner.proofs.Planned.{planned-faulty, planned-short, planned-done, limited-faulty, limited-long, limited-short, limited-done}
 use Rattle.audit.specs.Check.{checkPlan}

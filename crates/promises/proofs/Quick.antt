@@ -7,8 +7,8 @@ use Rattle.switch.specs.declared.Outcome.{Outcome}
 use Rattle.rules.specs.Quick.{quickPlan, Quick}
 use Rattle.rules.proofs.Quick.{quick}
 use Rattle.rules.proofs.Sound.{quick-sound}
-use Rattle.plans.specs.declared.Edition.{Edition}
-use Rattle.plans.specs.Read.{firstEdition}
+use Rattle.switch.specs.declared.Edition.{Edition}
+use Rattle.switch.specs.Editions.{firstEdition}
 use Rattle.planner.specs.Planned.{plannedUpTo}
 use Rattle.promises.specs.Calls.{QuickPlan}
 use Rattle.promises.specs.Planner.{Serves, Fair}

@@ -18,11 +18,13 @@ use Rattle.records.specs.Bytes.{recordAt, whole, planOf}
 use Rattle.records.proofs.Meaning.{means, meant}
 use Rattle.records.proofs.Part.{record-size, record-fits, whole-fits}
 use Rattle.records.proofs.Sound.{fine}
-use Rattle.plans.specs.declared.Edition.{Edition}
+use Rattle.switch.specs.declared.Edition.{Edition}
 use Rattle.plans.specs.declared.Step.the-variants as step
 use Rattle.plans.specs.declared.Stepped.{Stepped}
-use Rattle.plans.specs.Read.{firstEdition, Bounded, opening, given, nothing, stepIn, stepAt, malformed, checking}
-use Rattle.plans.proofs.Read.{first-bounded, opening-done, opened, opened-records, check-malformed, check-opened}
+use Rattle.switch.specs.Editions.{firstEdition, Bounded}
+use Rattle.plans.specs.Read.{opening, given, nothing, stepIn, stepAt, malformed, checking}
+use Rattle.switch.proofs.Editions.{first-bounded}
+use Rattle.plans.proofs.Read.{opening-done, opened, opened-records, check-malformed, check-opened}
 use Rattle.plans.proofs.Read.{step-end, step-malformed, step-record, step-opened, step-refused}
 use Rattle.plans.proofs.Plans.{passes, malformed-first, checked}
 use Rattle.reader.specs.declared.Reader.{Reader}

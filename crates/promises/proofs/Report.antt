@@ -12,9 +12,10 @@ use Rattle.switch.specs.declared.Counts.{Counts}
 use Rattle.records.specs.Record.{decoded}
 use Rattle.records.specs.Bytes.{recordAt, whole}
 use Rattle.records.specs.Write.{Written, refuses}
-use Rattle.plans.specs.declared.Edition.{Edition}
-use Rattle.plans.specs.Read.{firstEdition, Bounded, checking}
-use Rattle.plans.proofs.Read.{first-bounded}
+use Rattle.switch.specs.declared.Edition.{Edition}
+use Rattle.switch.specs.Editions.{firstEdition, Bounded}
+use Rattle.plans.specs.Read.{checking}
+use Rattle.switch.proofs.Editions.{first-bounded}
 use Rattle.plans.proofs.Plans.{checked}
 use Rattle.rules.specs.Exact.{tab}
 use Rattle.rules.specs.Doubled.{rotate}

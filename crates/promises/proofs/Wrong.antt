@@ -36,8 +36,8 @@ use Rattle.rules.proofs.Exact.{exact}
 use Rattle.rules.proofs.Doubled.{total-held}
 use Rattle.rules.proofs.Quick.{quick}
 use Rattle.records.specs.Bytes.{whole, recordAt, planFrom}
-use Rattle.plans.specs.declared.Edition.{Edition}
-use Rattle.plans.specs.Read.{firstEdition}
+use Rattle.switch.specs.declared.Edition.{Edition}
+use Rattle.switch.specs.Editions.{firstEdition}
 use Rattle.audit.proofs.Check.{blank-zeros}
 use Rattle.promises.specs.Papers.{d1}
 use Rattle.promises.specs.Calls.{ExactPlan, DoubledPlan, EveryRotation, QuickPlan}

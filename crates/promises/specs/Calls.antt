@@ -15,7 +15,8 @@ use Rattle.planner.specs.Planned.{planned, plannedUpTo}
 use Rattle.records.specs.Bytes.{laid}
 use Rattle.records.specs.Write.{written}
 use Rattle.plans.specs.declared.Stepped.{Stepped}
-use Rattle.plans.specs.Read.{firstEdition, opening, stepAt}
+use Rattle.switch.specs.Editions.{firstEdition}
+use Rattle.plans.specs.Read.{opening, stepAt}
 use Rattle.reader.specs.declared.Reader.{Reader}
 use Rattle.reader.specs.declared.Opened.{Opened}
 use Rattle.reader.specs.Reader.{starting, movedTo}

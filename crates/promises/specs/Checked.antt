@@ -12,7 +12,7 @@ use Rattle.switch.specs.Plan.{grant, total, Covers}
 use Rattle.switch.specs.Empty.{emptySlots}
 use Rattle.records.specs.Record.{WellFormed}
 use Rattle.records.specs.Bytes.{whole, recordAt, planOf}
-use Rattle.plans.specs.declared.Edition.{Edition}
+use Rattle.switch.specs.declared.Edition.{Edition}
 use Rattle.audit.specs.Check.{Short}
 use Rattle.promises.specs.Planner.{Fair}
 

@@ -4,7 +4,7 @@ use Prim.Native.Nat.{ℕ}
 use Rattle.switch.specs.declared.Outcome.{Outcome}
 use Rattle.switch.specs.Plan.{Record}
 use Rattle.rules.specs.Doubled.{doubledPlan, tightPlan, Doubled}
-use Rattle.plans.specs.declared.Edition.{Edition}
+use Rattle.switch.specs.declared.Edition.{Edition}
 use Rattle.promises.specs.Planner.{Plans}
 
 -- the two rules for the rotations: each held for its largest remainder, or every one for u - 1

@@ -3,7 +3,7 @@ use mathlib.Core.List.{List}
 use Prim.Native.Nat.{ℕ}
 use Rattle.switch.specs.declared.Outcome.{Outcome}
 use Rattle.rules.specs.Exact.{exactPlan, Exact}
-use Rattle.plans.specs.declared.Edition.{Edition}
+use Rattle.switch.specs.declared.Edition.{Edition}
 use Rattle.promises.specs.Planner.{Plans}
 
 -- no line over 65,535 and room for the plan's records: then a plan that covers, whose total hold is T, and than which no plan that covers is shorter

@@ -11,8 +11,8 @@ use Rattle.switch.specs.Plan.{Record, total}
 use Rattle.switch.specs.Sound.{Each, Sound}
 use Rattle.switch.specs.Empty.{emptySlots}
 use Rattle.records.specs.Bytes.{whole, planOf}
-use Rattle.plans.specs.declared.Edition.{Edition}
-use Rattle.plans.specs.Read.{Bounded}
+use Rattle.switch.specs.declared.Edition.{Edition}
+use Rattle.switch.specs.Editions.{Bounded}
 use Rattle.audit.specs.Check.{checkPlan}
 
 -- an edition for the planners: its records have an output for every port, and a plan may have as many of them as any planner writes, which are

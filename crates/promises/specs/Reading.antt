@@ -9,10 +9,11 @@ use Rattle.switch.specs.declared.Counts.{Counts}
 use Rattle.switch.specs.Answer.{planCounts}
 use Rattle.records.specs.Record.{WellFormed}
 use Rattle.records.specs.Bytes.{recordAt, whole}
-use Rattle.plans.specs.declared.Edition.{Edition}
+use Rattle.switch.specs.declared.Edition.{Edition}
 use Rattle.plans.specs.declared.Step.the-variants as step
 use Rattle.plans.specs.declared.Stepped.{Stepped}
-use Rattle.plans.specs.Read.{firstEdition, given, nothing, stepAt}
+use Rattle.switch.specs.Editions.{firstEdition}
+use Rattle.plans.specs.Read.{given, nothing, stepAt}
 use Rattle.reader.specs.declared.Reader.{Reader}
 use Rattle.promises.specs.Calls.{ReaderStep}
 

@@ -10,7 +10,7 @@ use Rattle.switch.specs.Answer.{planCounts}
 use Rattle.switch.specs.Plan.{total}
 use Rattle.records.specs.Record.{decoded}
 use Rattle.records.specs.Bytes.{recordAt, whole, planOf}
-use Rattle.plans.specs.declared.Edition.{Edition}
+use Rattle.switch.specs.declared.Edition.{Edition}
 use Rattle.wavelengths.specs.Shared.{MostShared}
 use Rattle.promises.specs.Reading.{GoodPlan}
 

@@ -10,7 +10,7 @@ use Rattle.switch.specs.Answer.{countsOf}
 use Rattle.switch.specs.Demand.{cell, longest}
 use Rattle.switch.specs.Plan.{Record, Plan, grant, total, Covers}
 use Rattle.rules.specs.Doubled.{rotate, turns}
-use Rattle.plans.specs.declared.Edition.{Edition}
+use Rattle.switch.specs.declared.Edition.{Edition}
 use Rattle.promises.specs.Planner.{planIn}
 
 -- what every planner's plan is worth, whatever the rule: it covers, and its total is at most 2T - 1, and 0 where T is 0

@@ -4,7 +4,8 @@
 use plans::Stepped;
 use switch::Outcome;
 ghost use mathlib.Core.Path.{_≡_};
-ghost use Rattle.plans.specs.Read.{firstEdition, opening, stepAt};
+ghost use Rattle.switch.specs.Editions.{firstEdition};
+ghost use Rattle.plans.specs.Read.{opening, stepAt};
 ghost use Rattle.reader.specs.Reader.{starting, movedTo};
 
 // A plan opened for n, and the record that the next step is at.

@@ -5,3 +5,4 @@ pub mod Plan
 pub mod Sound
 pub mod Empty
 pub mod Result
+pub mod Editions

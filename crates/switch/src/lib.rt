@@ -2,13 +2,25 @@
 // What a demand, a line, T, a setting, a plan, its grants, its cover and its empty slots are stands in specs/, over any number of ports, and
 // in proofs/ that no plan that covers a demand is held for less than T. Checking a demand and planning it are left to the crates above.
 ghost use mathlib.Core.Path.{_≡_};
+ghost use Rattle.switch.specs.Editions.{firstEdition};
 ghost use Rattle.switch.specs.Answer.{refusalCode, refusalPlace, refusalSide, noCounts, numbersOf, aboutNumber};
 
 // N is 1 to 64.
 pub const PORTS: usize = 64;
 
+// A plan has at most 8,192 records.
+pub const RECORDS: usize = 8192;
+
 // A line sums to at most 65,535, the most that a hold of two bytes can be.
 pub const LONGEST: u64 = 65535;
+
+// The records of an edition: how many outputs each has, the byte behind N, the largest N, and how many records a plan may have.
+pub struct Edition {
+    pub width: usize,
+    pub byte: u8,
+    pub ports: usize,
+    pub records: usize,
+}
 
 // Ingress and egress numbers count apart: an input's number never stands where an output's is meant.
 pub struct InputPort(pub usize);
@@ -176,5 +188,17 @@ pub fn about_number(about: About) -> u64
         About::Demand => 4,
         About::Wished => 5,
         About::Sum => 6,
+    }
+}
+
+// The edition for switches of 64 ports.
+pub fn first_edition() -> Edition
+    ensures { λ r. ⌜ r ≡ firstEdition ⌝ }
+{
+    Edition {
+        width: PORTS,
+        byte: 0,
+        ports: PORTS,
+        records: RECORDS,
     }
 }

@@ -13,8 +13,9 @@ use Rattle.records.specs.Record.{decoded}
 use Rattle.records.specs.Bytes.{recordAt, planOf, whole, laid}
 use Rattle.records.specs.Write.{Written}
 use Rattle.records.proofs.Laid.{length-laid}
-use Rattle.plans.specs.declared.Edition.{Edition}
-use Rattle.plans.specs.Read.{Bounded, checking}
+use Rattle.switch.specs.declared.Edition.{Edition}
+use Rattle.switch.specs.Editions.{Bounded}
+use Rattle.plans.specs.Read.{checking}
 use Rattle.plans.proofs.Plans.{checked}
 use Rattle.wavelengths.specs.Shared.{mostShared, gratingReport, MostShared}
 use Rattle.wavelengths.specs.Report.{reported}

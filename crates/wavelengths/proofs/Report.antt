@@ -15,9 +15,10 @@ use Rattle.records.specs.Bytes.{recordAt, whole, planFrom, laid}
 use Rattle.records.specs.Write.{refuses}
 use Rattle.records.proofs.Part.{whole-fits, record-fits, record-size}
 use Rattle.records.proofs.Laid.{copy-start-more, copy-all}
-use Rattle.plans.specs.declared.Edition.{Edition}
-use Rattle.plans.specs.Read.{firstEdition, checking}
-use Rattle.plans.proofs.Read.{first-bounded}
+use Rattle.switch.specs.declared.Edition.{Edition}
+use Rattle.switch.specs.Editions.{firstEdition}
+use Rattle.plans.specs.Read.{checking}
+use Rattle.switch.proofs.Editions.{first-bounded}
 use Rattle.plans.proofs.Plans.{Checked, checked, length-plan}
 use Rattle.wavelengths.specs.Shared.{mostShared, gratingReport}
 use Rattle.wavelengths.specs.Report.{reports, reportIn, reportOf, reported}

@@ -10,7 +10,7 @@ use Rattle.switch.specs.declared.Outcome.the-variants.{Done, Refused}
 use Rattle.switch.specs.declared.Refusal.the-variants.{Room}
 use Rattle.records.specs.Bytes.{planOf, laid}
 use Rattle.records.specs.Write.{Written, refuses}
-use Rattle.plans.specs.declared.Edition.{Edition}
+use Rattle.switch.specs.declared.Edition.{Edition}
 use Rattle.plans.specs.Read.{checking}
 use Rattle.wavelengths.specs.Shared.{gratingReport}
 

@@ -2,7 +2,6 @@
 // inputs that share one wavelength. It judges the plan as every reader of plans does, and promises its whole answer and every byte of the
 // report for any N and any bytes; everything is decided before the first byte is written. Who made the plan makes no difference.
 use plans::check_plan;
-use plans::first_edition;
 use plans::record_at;
 use records::HEAD;
 use records::OUTPUTS;
@@ -10,13 +9,14 @@ use switch::InputPort;
 use switch::Outcome;
 use switch::OutputPort;
 use switch::Refusal;
+use switch::first_edition;
 ghost use mathlib.Core.Path.{_≡_};
 ghost use Prim.Native.Nat.{_+_, _≤_, _<_};
 ghost use lib.ListN.{length, getD};
 ghost use Rattle.counting.specs.Sum.{most};
 ghost use Rattle.records.specs.Record.{decoded};
 ghost use Rattle.records.specs.Bytes.{whole, planFrom, laid};
-ghost use Rattle.plans.specs.Read.{firstEdition};
+ghost use Rattle.switch.specs.Editions.{firstEdition};
 ghost use Rattle.audit.specs.Check.{Blank};
 ghost use Rattle.wavelengths.specs.Shared.{wavelength, mostShared, gratingReport, Shares};
 ghost use Rattle.wavelengths.specs.Report.{reported};

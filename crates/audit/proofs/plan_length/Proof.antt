@@ -1,7 +1,7 @@
 -- The first edition keeps to the bounds of every edition.
 use mathlib.Core.Path.{ap, _∙_}
-use Rattle.plans.specs.declared.Edition.{Edition}
-use Rattle.plans.proofs.Read.{first-bounded}
+use Rattle.switch.specs.declared.Edition.{Edition}
+use Rattle.switch.proofs.Editions.{first-bounded}
 use Rattle.audit.specs.Length.{planLength}
 use borrow.Author.Needs.{needs}
 use Rattle.audit.proofs.plan_length.Statement.{statement}

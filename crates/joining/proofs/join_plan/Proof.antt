@@ -1,8 +1,8 @@
 -- The first edition keeps to the bounds of every edition, and new arrays are an empty table with an entry for each of 8,192 records.
 use mathlib.Core.Path.{ap, _∙_}
 use native.Mathlib.Omega.{arith}
-use Rattle.plans.specs.declared.Edition.{Edition}
-use Rattle.plans.proofs.Read.{first-bounded}
+use Rattle.switch.specs.declared.Edition.{Edition}
+use Rattle.switch.proofs.Editions.{first-bounded}
 use Rattle.settings.proofs.Next.{empty-zeros, roomy-zeros}
 use Rattle.joining.specs.Join.{joining}
 use borrow.Author.Needs.{needs}

@@ -1,8 +1,8 @@
 -- The first edition keeps to the bounds of every edition.
 use mathlib.Core.Path.{ap, _∙_}
-use Rattle.plans.specs.declared.Edition.{Edition}
+use Rattle.switch.specs.declared.Edition.{Edition}
 use Rattle.plans.specs.Read.{opening}
-use Rattle.plans.proofs.Read.{first-bounded}
+use Rattle.switch.proofs.Editions.{first-bounded}
 use borrow.Author.Needs.{needs}
 use Rattle.plans.proofs.open_plan.Statement.{statement}
 use Rattle.plans.proofs.open_plan.Tie as tie

@@ -4,9 +4,10 @@ use native.Mathlib.Omega.{arith}
 use Rattle.switch.specs.declared.Counts.{Counts}
 use Rattle.records.specs.Bytes.{planFrom, laid}
 use Rattle.records.specs.Write.{Written}
-use Rattle.plans.specs.declared.Edition.{Edition}
-use Rattle.plans.specs.Read.{firstEdition, checking}
-use Rattle.plans.proofs.Read.{first-bounded}
+use Rattle.switch.specs.declared.Edition.{Edition}
+use Rattle.switch.specs.Editions.{firstEdition}
+use Rattle.plans.specs.Read.{checking}
+use Rattle.switch.proofs.Editions.{first-bounded}
 use Rattle.wavelengths.specs.Shared.{gratingReport}
 use Rattle.wavelengths.proofs.Report.{report-refused, report-short, report-done, fine-plan}
 use borrow.Author.Needs.{needs}

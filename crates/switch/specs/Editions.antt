@@ -1,0 +1,13 @@
+-- What is the same for all records of a plan, and how many there may be: the first edition's numbers. Definitions only.
+use Prim.Native.Nat.{_≤_}
+use Rattle.switch.specs.declared.Edition.{Edition}
+
+-- 64 outputs, a zero byte, N of 1 to 64, at most 8,192 records
+abbrev pub firstEdition : Edition
+firstEdition = record { width = 64; byte = 0; ports = 64; records = 8192 }
+
+-- what the code relies on of an edition
+pub record Bounded (E : Edition) : Type 0 where
+  pub width : E .width ≤ 128
+  pub ports : E .ports ≤ E .width
+  pub records : E .records ≤ 65536
