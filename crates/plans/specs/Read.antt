@@ -8,7 +8,8 @@ use Rattle.switch.specs.declared.Outcome.{Outcome}
 use Rattle.switch.specs.declared.Outcome.the-variants.{Done, Refused}
 use Rattle.switch.specs.declared.Refusal.the-variants.{Ports, Torn, Records, Malformed}
 use Rattle.switch.specs.Answer.{planCounts}
-use Rattle.switch.specs.Check.{portsFine, unless}
+use Rattle.switch.specs.Check.{portsFine}
+use Rattle.switch.specs.Result.{unless}
 use Rattle.switch.specs.Editions.{firstEdition}
 use Rattle.switch.specs.Plan.{total}
 use Rattle.switch.specs.declared.Edition.{Edition}
@@ -21,9 +22,9 @@ use Rattle.records.specs.Bytes.{recordAt, whole, planFrom}
 -- opening refuses by codes 1, 9 and 10, and gives records only
 unfoldable pub opening : Edition → ℕ → List ℕ → Outcome
 opening E N plan =
-    unless (portsFine (E .ports) N) Ports
-    (unless (eqb (length plan % (E .width + 4)) 0) (Torn (whole (E .width) plan))
-    (unless (leb (whole (E .width) plan) (E .records)) (Records (E .records)) (Done (planCounts (whole (E .width) plan) 0 0))))
+    unless (portsFine (E .ports) N) (Refused Ports)
+    (unless (eqb (length plan % (E .width + 4)) 0) (Refused (Torn (whole (E .width) plan)))
+    (unless (leb (whole (E .width) plan) (E .records)) (Refused (Records (E .records))) (Done (planCounts (whole (E .width) plan) 0 0))))
 
 -- a step's code on paper, and its place: only a damaged record has one
 abbrev pub stepCode : Step → ℕ

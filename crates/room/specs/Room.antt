@@ -1,13 +1,13 @@
 -- How many records always suffice, from N and T alone. Definitions only.
-use mathlib.Core.Bool.{cond}
 use Prim.Native.Nat.{ℕ, _+_, _*_, _-_, min}
 use lib.Dec.{leb}
 use Rattle.switch.specs.declared.Edition.{Edition}
 use Rattle.switch.specs.declared.Outcome.{Outcome}
-use Rattle.switch.specs.declared.Outcome.the-variants.{Done}
+use Rattle.switch.specs.declared.Outcome.the-variants.{Done, Refused}
 use Rattle.switch.specs.declared.Refusal.the-variants.{Ports, LongestOver, Longest}
 use Rattle.switch.specs.Answer.{planCounts}
-use Rattle.switch.specs.Check.{portsFine, unless}
+use Rattle.switch.specs.Check.{portsFine}
+use Rattle.switch.specs.Result.{unless}
 use Rattle.room.specs.declared.Planner.{Planner}
 use Rattle.room.specs.declared.Planner.the-variants.{Exact, Doubled, Quick}
 
@@ -31,8 +31,8 @@ sufficing records = Done (planCounts records 0 0)
 abbrev pub roomOf : Planner → (N T : ℕ) → Outcome
 roomOf Exact N T = sufficing (exactRoom N T)
 roomOf Doubled N T = sufficing (doubledRoom N)
-roomOf Quick N T = unless (leb T 1024) Longest (sufficing (quickRoom T))
+roomOf Quick N T = unless (leb T 1024) (Refused Longest) (sufficing (quickRoom T))
 
 -- refusals 1, 3 (no line is known, so no side), then the planner's
 unfoldable pub roomed : Edition → Planner → (N T : ℕ) → Outcome
-roomed E planner N T = unless (portsFine (E .ports) N) Ports (unless (leb T 65535) LongestOver (roomOf planner N T))
+roomed E planner N T = unless (portsFine (E .ports) N) (Refused Ports) (unless (leb T 65535) (Refused LongestOver) (roomOf planner N T))
