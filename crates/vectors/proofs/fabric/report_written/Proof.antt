@@ -2,8 +2,8 @@ use borrow.Author.Needs.{needs}
 use Rattle.vectors.proofs.fabric.report_written.Statement.{statement}
 use Rattle.vectors.proofs.fabric.report_written.Tie as tie
 
-counts-of-requires : tie.Need-counts-of-requires
-counts-of-requires c κs = search needs
+numbers-of-requires : tie.Need-numbers-of-requires
+numbers-of-requires c κs = search needs
 
 within-requires : tie.Need-within-requires
 within-requires c κs = search needs
@@ -33,7 +33,7 @@ pub report-written-spec : {M : Type 1} → statement M
 report-written-spec =
     tie.close
     (tie.spec
-    counts-of-requires
+    numbers-of-requires
     within-requires
     mul-within
     within-requires-2
