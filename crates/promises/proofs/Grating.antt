@@ -17,7 +17,8 @@ use Rattle.switch.specs.declared.Outcome.the-variants.{Done, Refused}
 use Rattle.switch.specs.declared.Refusal.{Refusal}
 use Rattle.switch.specs.declared.Refusal.the-variants.{Room}
 use Rattle.switch.specs.declared.Counts.{Counts}
-use Rattle.switch.specs.Answer.{planCounts, demandCounts}
+use Rattle.switch.specs.Answer.{codeOf, countsOf, planCounts, demandCounts}
+use Rattle.switch.proofs.Answer.{code-done}
 use Rattle.switch.specs.Empty.{emptySlots}
 use Rattle.switch.specs.Demand.{cell, longest}
 use Rattle.switch.specs.Plan.{Record, total}
@@ -103,7 +104,7 @@ module _ (W N : ℕ) (pos : 0 < N) (top : N ≤ W) (d : List ℕ) (cells : N * N
   unfolding gratingPlan
   grating-sound = doubled-by-sound W N top pos (opposite N) (opposite-joins N pos) (opposite-idle N) (tight N (opposite N) d) d cells
 
-  -- each record of the second part uses a wavelength at most once when N is odd and at most twice when N is even
+  -- no record of the second part has a wavelength on two inputs where N is odd, or on three where N is even
   pub second-part-spread : Each (Spread N) (secondPart W N d)
   unfolding secondPart
   second-part-spread = go (ℕ-discrete T 0)
@@ -156,12 +157,12 @@ module _ (N : ℕ) (d buf : List ℕ) (r : Outcome) (after : List ℕ) (met : Gr
       let is : r ≡ Refused x = met .0 ∙ sym (e .0) in
       record {
         taken = λ a l. absurd (bad a l);
-        only-then = λ c q. never (sym is ∙ q);
-        reads-back = λ c q. never (sym is ∙ q);
-        worth = λ c q. never (sym is ∙ q);
-        later = λ c q. never (sym is ∙ q);
-        passes = λ c q. never (sym is ∙ q);
-        reported = λ c q. never (sym is ∙ q);
+        only-then = λ z. never (sym is ∙ code-done r z);
+        reads-back = λ z. never (sym is ∙ code-done r z);
+        worth = λ z. never (sym is ∙ code-done r z);
+        later = λ z. never (sym is ∙ code-done r z);
+        passes = λ z. never (sym is ∙ code-done r z);
+        reported = λ z. never (sym is ∙ code-done r z);
         unchanged = λ _. met .1 ∙ sym (e .1);
       }
 
@@ -219,26 +220,26 @@ module _ (N : ℕ) (d buf : List ℕ) (r : Outcome) (after : List ℕ) (met : Gr
     given : GratingGiven N d buf r after
     given = record {
       taken = λ a l. is;
-      only-then = λ c q. (asked, room);
-      reads-back = λ c q. told q (λ (x : Counts). planOf 64 (take (x .records * 68) after) ≡ plan)
+      only-then = λ z. (asked, room);
+      reads-back = λ z. told z (λ (x : Counts). planOf 64 (take (x .records * 68) after) ≡ plan)
           (ap (λ (b : List ℕ). planOf 64 (take (length plan * 68) b)) lays ∙ plan-reads 0 N 64 (each-width 64 N sound) buf);
-      worth = λ c q. record {
+      worth = λ z. record {
         doubled = worth;
         parts = grating-parts 64 N d;
         spread = second-part-spread 64 N (asked .some) (asked .few) d enough;
       };
-      later = λ c q. told q (λ (x : Counts). drop (x .records * 68) after ≡ drop (x .records * 68) buf)
+      later = λ z. told z (λ (x : Counts). drop (x .records * 68) after ≡ drop (x .records * 68) buf)
           (ap (drop (length plan * 68)) lays ∙ plan-behind 0 N 64 (each-width 64 N sound) buf);
-      passes = λ c q. told q (λ (x : Counts). (o : Outcome) → CheckPlan N d (take (x .records * 68) after) o
+      passes = λ z. told z (λ (x : Counts). (o : Outcome) → CheckPlan N d (take (x .records * 68) after) o
           → o ≡ Done (demandCounts (x .records) T (x .total) (emptySlots N (cell N d) plan))) passes;
-      reported = λ c q. told q (λ (x : Counts). (report : List ℕ) → x .records ≤ length report → (o : Outcome) (said : List ℕ)
+      reported = λ z. told z (λ (x : Counts). (report : List ℕ) → x .records ≤ length report → (o : Outcome) (said : List ℕ)
           → GratingReport N (take (x .records * 68) after) report o said → (k : ℕ) → length (firstPart 64 N d) ≤ k → k < x .records → getD said k 0 ≤ allowed N)
           reported-less;
-      unchanged = λ n. absurd (n counts is);
+      unchanged = λ n. absurd (n (ap codeOf is));
     }
       where
-        told : {c : Counts} → r ≡ Done c → (P : Counts → Type 0) → P counts → P c
-        told q P h = subst P (same-counts (sym is ∙ q)) h
+        told : codeOf r ≡ 0 → (P : Counts → Type 0) → P counts → P (countsOf r)
+        told z P h = subst P (same-counts (sym is ∙ code-done r z)) h
 
   -- the doubled plan for the grating fabric
   pub grating-promise : GratingGiven N d buf r after

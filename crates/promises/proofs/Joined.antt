@@ -9,7 +9,8 @@ use Rattle.switch.specs.declared.Outcome.{Outcome}
 use Rattle.switch.specs.declared.Outcome.the-variants.{Done, Refused}
 use Rattle.switch.specs.declared.Refusal.{Refusal}
 use Rattle.switch.specs.declared.Counts.{Counts}
-use Rattle.switch.specs.Answer.{planCounts}
+use Rattle.switch.specs.Answer.{codeOf, countsOf, planCounts}
+use Rattle.switch.proofs.Answer.{code-done}
 use Rattle.switch.specs.Plan.{Record, total}
 use Rattle.switch.specs.Sound.{Each, OfWidth}
 use Rattle.records.specs.Bytes.{bytes, laid, whole, planOf}
@@ -44,10 +45,10 @@ module _ (E : Edition) (bounds : Bounded E) (N : ℕ) (plan : List ℕ) (byte : 
       let is : r ≡ Refused x = met .0 ∙ ap (λ (y : Planned). y .outcome) (sym e) in
       record {
         taken = λ g l. absurd (bad g l);
-        only-then = λ c q. never (sym is ∙ q);
-        joins = λ c q. never (sym is ∙ q);
-        later = λ c q. never (sym is ∙ q);
-        twice = λ c q. never (sym is ∙ q);
+        only-then = λ z. never (sym is ∙ code-done r z);
+        joins = λ z. never (sym is ∙ code-done r z);
+        later = λ z. never (sym is ∙ code-done r z);
+        twice = λ z. never (sym is ∙ code-done r z);
         unchanged = λ _. met .1 ∙ ap (λ (y : Planned). y .bytes) (sym e);
       }
 
@@ -78,15 +79,19 @@ module _ (E : Edition) (bounds : Bounded E) (N : ℕ) (plan : List ℕ) (byte : 
       cuts = unfold joinPlan in refl;
     }
 
+    told : codeOf r ≡ 0 → (P : Counts → Type 0) → P counts → P (countsOf r)
+    told z P h = subst P (same-counts (sym is ∙ code-done r z)) h
+
     done : Joined E N plan buf r after
     done = record {
       taken = λ g l. is ∙ ap (λ (t : ℕ). Done (planCounts (length (joinPlan p)) 0 t)) (join-total p);
-      only-then = λ c q. (checks-good E N plan bounds o fine, room);
-      joins = λ c q. subst (λ (x : Counts). JoinOf p (planOf (E .width) (part E x after))) (same-counts (sym is ∙ q)) (subst (JoinOf p) (sym reads) join-of);
-      later = λ c q. subst (λ (x : Counts). drop (x .records * (E .width + 4)) after ≡ drop (x .records * (E .width + 4)) buf) (same-counts (sym is ∙ q))
+      only-then = λ z. (checks-good E N plan bounds o fine, room);
+      joins = λ z. told z (λ (x : Counts). JoinOf p (planOf (E .width) (part E x after))) (subst (JoinOf p) (sym reads) join-of);
+      later = λ z. told z (λ (x : Counts). drop (x .records * (E .width + 4)) after ≡ drop (x .records * (E .width + 4)) buf)
           (ap (drop (length (joinPlan p) * (E .width + 4))) lays ∙ plan-behind (E .byte) N (E .width) widths buf);
-      twice = λ c q next. ap (λ (b : List ℕ). joining E N (part E c b) next) (met .1) ∙ twice E bounds N plan byte buf c (sym q ∙ met .0) next;
-      unchanged = λ n. absurd (n counts is);
+      twice = λ z next. ap (λ (b : List ℕ). joining E N (part E (countsOf r) b) next) (met .1)
+          ∙ twice E bounds N plan byte buf (countsOf r) (sym (code-done r z) ∙ met .0) next;
+      unchanged = λ n. absurd (n (ap codeOf is));
     }
 
   pub joined : Joined E N plan buf r after

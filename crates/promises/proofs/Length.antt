@@ -6,6 +6,8 @@ use native.Mathlib.Omega.{arith}
 use lib.ListN.{length}
 use Rattle.switch.specs.declared.Outcome.{Outcome}
 use Rattle.switch.specs.declared.Outcome.the-variants.{Done, Refused}
+use Rattle.switch.specs.Answer.{codeOf}
+use Rattle.switch.proofs.Answer.{code-done}
 use Rattle.switch.specs.Plan.{Record}
 use Rattle.records.specs.Bytes.{planOf}
 use Rattle.switch.specs.declared.Edition.{Edition}
@@ -48,16 +50,16 @@ module _ (E : Edition) (bounds : Bounded E) (N : ℕ) (plan : List ℕ) (d : ℕ
       by (Done o) e =
           let is : r ≡ Done (lengthCounts d p) = met ∙ ap (λ (x : Outcome). afterChecking x (Done (lengthCounts d p))) e in
           record {
-            taken = λ g. (lengthCounts d p, is);
-            only-then = λ c q. checks-good E N plan bounds o e;
-            lasts = λ c q. subst (Lasts d p) (same-counts (sym is ∙ q)) (counted d p);
+            taken = λ g. ap codeOf is;
+            only-then = λ z. checks-good E N plan bounds o e;
+            lasts = λ z. subst (Lasts d p) (same-counts (sym is ∙ code-done r z)) (counted d p);
           }
       by (Refused x) e =
           let is : r ≡ Refused x = met ∙ ap (λ (y : Outcome). afterChecking y (Done (lengthCounts d p))) e in
           record {
             taken = λ g. never (sym e ∙ good-checks E N plan bounds g);
-            only-then = λ c q. never (sym is ∙ q);
-            lasts = λ c q. never (sym is ∙ q);
+            only-then = λ z. never (sym is ∙ code-done r z);
+            lasts = λ z. never (sym is ∙ code-done r z);
           }
 
 -- the length of a plan

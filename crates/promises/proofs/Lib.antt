@@ -17,3 +17,4 @@ pub mod Doubled
 pub mod Quick
 pub mod Checked
 pub mod Wrong
+pub mod Edge

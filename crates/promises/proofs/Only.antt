@@ -2,7 +2,9 @@
 use mathlib.Core.Path.{_≡_, sym, ap, _∙_}
 use mathlib.Core.List.{List}
 use Prim.Native.Nat.{ℕ}
+use lib.Ieee.{Float}
 use denote.Ref.{RefT}
+use Rattle.switch.proofs.Answer.{determined}
 use Rattle.plans.specs.declared.Stepped.{Stepped}
 use Rattle.reader.specs.declared.Reader.{Reader}
 use Rattle.reader.specs.Reader.{movedTo}
@@ -11,7 +13,7 @@ use Rattle.promises.specs.Calls as call
 
 -- what equals one thing
 one : {A : Type 0} (x : A) → OneAnswer (λ r. r ≡ x)
-one x a b p q = p ∙ sym q
+one x a b = determined a b x
 
 -- and in lent memory
 both : {A : Type 0} (x : A) (m : List ℕ) → OneResult (call.Leaves x m)
@@ -21,6 +23,9 @@ both x m a b k l p q = (one x a b (p .0) (q .0), one m k l (p .1) (q .1))
 
 pub wish-one-answer : (bits : ℕ) → OneAnswer (call.OfBits bits)
 wish-one-answer bits = one _
+
+pub classify-one-answer : (x : Float) → OneAnswer (call.Classify x)
+classify-one-answer x = one _
 
 pub wishes-one-result : (N : ℕ) (list cells : List ℕ) → OneResult (call.WishList N list cells)
 wishes-one-result N list cells = both _ _
@@ -74,6 +79,9 @@ pub listing-one-result : (input text : List ℕ) → OneResult (call.Listing inp
 listing-one-result input text a b l m p q = (one _ a b (p .0) (q .0), one _ l m (p .1) (q .1))
 
 -- ---- the edge
+
+pub cv-version-one-answer : OneAnswer call.CvVersion
+cv-version-one-answer = one _
 
 pub cv-wish-one-answer : (bits : ℕ) → OneAnswer (call.CvWish bits)
 cv-wish-one-answer bits = one _

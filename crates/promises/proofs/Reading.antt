@@ -11,7 +11,8 @@ use denote.Ref.{RefT, now}
 use Rattle.switch.specs.declared.Outcome.{Outcome}
 use Rattle.switch.specs.declared.Outcome.the-variants.{Done, Refused}
 use Rattle.switch.specs.declared.Counts.{Counts}
-use Rattle.switch.specs.Answer.{planCounts}
+use Rattle.switch.specs.Answer.{countsOf, planCounts}
+use Rattle.switch.proofs.Answer.{code-done}
 use Rattle.switch.specs.Plan.{total}
 use Rattle.records.specs.Record.{WellFormed}
 use Rattle.records.specs.Bytes.{recordAt, whole, planOf}
@@ -32,7 +33,7 @@ use Rattle.reader.specs.declared.Opened.{Opened}
 use Rattle.reader.specs.Reader.{starting, movedTo}
 use Rattle.promises.specs.Calls.{OpenPlan, StepAt, OpenReader, ReaderStep}
 use Rattle.promises.specs.Reading.{Openable, GoodPlan, FirstDamaged, Opens, StepGives, ReadStep, Steps, none, more}
-use Rattle.promises.proofs.Outcomes.{never}
+use Rattle.promises.proofs.Outcomes.{never, not-zero}
 
 -- ---- opening
 
@@ -95,8 +96,8 @@ module _ (E : Edition) (N : ℕ) (plan : List ℕ) where
 pub open-promise : (N : ℕ) (plan : List ℕ) (r : Outcome) → OpenPlan N plan r → Opens N plan r
 open-promise N plan r met = record {
   taken = λ o. met ∙ openable-opens firstEdition N plan o;
-  only-then = λ c e. opens-openable firstEdition N plan c (sym met ∙ e);
-  ends = λ n at. by (opening firstEdition N plan) refl n at;
+  only-then = λ z. opens-openable firstEdition N plan (countsOf r) (sym met ∙ code-done r z);
+  ends = λ n at. by (opening firstEdition N plan) refl (not-zero n) at;
 }
   where
     by : (o : Outcome) → o ≡ opening firstEdition N plan → ((c : Counts) → r ≡ Done c → ⊥) → (at : ℕ) → stepAt N plan at ≡ nothing step.End at

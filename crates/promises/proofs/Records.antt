@@ -11,7 +11,8 @@ use Rattle.switch.specs.declared.Outcome.the-variants.{Done}
 use Rattle.switch.specs.Check.{portsFine}
 use Rattle.switch.specs.declared.Refusal.the-variants.{Ports, Room, Malformed}
 use Rattle.switch.specs.declared.Counts.{Counts}
-use Rattle.switch.specs.Answer.{planCounts}
+use Rattle.switch.specs.Answer.{countsOf, planCounts}
+use Rattle.switch.proofs.Answer.{code-done}
 use Rattle.switch.specs.Sound.{Sound}
 use Rattle.records.specs.Record.{wellFormed}
 use Rattle.records.specs.Bytes.{encode, laid, whole, recordAt}
@@ -25,6 +26,7 @@ use Rattle.plans.specs.declared.Stepped.{Stepped}
 use Rattle.plans.specs.Read.{stepAt}
 use Rattle.plans.proofs.Trips.{wrote, written-bytes, write-read, gave, read-write}
 use Rattle.promises.specs.Calls.{Leaves, WriteRecord, StepAt}
+use Rattle.promises.proofs.Outcomes.{not-zero}
 use Rattle.promises.proofs.Laid.{laid-front, laid-behind}
 use Rattle.promises.specs.Records.{GoodRecord, RecordWritten, WrittenAgain}
 
@@ -62,7 +64,13 @@ module _ (hold N : ℕ) (outputs buf : List ℕ) (long : length outputs ≡ 64) 
       by false q w m = m .1
 
   pub write-promise : RecordWritten hold N outputs buf r after
-  write-promise = record { taken = taken; only-then = good; reads-back = reads-back; later = later; unchanged = unchanged }
+  write-promise = record {
+    taken = taken;
+    only-then = λ z. good (countsOf r) (code-done r z);
+    reads-back = λ z. reads-back (countsOf r) (code-done r z);
+    later = λ z. later (countsOf r) (code-done r z);
+    unchanged = λ n. unchanged (not-zero n);
+  }
 
 -- ---- read, then written
 

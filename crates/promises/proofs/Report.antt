@@ -9,6 +9,8 @@ use Rattle.switch.specs.declared.Outcome.{Outcome}
 use Rattle.switch.specs.declared.Outcome.the-variants.{Done, Refused}
 use Rattle.switch.specs.declared.Refusal.{Refusal}
 use Rattle.switch.specs.declared.Counts.{Counts}
+use Rattle.switch.specs.Answer.{codeOf}
+use Rattle.switch.proofs.Answer.{code-done}
 use Rattle.records.specs.Record.{decoded}
 use Rattle.records.specs.Bytes.{recordAt, whole}
 use Rattle.records.specs.Write.{Written, refuses}
@@ -40,9 +42,9 @@ module _ (E : Edition) (bounds : Bounded E) (N : ℕ) (plan buf : List ℕ) (r :
       let same : after ≡ buf = met .1 ∙ ap (λ (y : Written). y .bytes) (sym e) in
       record {
         taken = λ g l. absurd (bad g l);
-        only-then = λ c q. never (sym is ∙ q);
-        says = λ c q. never (sym is ∙ q);
-        later = λ c q. never (sym is ∙ q);
+        only-then = λ z. never (sym is ∙ code-done r z);
+        says = λ z. never (sym is ∙ code-done r z);
+        later = λ z. never (sym is ∙ code-done r z);
         size = ap length same;
         unchanged = λ _. same;
       }
@@ -58,13 +60,13 @@ module _ (E : Edition) (bounds : Bounded E) (N : ℕ) (plan buf : List ℕ) (r :
       done : Reported E N plan buf r after
       done = record {
         taken = λ g l. is ∙ sym fine ∙ good-checks E N plan bounds g;
-        only-then = λ c q. (checks-good E N plan bounds o fine, omega (arith, count));
-        says = λ c q k l. subst (λ (b : List ℕ). MostShared N (decoded (recordAt (E .width) plan k)) (getD b k 0)) (sym (met .1))
-            (says E bounds N plan buf (sym fine) room k (omega (arith, ap (λ (x : Counts). x .records) (same-counts (sym is ∙ q)))));
-        later = λ c q k l. ap (λ (b : List ℕ). getD b k 0) (met .1)
-            ∙ later-untouched E bounds N plan buf (sym fine) room k (omega (arith, ap (λ (x : Counts). x .records) (same-counts (sym is ∙ q))));
+        only-then = λ z. (checks-good E N plan bounds o fine, omega (arith, count));
+        says = λ z k l. subst (λ (b : List ℕ). MostShared N (decoded (recordAt (E .width) plan k)) (getD b k 0)) (sym (met .1))
+            (says E bounds N plan buf (sym fine) room k (omega (arith, ap (λ (x : Counts). x .records) (same-counts (sym is ∙ code-done r z)))));
+        later = λ z k l. ap (λ (b : List ℕ). getD b k 0) (met .1)
+            ∙ later-untouched E bounds N plan buf (sym fine) room k (omega (arith, ap (λ (x : Counts). x .records) (same-counts (sym is ∙ code-done r z))));
         size = ap length (met .1) ∙ same-size E bounds N plan buf (sym fine) room;
-        unchanged = λ n. absurd (n o is);
+        unchanged = λ n. absurd (n (ap codeOf is));
       }
 
   pub reports : Reported E N plan buf r after

@@ -20,7 +20,8 @@ use Rattle.switch.specs.declared.Outcome.{Outcome}
 use Rattle.switch.specs.declared.Outcome.the-variants.{Done, Refused}
 use Rattle.switch.specs.declared.Refusal.{Refusal}
 use Rattle.switch.specs.declared.Counts.{Counts}
-use Rattle.switch.specs.Answer.{planCounts}
+use Rattle.switch.specs.Answer.{countsOf, planCounts}
+use Rattle.switch.proofs.Answer.{code-done}
 use Rattle.switch.proofs.Check.{some-ports, no-ports, many-ports}
 use Rattle.wishes.specs.declared.WishRecord.{WishRecord}
 use Rattle.wishes.specs.declared.Fault.{Fault}
@@ -35,7 +36,7 @@ use Rattle.wishes.proofs.Answers.{bad-ports, bad-cells, torn, searched}
 use Rattle.records.proofs.Every.{and-l, and-r}
 use borrow.Author.Tests.{lt-ltb, eq-eqb, ltb-true, eqb-true}
 use Rattle.promises.specs.Calls.{OfBits, WishList}
-use Rattle.promises.proofs.Outcomes.{never}
+use Rattle.promises.proofs.Outcomes.{never, not-zero}
 use Rattle.promises.specs.Wishes.{Wished, GoodWish, GoodList, Listed}
 
 in-range : {x : Float} {w : Wish} → Answers x w → codeOf w ≡ 0 → InRange x
@@ -192,4 +193,9 @@ module _ (N : ℕ) (list cells : List ℕ) (r : Outcome) (after : List ℕ) (met
 
   -- a list of wishes
   pub wishes-promise : Listed N list cells r after
-  wishes-promise = record { taken = list-taken; only-then = list-good; demand = list-demand; unchanged = list-unchanged }
+  wishes-promise = record {
+    taken = list-taken;
+    only-then = λ z. list-good (countsOf r) (code-done r z);
+    demand = λ z. list-demand (countsOf r) (code-done r z);
+    unchanged = λ n. list-unchanged (not-zero n);
+  }

@@ -3,10 +3,11 @@ use mathlib.Core.Path.{_≡_}
 use mathlib.Core.List.{List}
 use Prim.Native.Nat.{ℕ}
 use lib.ListN.{length, take}
+use lib.Ieee.{Float}
 use denote.Ref.{RefT, now}
 use Rattle.switch.specs.declared.Outcome.{Outcome}
 use Rattle.wish.specs.declared.Wish.{Wish}
-use Rattle.wish.specs.Wish.{wishBits}
+use Rattle.wish.specs.Wish.{wishOf, wishBits}
 use Rattle.wishes.specs.Wishes.{outcome, cellsAfter}
 use Rattle.rules.specs.Exact.{exactPlan}
 use Rattle.rules.specs.Doubled.{doubledPlan, tightPlan}
@@ -28,7 +29,7 @@ use Rattle.grating.specs.Grating.{gratingPlanned}
 use Rattle.listing.specs.Listing.{listingOf}
 use Rattle.chordvenus.specs.declared.CvAnswer.{CvAnswer}
 use Rattle.chordvenus.specs.declared.CvStep.{CvStep}
-use Rattle.chordvenus.specs.Flat.{flat, flatWish, flatStep}
+use Rattle.chordvenus.specs.Flat.{version, flat, flatWish, flatStep}
 
 -- the answer is x, and the lent memory is m afterwards
 abbrev pub Leaves : {A : Type 0} → A → List ℕ → A → List ℕ → Type 0
@@ -39,6 +40,10 @@ Leaves x m r after = (r ≡ x) × (after ≡ m)
 -- wish::of_bits(bits)
 abbrev pub OfBits : ℕ → Wish → Type 0
 OfBits bits r = r ≡ wishBits bits
+
+-- wish::classify(x)
+abbrev pub Classify : Float → Wish → Type 0
+Classify x r = r ≡ wishOf x
 
 -- wishes::wishes(n, list, cells)
 abbrev pub WishList : ℕ → List ℕ → List ℕ → Outcome → List ℕ → Type 0
@@ -109,6 +114,10 @@ abbrev pub Listing : List ℕ → List ℕ → ℕ → List ℕ → Type 0
 Listing input text r after = (r ≡ length (listingOf input)) × (after ≡ laid text 0 (listingOf input)) × (take r after ≡ listingOf input)
 
 -- ---- the edge: the same, an outcome told by its numbers
+
+-- cv_version()
+abbrev pub CvVersion : ℕ → Type 0
+CvVersion r = r ≡ version
 
 -- cv_wish(bits)
 abbrev pub CvWish : ℕ → CvAnswer → Type 0

@@ -5,8 +5,7 @@ use Prim.Native.Nat.{ℕ, _*_, _<_, _≤_}
 use lib.ListN.{length, getD, take, drop}
 use Rattle.switch.specs.declared.Outcome.{Outcome}
 use Rattle.switch.specs.declared.Outcome.the-variants.{Done}
-use Rattle.switch.specs.declared.Counts.{Counts}
-use Rattle.switch.specs.Answer.{planCounts, demandCounts}
+use Rattle.switch.specs.Answer.{codeOf, countsOf, planCounts, demandCounts}
 use Rattle.switch.specs.Demand.{cell, longest}
 use Rattle.switch.specs.Plan.{Record, total}
 use Rattle.switch.specs.Empty.{emptySlots}
@@ -31,17 +30,17 @@ pub record GratingGiven (N : ℕ) (d buf : List ℕ) (r : Outcome) (after : List
   -- code 0 exactly when the demand is fine and there is room for the plan, with its records and its total
   pub taken : Asked 64 N (longest N (cell N d)) d → length (gratingPlan 64 N d) ≤ whole 64 buf
       → r ≡ Done (planCounts (length (gratingPlan 64 N d)) 0 (total (gratingPlan 64 N d)))
-  pub only-then : (c : Counts) → r ≡ Done c → Asked 64 N (longest N (cell N d)) d × (length (gratingPlan 64 N d) ≤ whole 64 buf)
+  pub only-then : codeOf r ≡ 0 → Asked 64 N (longest N (cell N d)) d × (length (gratingPlan 64 N d) ≤ whole 64 buf)
   -- then the records written read back as the plan, which is worth all that, and no byte behind them is touched
-  pub reads-back : (c : Counts) → r ≡ Done c → planOf 64 (take (c .records * 68) after) ≡ gratingPlan 64 N d
-  pub worth : (c : Counts) → r ≡ Done c → Spreads N d (gratingPlan 64 N d)
-  pub later : (c : Counts) → r ≡ Done c → drop (c .records * 68) after ≡ drop (c .records * 68) buf
+  pub reads-back : codeOf r ≡ 0 → planOf 64 (take (countsOf r .records * 68) after) ≡ gratingPlan 64 N d
+  pub worth : codeOf r ≡ 0 → Spreads N d (gratingPlan 64 N d)
+  pub later : codeOf r ≡ 0 → drop (countsOf r .records * 68) after ≡ drop (countsOf r .records * 68) buf
   -- the checker passes them, with the demand's T and the plan's empty slots
-  pub passes : (c : Counts) → r ≡ Done c → (o : Outcome) → CheckPlan N d (take (c .records * 68) after) o
-      → o ≡ Done (demandCounts (c .records) (longest N (cell N d)) (c .total) (emptySlots N (cell N d) (gratingPlan 64 N d)))
+  pub passes : codeOf r ≡ 0 → (o : Outcome) → CheckPlan N d (take (countsOf r .records * 68) after) o
+      → o ≡ Done (demandCounts (countsOf r .records) (longest N (cell N d)) (countsOf r .total) (emptySlots N (cell N d) (gratingPlan 64 N d)))
   -- and a report of them says no more than 1, or 2, of each record of the second part
-  pub reported : (c : Counts) → r ≡ Done c → (report : List ℕ) → c .records ≤ length report → (o : Outcome) (said : List ℕ)
-      → GratingReport N (take (c .records * 68) after) report o said
-      → (k : ℕ) → length (firstPart 64 N d) ≤ k → k < c .records → getD said k 0 ≤ allowed N
+  pub reported : codeOf r ≡ 0 → (report : List ℕ) → countsOf r .records ≤ length report → (o : Outcome) (said : List ℕ)
+      → GratingReport N (take (countsOf r .records * 68) after) report o said
+      → (k : ℕ) → length (firstPart 64 N d) ≤ k → k < countsOf r .records → getD said k 0 ≤ allowed N
   -- and else no byte is touched
-  pub unchanged : ((c : Counts) → r ≡ Done c → ⊥) → after ≡ buf
+  pub unchanged : (codeOf r ≡ 0 → ⊥) → after ≡ buf

@@ -6,7 +6,7 @@ use lib.ListN.{length, take, drop}
 use Rattle.switch.specs.declared.Outcome.{Outcome}
 use Rattle.switch.specs.declared.Outcome.the-variants.{Done}
 use Rattle.switch.specs.declared.Counts.{Counts}
-use Rattle.switch.specs.Answer.{planCounts}
+use Rattle.switch.specs.Answer.{codeOf, countsOf, planCounts}
 use Rattle.switch.specs.Plan.{Record, grant, total}
 use Rattle.records.specs.Bytes.{whole, planOf}
 use Rattle.switch.specs.declared.Edition.{Edition}
@@ -35,11 +35,11 @@ pub record Joined (E : Edition) (N : ℕ) (plan buf : List ℕ) (r : Outcome) (a
   -- code 0 exactly when nothing is wrong with the plan and there is room for the joined one, with the joined one's records and the plan's total
   pub taken : GoodPlan E N plan → length (joinedOf E plan) ≤ whole (E .width) buf
       → r ≡ Done (planCounts (length (joinedOf E plan)) 0 (total (planOf (E .width) plan)))
-  pub only-then : (c : Counts) → r ≡ Done c → GoodPlan E N plan × (length (joinedOf E plan) ≤ whole (E .width) buf)
+  pub only-then : codeOf r ≡ 0 → GoodPlan E N plan × (length (joinedOf E plan) ≤ whole (E .width) buf)
   -- then the records written are the join, and no byte behind them is touched
-  pub joins : (c : Counts) → r ≡ Done c → JoinOf (planOf (E .width) plan) (planOf (E .width) (part E c after))
-  pub later : (c : Counts) → r ≡ Done c → drop (c .records * (E .width + 4)) after ≡ drop (c .records * (E .width + 4)) buf
+  pub joins : codeOf r ≡ 0 → JoinOf (planOf (E .width) plan) (planOf (E .width) (part E (countsOf r) after))
+  pub later : codeOf r ≡ 0 → drop (countsOf r .records * (E .width + 4)) after ≡ drop (countsOf r .records * (E .width + 4)) buf
   -- joined once more, into any buffer, they give there what the plan itself gives
-  pub twice : (c : Counts) → r ≡ Done c → (next : List ℕ) → joining E N (part E c after) next ≡ joining E N plan next
+  pub twice : codeOf r ≡ 0 → (next : List ℕ) → joining E N (part E (countsOf r) after) next ≡ joining E N plan next
   -- and else no byte is touched
-  pub unchanged : ((c : Counts) → r ≡ Done c → ⊥) → after ≡ buf
+  pub unchanged : (codeOf r ≡ 0 → ⊥) → after ≡ buf

@@ -5,8 +5,8 @@ use Prim.Native.Nat.{ℕ, suc, _+_, _*_, _≤_}
 use lib.ListN.{length}
 use Rattle.counting.specs.Sum.{sum}
 use Rattle.switch.specs.declared.Outcome.{Outcome}
-use Rattle.switch.specs.declared.Outcome.the-variants.{Done}
 use Rattle.switch.specs.declared.Counts.{Counts}
+use Rattle.switch.specs.Answer.{codeOf, countsOf}
 use Rattle.switch.specs.Plan.{Record, total}
 use Rattle.records.specs.Bytes.{planOf}
 use Rattle.switch.specs.declared.Edition.{Edition}
@@ -34,6 +34,6 @@ pub record Lasts (d : ℕ) (p : List Record) (c : Counts) : Type 0 where
 -- the answer r
 pub record Measured (E : Edition) (N : ℕ) (plan : List ℕ) (d : ℕ) (r : Outcome) : Type 0 where
   -- code 0 exactly when nothing is wrong with the plan
-  pub taken : GoodPlan E N plan → (c : Counts) × (r ≡ Done c)
-  pub only-then : (c : Counts) → r ≡ Done c → GoodPlan E N plan
-  pub lasts : (c : Counts) → r ≡ Done c → Lasts d (planOf (E .width) plan) c
+  pub taken : GoodPlan E N plan → codeOf r ≡ 0
+  pub only-then : codeOf r ≡ 0 → GoodPlan E N plan
+  pub lasts : codeOf r ≡ 0 → Lasts d (planOf (E .width) plan) (countsOf r)

@@ -5,8 +5,7 @@ use Prim.Native.Nat.{ℕ, zero, suc, _+_, _%_, _<_, _≤_}
 use lib.ListN.{length}
 use Rattle.switch.specs.declared.Outcome.{Outcome}
 use Rattle.switch.specs.declared.Outcome.the-variants.{Done}
-use Rattle.switch.specs.declared.Counts.{Counts}
-use Rattle.switch.specs.Answer.{planCounts}
+use Rattle.switch.specs.Answer.{codeOf, planCounts}
 use Rattle.records.specs.Record.{WellFormed}
 use Rattle.records.specs.Bytes.{recordAt, whole}
 use Rattle.switch.specs.declared.Edition.{Edition}
@@ -39,9 +38,9 @@ pub record FirstDamaged (E : Edition) (N : ℕ) (plan : List ℕ) (f : ℕ) : Ty
 pub record Opens (N : ℕ) (plan : List ℕ) (r : Outcome) : Type 0 where
   -- code 0 exactly when the plan can be opened, with its records alone
   pub taken : Openable firstEdition N plan → r ≡ Done (planCounts (whole 64 plan) 0 0)
-  pub only-then : (c : Counts) → r ≡ Done c → Openable firstEdition N plan
+  pub only-then : codeOf r ≡ 0 → Openable firstEdition N plan
   -- and else every step is the end
-  pub ends : ((c : Counts) → r ≡ Done c → ⊥) → (at : ℕ) → stepAt N plan at ≡ nothing step.End at
+  pub ends : (codeOf r ≡ 0 → ⊥) → (at : ℕ) → stepAt N plan at ≡ nothing step.End at
 
 -- the step at a record of a plan that can be opened: the record, or its damage, or the end; the last two leave the place, and so come again
 pub record StepGives (N : ℕ) (plan : List ℕ) (at : ℕ) (s : Stepped) : Type 0 where

@@ -5,8 +5,7 @@ use Prim.Native.Nat.{ℕ, _<_, _≤_}
 use lib.ListN.{length, take, drop}
 use Rattle.switch.specs.declared.Outcome.{Outcome}
 use Rattle.switch.specs.declared.Outcome.the-variants.{Done}
-use Rattle.switch.specs.declared.Counts.{Counts}
-use Rattle.switch.specs.Answer.{planCounts}
+use Rattle.switch.specs.Answer.{codeOf, planCounts}
 use Rattle.switch.specs.Sound.{Sound}
 use Rattle.records.specs.Bytes.{recordAt}
 use Rattle.plans.specs.declared.Step.the-variants as step
@@ -24,12 +23,12 @@ pub record GoodRecord (hold N : ℕ) (outputs : List ℕ) (size : ℕ) : Type 0 
 pub record RecordWritten (hold N : ℕ) (outputs buf : List ℕ) (r : Outcome) (after : List ℕ) : Type 0 where
   -- code 0 exactly when nothing is wrong, with 1 record and its hold as total
   pub taken : GoodRecord hold N outputs (length buf) → r ≡ Done (planCounts 1 0 hold)
-  pub only-then : (c : Counts) → r ≡ Done c → GoodRecord hold N outputs (length buf)
+  pub only-then : codeOf r ≡ 0 → GoodRecord hold N outputs (length buf)
   -- then the first 68 bytes read back as the same hold and outputs, and no byte behind them is touched
-  pub reads-back : (c : Counts) → r ≡ Done c → stepAt N (take 68 after) 0 ≡ record { step = step.Record; hold = hold; outputs = outputs; next = 1 }
-  pub later : (c : Counts) → r ≡ Done c → drop 68 after ≡ drop 68 buf
+  pub reads-back : codeOf r ≡ 0 → stepAt N (take 68 after) 0 ≡ record { step = step.Record; hold = hold; outputs = outputs; next = 1 }
+  pub later : codeOf r ≡ 0 → drop 68 after ≡ drop 68 buf
   -- and else no byte is
-  pub unchanged : ((c : Counts) → r ≡ Done c → ⊥) → after ≡ buf
+  pub unchanged : (codeOf r ≡ 0 → ⊥) → after ≡ buf
 
 -- record `at` of a plan, read as s and written again
 pub record WrittenAgain (plan : List ℕ) (at : ℕ) (s : Stepped) (buf : List ℕ) (r : Outcome) (after : List ℕ) : Type 0 where

@@ -5,8 +5,7 @@ use Prim.Native.Nat.{ℕ, _<_, _≤_}
 use lib.ListN.{length, getD}
 use Rattle.switch.specs.declared.Outcome.{Outcome}
 use Rattle.switch.specs.declared.Outcome.the-variants.{Done}
-use Rattle.switch.specs.declared.Counts.{Counts}
-use Rattle.switch.specs.Answer.{planCounts}
+use Rattle.switch.specs.Answer.{codeOf, countsOf, planCounts}
 use Rattle.switch.specs.Plan.{total}
 use Rattle.records.specs.Record.{decoded}
 use Rattle.records.specs.Bytes.{recordAt, whole, planOf}
@@ -18,10 +17,10 @@ use Rattle.promises.specs.Reading.{GoodPlan}
 pub record Reported (E : Edition) (N : ℕ) (plan buf : List ℕ) (r : Outcome) (after : List ℕ) : Type 0 where
   -- code 0 exactly when nothing is wrong with the plan and there is a byte for each record, with the plan's records and total
   pub taken : GoodPlan E N plan → whole (E .width) plan ≤ length buf → r ≡ Done (planCounts (whole (E .width) plan) 0 (total (planOf (E .width) plan)))
-  pub only-then : (c : Counts) → r ≡ Done c → GoodPlan E N plan × (whole (E .width) plan ≤ length buf)
+  pub only-then : codeOf r ≡ 0 → GoodPlan E N plan × (whole (E .width) plan ≤ length buf)
   -- then byte k is the most inputs of record k that share one wavelength, and no byte behind the records' is touched
-  pub says : (c : Counts) → r ≡ Done c → (k : ℕ) → k < c .records → MostShared N (decoded (recordAt (E .width) plan k)) (getD after k 0)
-  pub later : (c : Counts) → r ≡ Done c → (k : ℕ) → c .records ≤ k → getD after k 0 ≡ getD buf k 0
+  pub says : codeOf r ≡ 0 → (k : ℕ) → k < countsOf r .records → MostShared N (decoded (recordAt (E .width) plan k)) (getD after k 0)
+  pub later : codeOf r ≡ 0 → (k : ℕ) → countsOf r .records ≤ k → getD after k 0 ≡ getD buf k 0
   pub size : length after ≡ length buf
   -- and else no byte is
-  pub unchanged : ((c : Counts) → r ≡ Done c → ⊥) → after ≡ buf
+  pub unchanged : (codeOf r ≡ 0 → ⊥) → after ≡ buf

@@ -6,8 +6,8 @@ use lib.ListN.{length}
 use lib.Ieee.{ofBits, binary32}
 use Rattle.switch.specs.declared.Outcome.{Outcome}
 use Rattle.switch.specs.declared.Outcome.the-variants.{Done}
-use Rattle.switch.specs.declared.Counts.{Counts}
 use Rattle.switch.specs.Answer.{planCounts}
+use Rattle.switch.specs.Answer as answer
 use Rattle.wish.specs.declared.Wish.{Wish}
 use Rattle.wish.specs.Wish.{wishBits, codeOf, slotsOf, InRange}
 use Rattle.wish.specs.Meaning.{Answers, AboveZero}
@@ -47,8 +47,8 @@ pub record GoodList (N : ℕ) (list : List ℕ) (cells : ℕ) : Type 0 where
 pub record Listed (N : ℕ) (list cells : List ℕ) (r : Outcome) (after : List ℕ) : Type 0 where
   -- code 0 exactly when nothing is wrong, with the number of wish records
   pub taken : GoodList N list (length cells) → r ≡ Done (planCounts (length list / 8) 0 0)
-  pub only-then : (c : Counts) → r ≡ Done c → GoodList N list (length cells)
+  pub only-then : answer.codeOf r ≡ 0 → GoodList N list (length cells)
   -- then each named pair has its wish's slots, and every other pair 0
-  pub demand : (c : Counts) → r ≡ Done c → Demanded N list (length list / 8) after
+  pub demand : answer.codeOf r ≡ 0 → Demanded N list (length list / 8) after
   -- and else no cell is changed
-  pub unchanged : ((c : Counts) → r ≡ Done c → ⊥) → after ≡ cells
+  pub unchanged : (answer.codeOf r ≡ 0 → ⊥) → after ≡ cells

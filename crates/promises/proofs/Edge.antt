@@ -1,0 +1,28 @@
+-- What crosses the edge tells the call's own answer: an outcome can be read back from its numbers, and code 0 is success alone.
+use mathlib.Core.Path.{_≡_, refl, ap}
+use mathlib.Core.List.{List}
+use Prim.Native.Nat.{ℕ}
+use Rattle.switch.specs.declared.Outcome.{Outcome}
+use Rattle.switch.specs.declared.Numbers.{Numbers}
+use Rattle.switch.proofs.Answer.{answer-tells}
+use Rattle.chordvenus.specs.declared.CvAnswer.{CvAnswer}
+use Rattle.chordvenus.specs.Flat.{flat}
+use Rattle.promises.specs.Calls.{Leaves}
+
+-- the numbers of an answer at the edge
+numbers : CvAnswer → Numbers
+numbers a = record {
+  code = a .code;
+  place = a .place;
+  side = a .side;
+  counts = record { records = a .records; longest = a .longest; total = a .total; length = a .length; empty = a .empty };
+}
+
+-- two outcomes that look the same from outside are the same
+pub flat-tells : (o p : Outcome) → flat o ≡ flat p → o ≡ p
+unfolding numbers
+flat-tells o p e = answer-tells o p (ap numbers e)
+
+-- so all that is promised of a call holds of its answer at the edge
+pub crosses : {x : Outcome} {m : List ℕ} (r : CvAnswer) (after : List ℕ) → Leaves (flat x) m r after → (o : Outcome) × (Leaves x m o after) × (r ≡ flat o)
+crosses {x} r after met = (x, (refl, met .1), met .0)
