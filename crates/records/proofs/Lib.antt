@@ -1,5 +1,6 @@
 pub mod Laid
 pub mod Bytes
+pub mod Parts
 pub mod Part
 pub mod Round
 pub mod Every

@@ -6,7 +6,7 @@ use mathlib.Core.List.{List, [], _∷_, _++_, map}
 use Prim.Native.Nat.{ℕ, zero, suc, _+_, _*_, _-_, _/_, _%_, _≤_, _<_}
 use native.Mathlib.Decide.{ℕ-discrete}
 use native.Mathlib.Omega.{arith}
-use native.Mathlib.Nat.{zero-div, div-mul-le-self, lt-div-mul-add, le-div-iff-mul-le, div-add-mod', le-of-mul-le-mul-right, mul-le-mul-right}
+use native.Mathlib.Nat.{zero-div, div-mul-le-self, lt-div-mul-add, le-div-iff-mul-le, div-add-mod', le-of-mul-le-mul-right, le-mul-of-pos-right, mul-le-mul-right}
 use lib.ListN.{getD, length, length-map, length-append, List·getD-map}
 use lib.Dec.{eqb}
 use borrow.Author.Tests.{ne-eqb}
@@ -71,6 +71,22 @@ unit-above N T pos = omega (arith, lt-div-mul-add {a = T + (N - 1)} pos)
 pub unit-below : (N T : ℕ) → unit N T * N ≤ T + (N - 1)
 unfolding unit
 unit-below N T = div-mul-le-self (T + (N - 1)) N
+
+-- T is at least 1
+module _ (N T : ℕ) (pos : 0 < N) (some : 0 < T) where
+  pub unit-some : 0 < unit N T
+  unit-some = go (unit N T) refl
+    where
+      go : (u : ℕ) → unit N T ≡ u → 0 < u
+      go zero e = absurd (omega (arith, unit-above N T pos, ap (λ y. y * N) e))
+      go (suc v) e = omega arith
+
+  pub unit-small : unit N T ≤ T
+  unit-small = go (unit N T) refl
+    where
+      go : (u : ℕ) → unit N T ≡ u → u ≤ T
+      go zero e = omega arith
+      go (suc v) e = omega (arith, unit-below N T, ap (λ y. y * N) e, le-mul-of-pos-right v pos)
 
 -- ---- the second part
 

@@ -13,6 +13,7 @@ pub mod Exact
 pub mod Doubled
 pub mod Rotate
 pub mod Every
+pub mod Opposite
 pub mod Tight
 pub mod Slot
 pub mod Quick

@@ -26,6 +26,10 @@ stretch u r = record { hold = r .hold * u; outputs = r .outputs }
 unfoldable pub rotate : ℕ → ℕ → ℕ → ℕ
 rotate N k i = cond (ltb i N) ((i + k) % N) 255
 
+-- anti-rotation k: input i to output (k - i) mod N
+unfoldable pub opposite : ℕ → ℕ → ℕ → ℕ
+opposite N k i = cond (ltb i N) ((k + (N - i)) % N) 255
+
 -- setting o held for h, and left out where h is 0
 unfoldable pub held : ℕ → ℕ → (ℕ → ℕ) → List Record
 held W zero o = []
