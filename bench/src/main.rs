@@ -78,14 +78,10 @@ fn conditions() -> String {
          plain processor as the archive is.\n",
         processor()
     );
-    if !cfg!(target_arch = "x86_64") {
-        text.push_str(
-            "\nThe archive that ships is for x86-64, and this is another processor: `bench/native` compiled the \
-             proved library's module for it by the same compiler and at the same level. Ratios on x86-64 can differ.\n",
-        );
-    }
     if !PROVED {
-        text.push_str("\nThere was no archive, so the proved library was not timed: `rt staticlib chordvenus` makes it.\n");
+        text.push_str(
+            "\nThe archive is for x86-64, and this is another processor: the proved library was not timed.\n",
+        );
     }
     text
 }
