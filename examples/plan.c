@@ -46,6 +46,11 @@ static void print_record(const cv_step *step)
 
 int main(void)
 {
+    if (cv_version() != CV_VERSION) {
+        fprintf(stderr, "the archive has version %" PRIu64 ", the header %d\n", cv_version(), CV_VERSION);
+        return 2;
+    }
+
     uint8_t list[4 * CV_WISH_SIZE];
     uint8_t *end = list;
     end = put_wish(end, 0, 0, 2.0f);

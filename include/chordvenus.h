@@ -2,25 +2,40 @@
  * Chordvenus: from wishes to plans for a switch of N inputs and N outputs.
  *
  * The archive holds proved code: for every input each call ends, stays inside the memory it is
- * lent, and gives the one answer that its rules allow. What the compiler cannot see is left to
- * the caller: a pointer leads to as many elements as its length says, and memory that a call
- * writes overlaps no other memory lent to the same call. Where a length is 0 the pointer may be
- * NULL. No call allocates, keeps a pointer, or reads anything but its arguments, so calls may run
- * on any number of threads at once.
+ * lent, and gives the one answer that its rules allow. Numbers such as §6 lead to the rules, in
+ * docs/SPECIFICATION.md.
  *
  * Ports     N is 1 to 64 (CV_MOST_PORTS). Inputs and outputs are both numbered from 0 to N - 1.
- * Demand    N * N cells: cell i * N + j is the slots asked from input i to output j. A line is one
- *           input's row or one output's column; T is the largest line sum.
- * Plan      records of CV_RECORD_SIZE bytes, no header: the hold in two bytes, low byte first; N;
- *           a zero byte; 64 output bytes, of which byte i is the output of input i, or CV_IDLE.
- *           Well formed means: hold at least 1, the N of the call, the zero byte zero, each of the
- *           first N outputs below N or idle, no output below N twice, all later outputs idle.
- * Cover     a plan covers a demand if for every pair the holds of the settings that join it sum to
- *           at least its cell. Total hold is the sum of all holds. Empty slots are, over all pairs,
- *           what a plan grants beyond what is asked, summed.
+ * Demand    N * N cells: cell i * N + j is how many slots input i asks of output j. A line is all
+ *           cells of one input or all of one output; T is the largest sum of a line.
+ * Plan      records (§5) of CV_RECORD_SIZE bytes and nothing before them: the hold in two bytes, low
+ *           byte first; N; a zero byte; then 64 bytes, the output of each input or CV_IDLE. A record
+ *           is well formed if its hold is not 0, its N is the one that the call is given, its fourth
+ *           byte is 0, its first N outputs are idle or below N and all different but for the idle
+ *           ones, and the others are idle.
+ * Cover     a setting grants its hold to each pair that it joins. A plan covers a demand if every
+ *           pair is granted what it asks or more; empty slots are what is granted beyond that, over
+ *           all pairs. Total hold is what the holds of all records add up to.
  *
  * Records, ports and cells are counted from 0. A refusal changes no lent byte and answers 0 for
- * records, longest, total, length and empty. Success changes only what the call says it writes.
+ * records, longest, total, length, empty, added and dropped. Success changes only what the call
+ * says it writes.
+ *
+ * What the compiler cannot see is left to the caller:
+ *
+ * Pointers  each leads to as many elements as the length after it says; cv_write's outputs are 64
+ *           bytes. Where a length is 0 the pointer may be NULL. A pointer to cells is aligned for
+ *           uint32_t, as that of an array or of malloc is. Memory that a call writes overlaps no
+ *           other memory that it is lent; what is only read may be lent twice.
+ * Threads   while a call runs, nobody else writes memory that is lent to it or reads what the call
+ *           writes: no other thread, no signal handler, no device. No call allocates, keeps a
+ *           pointer, or touches anything but its arguments and its stack, so calls may run at once,
+ *           on memory of their own or on memory that all of them only read.
+ * Stack     CV_STACK_EXACT and the like say how many bytes of stack must be left for each call.
+ * Archive   it is for x86-64 processors and calls by the System V rules, as on Linux; from outside
+ *           it takes memcpy and memset alone. Header and archive belong together: an answer is
+ *           returned by value, so neither of the two can gain a field alone. CV_VERSION is the
+ *           header's number and cv_version() the archive's; a program can compare them at its start.
  */
 #ifndef CHORDVENUS_H
 #define CHORDVENUS_H
@@ -32,6 +47,9 @@
 extern "C" {
 #endif
 
+/* Goes up with every change that a compiled caller would notice: of a struct, a number, a call. */
+#define CV_VERSION 1
+
 enum {
     CV_MOST_PORTS = 64,       /* the largest N */
     CV_RECORD_SIZE = 68,      /* bytes of a plan record */
@@ -42,25 +60,45 @@ enum {
     CV_MOST_RECORDS = 8192    /* the most records of a plan that is read */
 };
 
-/* cv_answer.code: given exactly when, and what cv_answer.place then is. */
+/*
+ * Bytes of stack that each call may use at any N, with all that it calls: more than the archive's
+ * instructions can come to, which bindings/c/stack.py adds up. A signal handler on the same stack
+ * comes on top.
+ */
+#define CV_STACK_VERSION 256
+#define CV_STACK_WISH 256
+#define CV_STACK_WISHES 1024
+#define CV_STACK_EXACT 40960
+#define CV_STACK_DOUBLED 40960
+#define CV_STACK_DOUBLED_EVERY_ROTATION 40960
+#define CV_STACK_QUICK 20480
+#define CV_STACK_GRATING_DOUBLED 61440
+#define CV_STACK_GRATING_REPORT 1024
+#define CV_STACK_CHECK 20480
+#define CV_STACK_LENGTH 256
+#define CV_STACK_JOIN 167936
+#define CV_STACK_WRITE 256
+#define CV_STACK_OPEN 256
+#define CV_STACK_STEP_AT 256
+
+/* cv_answer.code (§9.7): when it is given, and what cv_answer.place then is. */
 enum {
-    CV_DONE = 0,        /* nothing refused; 0 */
-    CV_PORTS = 1,       /* N is 0 or over 64; 0 */
-    CV_CELLS = 2,       /* cells lent are not N * N; N * N */
-    CV_LINE = 3,        /* a line sums over 65,535; the first such line, inputs before outputs:
-                           side says which, place is its number there */
-    CV_LONGEST = 4,     /* quick cover only: T over 1,024; 0 */
-    CV_ROOM = 5,        /* the plan buffer holds fewer whole records than the plan has, or the report
-                           fewer bytes; records needed */
-    CV_NOT_FINITE = 6,  /* wish is a NaN or an infinity; record */
-    CV_BELOW_ZERO = 7,  /* wish below zero; record */
-    CV_ABOVE_MOST = 8,  /* wish above 65,535; record */
-    CV_TORN = 9,        /* bytes not a multiple of the record size; whole records */
-    CV_RECORDS = 10,    /* plan of over 8,192 records; 8,192 */
-    CV_MALFORMED = 11,  /* plan record not well formed, or wish with a spare byte not zero or a port
-                           not below N; record */
-    CV_NAMED = 12,      /* wish for a pair named by an earlier record; record */
-    CV_UNCOVERED = 13   /* some pair not covered; first such cell */
+    CV_DONE = 0,        /* nothing was refused; 0 */
+    CV_PORTS = 1,       /* N is not 1 to 64; 0 */
+    CV_CELLS = 2,       /* some other number of cells than N * N was lent; N * N */
+    CV_LINE = 3,        /* a line has more than 65,535 slots; the first such input, or else the first
+                           such output: side says which of the two */
+    CV_LONGEST = 4,     /* cv_quick alone: T is more than 1,024; 0 */
+    CV_ROOM = 5,        /* there is less room than the result takes; the records it has */
+    CV_NOT_FINITE = 6,  /* the wish is no finite number; its record */
+    CV_BELOW_ZERO = 7,  /* the wish is less than 0; its record */
+    CV_ABOVE_MOST = 8,  /* the wish is more than 65,535; its record */
+    CV_TORN = 9,        /* bytes are left over after the last whole record; whole records */
+    CV_RECORDS = 10,    /* a plan that is read has more than 8,192 records; 8,192 */
+    CV_MALFORMED = 11,  /* a record is not well formed, or a wish has a port that is not below N or a
+                           third or fourth byte other than 0; its number */
+    CV_NAMED = 12,      /* the wish names a pair that a record before it named; its record */
+    CV_UNCOVERED = 13   /* the plan does not cover the demand; the first cell granted too little */
 };
 
 /* cv_answer.side */
@@ -69,7 +107,7 @@ enum { CV_NO_SIDE = 0, CV_INPUT = 1, CV_OUTPUT = 2 };
 /* cv_step.kind */
 enum { CV_STEP_RECORD = 0, CV_STEP_END = 1, CV_STEP_MALFORMED = 2 };
 
-/* What every call answers. What does not apply is 0. Later releases append fields. */
+/* What every call answers. What does not apply is 0. */
 typedef struct {
     uint64_t code;     /* CV_DONE or the refusal */
     uint64_t place;    /* where, as the code says */
@@ -79,6 +117,10 @@ typedef struct {
     uint64_t total;    /* total hold of the plan */
     uint64_t length;   /* length of the plan */
     uint64_t empty;    /* empty slots of the plan */
+    uint64_t added;    /* records added to a plan: 0 in every call of this version */
+    uint64_t dropped;  /* records dropped from a plan: 0 in every call of this version */
+    uint64_t about;    /* which of several plans or demands the code is about: 0 in every call of
+                          this version */
 } cv_answer;
 
 /* One step of reading a plan. */
@@ -89,18 +131,33 @@ typedef struct {
     uint8_t outputs[64];  /* CV_STEP_RECORD: its outputs by input; else all CV_IDLE */
 } cv_step;
 
+/* The archive was made for these sizes. */
+#if defined(__cplusplus) && __cplusplus >= 201103L
+static_assert(sizeof(cv_answer) == 88, "11 numbers of 8 bytes");
+static_assert(sizeof(cv_step) == 88, "3 numbers of 8 bytes and 64 bytes");
+static_assert(sizeof(size_t) == 8, "a length has 8 bytes");
+#elif defined(__STDC_VERSION__) && __STDC_VERSION__ >= 201112L
+_Static_assert(sizeof(cv_answer) == 88, "11 numbers of 8 bytes");
+_Static_assert(sizeof(cv_step) == 88, "3 numbers of 8 bytes and 64 bytes");
+_Static_assert(sizeof(size_t) == 8, "a length has 8 bytes");
+#endif
+
+/* The version of the header that the archive belongs to: CV_VERSION. */
+uint64_t cv_version(void);
+
 /*
- * One wish, as the bits of a binary32, to slots: the least whole number not below it. Minus zero
- * and zero both give 0.
+ * One wish, as the bits of a binary32, to slots (§4.1 to §4.4). A wish above zero is rounded up to
+ * whole slots and is never worth fewer than 2; zero and minus zero are worth 0.
  * Codes: 6, 7, 8, all with place 0.
  * Done:  total is the slots.
  */
 cv_answer cv_wish(uint32_t bits);
 
 /*
- * A wish list to a demand. The list is records of CV_WISH_SIZE bytes, no header: input, output,
- * two zero bytes, then a binary32, low byte first. A pair not named has 0 slots; a pair named with
- * a wish of zero is named. Lines are not checked here.
+ * A wish list to a demand (§4.5 to §4.8), each wish by the rule of cv_wish. The list is records of
+ * CV_WISH_SIZE bytes and nothing before them: input, output, a zero byte and another, and the four
+ * bytes of a binary32, low byte first. Pairs that no record names ask nothing; a wish of zero names
+ * its pair like any other. Lines are not checked here.
  * Codes:  1, 2, 9, then of the first faulty record the first of 11, 12, 6, 7, 8.
  * Writes: all N * N cells.
  * Done:   records is the number of wish records.
@@ -108,10 +165,10 @@ cv_answer cv_wish(uint32_t bits);
 cv_answer cv_wishes(uint64_t n, const uint8_t *list, size_t list_len, uint32_t *cells, size_t cells_len);
 
 /*
- * The exact plan: cells in order are filled up so that every line sums to T; then, until all is
- * zero, the full setting that uses only non-zero cells and is first in dictionary order is taken
- * off for its smallest cell. Total hold is T, and no plan that covers the demand has less. At most
- * N * N - N + 1 records.
+ * The exact plan (§6): cells in order are filled up so that every line sums to T; then, until all is
+ * zero, a full setting over cells that are not zero is taken off for the smallest of its cells. Of
+ * all such settings it is the one whose outputs come first in dictionary order. Total hold is T, and
+ * no plan that covers the demand has less. At most N * N - N + 1 records.
  * Codes:  1, 2, 3, 5.
  * Writes: the plan's records, at the start of plan; no later byte. The demand is only read.
  * Done:   records, longest, total, empty.
@@ -119,10 +176,11 @@ cv_answer cv_wishes(uint64_t n, const uint8_t *list, size_t list_len, uint32_t *
 cv_answer cv_exact(uint64_t n, const uint32_t *cells, size_t cells_len, uint8_t *plan, size_t plan_len);
 
 /*
- * The doubled plan: few records, at most twice the time. With u = T / N rounded up: the exact plan
- * of the cells divided by u, each hold times u; then the N rotations (rotation k joins input i to
- * output (i + k) mod N), each held for the largest remainder, cell modulo u, among its pairs, and
- * left out when that is 0. At most 2 * N records, total hold at most 2 * T - 1; empty when T is 0.
+ * The doubled plan (§7): few records, at most twice the time. With u = T / N rounded up, its first
+ * part is the exact plan of the quotients (each cell divided by u), every hold multiplied by u. Its
+ * second part gives each pair what the division left over: rotation k joins input i to output
+ * (i + k) mod N and is held as long as the pair of it with the most left over needs; where that is 0,
+ * it is not there. At most 2 * N records, total hold at most 2 * T - 1; no records when T is 0.
  * Codes:  1, 2, 3, 5.
  * Writes: the plan's records, at the start of plan; no later byte. The demand is only read.
  * Done:   records, longest, total, empty.
@@ -130,17 +188,18 @@ cv_answer cv_exact(uint64_t n, const uint32_t *cells, size_t cells_len, uint8_t 
 cv_answer cv_doubled(uint64_t n, const uint32_t *cells, size_t cells_len, uint8_t *plan, size_t plan_len);
 
 /*
- * The doubled plan by the rule before that, for controllers that expect all N rotations: if u is at
- * least 2, every rotation is there, with hold u - 1. The same bounds hold. Code 5 counts the records
- * of this rule.
+ * The doubled plan by the rule before that (§7.5), for controllers that expect all N rotations: where
+ * u is 2 or more, every rotation is there, with hold u - 1. The same bounds hold. Code 5 counts the
+ * records of this rule.
  * Codes, writes, done: as cv_doubled.
  */
 cv_answer cv_doubled_every_rotation(uint64_t n, const uint32_t *cells, size_t cells_len, uint8_t *plan, size_t plan_len);
 
 /*
- * The quick cover: one record of hold 1 for each slot s = 0, 1, ..; inputs s mod N and on around
- * each take the lowest free output with slots left for that pair, or are idle. T is at most 1,024.
- * T to 2 * T - 1 records; none when T is 0.
+ * The quick cover (§8): one record of hold 1 for each slot s = 0, 1, .. until nothing is left. In
+ * slot s the inputs choose one after the other, s mod N first and on around: the lowest output that no
+ * input has chosen yet and that the pair still wants, or none. T is at most 1,024. T to 2 * T - 1
+ * records; none when T is 0.
  * Codes:  1, 2, 3, 4, 5.
  * Writes: the plan's records, at the start of plan; no later byte. The demand is only read.
  * Done:   records, longest, total, empty.
@@ -148,13 +207,11 @@ cv_answer cv_doubled_every_rotation(uint64_t n, const uint32_t *cells, size_t ce
 cv_answer cv_quick(uint64_t n, const uint32_t *cells, size_t cells_len, uint8_t *plan, size_t plan_len);
 
 /*
- * The doubled plan for the grating fabric, on which input i reaches output j by wavelength
- * (j - i) mod N. With u = T / N rounded up: the exact plan of the cells divided by u, each hold
- * times u; then anti-rotations, k from 0 to N - 1: input i to output (k - i) mod N, held for the
- * largest remainder (cell modulo u) among its pairs, left out where that is 0. Each of these uses
- * a wavelength at most once when N is odd and at most twice when N is even; the records before them
- * may use it more often, and cv_grating_report says so. At most 2 * N records, total hold at most
- * 2 * T - 1; empty when T is 0.
+ * The doubled plan for the grating fabric (§13.5), where the wavelength of a pair, input i to output
+ * j, is (j - i) mod N. It is cv_doubled's but for the rotations: in their place stand
+ * anti-rotations, of which number k gives input i the output (k - i) mod N, held by the same rule.
+ * None of them has more than two inputs on a wavelength, or more than one where N is odd. Records of
+ * the first part may; cv_grating_report tells. The bounds are cv_doubled's.
  * Codes:  1, 2, 3, 5.
  * Writes: the plan's records, at the start of plan; no later byte. The demand is only read.
  * Done:   records, total.
@@ -162,17 +219,16 @@ cv_answer cv_quick(uint64_t n, const uint32_t *cells, size_t cells_len, uint8_t 
 cv_answer cv_grating_doubled(uint64_t n, const uint32_t *cells, size_t cells_len, uint8_t *plan, size_t plan_len);
 
 /*
- * What the records of a plan from anywhere do on the grating fabric: for each record the most
- * inputs that share one wavelength (j - i) mod N. Idle inputs are not counted; all idle is 0.
- * Codes:  1, 9, 10, 11, then 5 where report has fewer bytes than the plan has records, place the
- *         records.
+ * What the records of a plan from anywhere do on the grating fabric (§13.3): for each the largest
+ * number of inputs on one wavelength, of those that are not idle; 0 where all are.
+ * Codes:  1, 9, 10, 11, then 5 where report is shorter than one byte for each record.
  * Writes: one byte for each record, in order, at the start of report; no later byte.
  * Done:   records, total.
  */
 cv_answer cv_grating_report(uint64_t n, const uint8_t *plan, size_t plan_len, uint8_t *report, size_t report_len);
 
 /*
- * Checks a plan from anywhere against a demand.
+ * Checks a plan from anywhere against a demand (§10).
  * Codes:  1, 2, 3, 9, 10, 11, 13.
  * Writes: nothing.
  * Done:   records, longest, total, empty; the plan covers the demand.
@@ -180,9 +236,9 @@ cv_answer cv_grating_report(uint64_t n, const uint8_t *plan, size_t plan_len, ui
 cv_answer cv_check(uint64_t n, const uint32_t *cells, size_t cells_len, const uint8_t *plan, size_t plan_len);
 
 /*
- * The length of a plan at a switching time of d slots: total hold, and d for each record that moves
- * the mirrors, which are the first and those whose outputs differ from the record before. An empty
- * plan has length 0.
+ * The length of a plan at a switching time of d slots (§11): total hold, and d for each record that
+ * moves the mirrors, which are the first and those whose outputs differ from the record before. An
+ * empty plan has length 0.
  * Codes:  1, 9, 10, 11.
  * Writes: nothing.
  * Done:   length, records, total.
@@ -190,10 +246,11 @@ cv_answer cv_check(uint64_t n, const uint32_t *cells, size_t cells_len, const ui
 cv_answer cv_length(uint64_t n, const uint8_t *plan, size_t plan_len, uint16_t d);
 
 /*
- * Joins equal settings: the plan is written anew into a second buffer, settings in order of first
- * appearance, each held for the sum of its holds; a sum above 65,535 is records of 65,535 followed
- * by what is left, if any. Every pair is granted what it was granted, total hold is the same, and
- * joining the joined plan gives it again. Never more records than were read.
+ * Joins equal settings (§12): the plan is written anew into a second buffer, each setting once,
+ * where it came first, held for the sum of its holds. A sum that no record can hold becomes as many
+ * records of 65,535 as fit into it and one more for the rest, unless the rest is 0. No pair is
+ * granted more or less than before, total hold is the same, and joining the joined plan gives it
+ * again. Never more records than were read.
  * Codes:  1, 9, 10, 11, 5.
  * Writes: the joined plan's records, at the start of joined; no later byte. The plan is only read.
  * Done:   records and total of the joined plan.
@@ -201,7 +258,7 @@ cv_answer cv_length(uint64_t n, const uint8_t *plan, size_t plan_len, uint16_t d
 cv_answer cv_join(uint64_t n, const uint8_t *plan, size_t plan_len, uint8_t *joined, size_t joined_len);
 
 /*
- * Writes one record. All 64 outputs are given; those of inputs from N on are CV_IDLE.
+ * Writes one record (§5.8). All 64 outputs are given; those of inputs from N on are CV_IDLE.
  * Codes:  1, 5 (place 1), 11 (place 0).
  * Writes: the first CV_RECORD_SIZE bytes of plan.
  * Done:   records is 1, total is the hold.
@@ -209,7 +266,7 @@ cv_answer cv_join(uint64_t n, const uint8_t *plan, size_t plan_len, uint8_t *joi
 cv_answer cv_write(uint16_t hold, uint64_t n, const uint8_t outputs[64], uint8_t *plan, size_t plan_len);
 
 /*
- * Opens a plan for an N. No record is judged yet.
+ * Opens a plan for an N (§5.4). No record is judged yet.
  * Codes:  1, 9, 10.
  * Writes: nothing.
  * Done:   records.
@@ -217,10 +274,10 @@ cv_answer cv_write(uint16_t hold, uint64_t n, const uint8_t outputs[64], uint8_t
 cv_answer cv_open(uint64_t n, const uint8_t *plan, size_t plan_len);
 
 /*
- * The step at record `at` of a plan opened for n: that record, the end (at every `at` from the
+ * The step at record `at` of a plan opened for n (§5.5): that record, the end (at every `at` from the
  * number of records on, and at every `at` where cv_open refuses the plan), or code 11 where that
- * record is not well formed. A reader starts at 0, goes on by one after each record, and stays
- * where it is at the end and at code 11.
+ * record is not well formed. A reader starts at 0, goes on by one after each record, and stays where
+ * it is at the end and at code 11.
  * Writes: nothing.
  */
 cv_step cv_step_at(uint64_t n, const uint8_t *plan, size_t plan_len, uint64_t at);

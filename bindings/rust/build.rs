@@ -6,6 +6,11 @@ use std::{env, process};
 
 fn main() {
     println!("cargo:rerun-if-env-changed=CHORDVENUS_LIB_DIR");
+    let processor = env::var("CARGO_CFG_TARGET_ARCH").expect("cargo sets it");
+    if processor != "x86_64" {
+        eprintln!("the archive is for x86_64, and this is built for {processor}");
+        process::exit(1);
+    }
     let here = env::var("CARGO_MANIFEST_DIR").expect("cargo sets it");
     let made = Path::new(&here).join("../../target/staticlib");
     let folder = env::var_os("CHORDVENUS_LIB_DIR").map_or(made, PathBuf::from);

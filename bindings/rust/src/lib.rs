@@ -34,9 +34,15 @@ pub const WISH_SIZE: usize = 8;
 /// The output of an idle input.
 pub const IDLE: u8 = 255;
 
+/// The version of the header that the archive belongs to. This crate belongs to [`sys::VERSION`]: an
+/// archive of another version has other structs, and no other call may be made of it.
+pub fn version() -> u64 {
+    // SAFETY: no memory is lent; the same holds for the next call.
+    unsafe { sys::cv_version() }
+}
+
 /// One wish, as the bits of a binary32, to slots, which are the answer's total.
 pub fn wish(bits: u32) -> Answer {
-    // SAFETY: no memory is lent.
     unsafe { sys::cv_wish(bits) }
 }
 

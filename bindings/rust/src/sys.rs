@@ -1,5 +1,10 @@
 //! include/chordvenus.h, declared again.
 
+use std::mem::size_of;
+
+/// CV_VERSION: the version of the header that is declared here.
+pub const VERSION: u64 = 1;
+
 /// What every call answers; what does not apply is 0.
 #[repr(C)]
 #[derive(Clone, Copy, Debug, Default, PartialEq, Eq)]
@@ -12,6 +17,9 @@ pub struct Answer {
     pub total: u64,
     pub length: u64,
     pub empty: u64,
+    pub added: u64,
+    pub dropped: u64,
+    pub about: u64,
 }
 
 /// One step of reading a plan, as the archive gives it: kind 0 a record, 1 the end, 2 code 11.
@@ -24,7 +32,12 @@ pub struct RawStep {
     pub outputs: [u8; 64],
 }
 
+// The header pins the same sizes: an answer is returned by value, so both sides must agree on them.
+const _: () = assert!(size_of::<Answer>() == 88);
+const _: () = assert!(size_of::<RawStep>() == 88);
+
 extern "C" {
+    pub fn cv_version() -> u64;
     pub fn cv_wish(bits: u32) -> Answer;
     pub fn cv_wishes(n: u64, list: *const u8, list_len: usize, cells: *mut u32, cells_len: usize) -> Answer;
     pub fn cv_exact(n: u64, cells: *const u32, cells_len: usize, plan: *mut u8, plan_len: usize) -> Answer;

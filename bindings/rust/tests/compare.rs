@@ -18,7 +18,7 @@ const ENOUGH: usize = 20;
 fn expected(outcome: Outcome) -> Answer {
     let Numbers { code, place, side, counts } = outcome.into();
     let reference::Counts { records, longest, total, length, empty } = counts;
-    Answer { code, place, side, records, longest, total, length, empty }
+    Answer { code, place, side, records, longest, total, length, empty, ..Answer::default() }
 }
 
 /// The codes met.
@@ -146,6 +146,11 @@ fn compare_planner(seed: u64, proved: Proved, planner: Planner, most_line: usize
         met.note(answer);
     }
     met.are(codes);
+}
+
+#[test]
+fn version() {
+    assert_eq!(chordvenus::version(), sys::VERSION);
 }
 
 #[test]

@@ -1,0 +1,152 @@
+/*
+ * Runs each call on a stack that has just the bytes that the header names, at 64 ports, and tells how
+ * many of them it took. Below the stack lies a page that nobody may touch, so a call that takes more
+ * ends the program. The inputs are those on which the search for a setting goes deepest, as far as
+ * is known; bindings/c/stack.py holds the figures against every path through the archive.
+ */
+#define _XOPEN_SOURCE 700
+#define _DEFAULT_SOURCE
+#include <chordvenus.h>
+
+#include <stdio.h>
+#include <stdlib.h>
+#include <string.h>
+#include <sys/mman.h>
+#include <ucontext.h>
+
+enum { N = CV_MOST_PORTS, RECORDS = CV_MOST_RECORDS, ROOM = RECORDS * CV_RECORD_SIZE };
+enum { FENCE = 64 * 1024, LARGEST = 256 * 1024, PAINT = 0x5a };
+
+static uint32_t cells[N * N];
+static uint8_t plan[ROOM], made[ROOM], list[N * N * CV_WISH_SIZE];
+static size_t room;
+static cv_answer answer;
+static cv_step step;
+static uint8_t *stack;
+static size_t way_in; /* what starting on the stack and the function around the call take */
+static ucontext_t here, there;
+
+/* A call that takes nothing but its return address. */
+static cv_answer nothing(void) { return (cv_answer){.code = CV_DONE}; }
+static cv_answer (*volatile no_call)(void) = nothing;
+
+static void way(void) { answer = no_call(); }
+static void version(void) { answer.code = cv_version() != CV_VERSION; }
+static void wish(void) { answer = cv_wish(0x477ffe01); }
+static void wishes(void) { answer = cv_wishes(N, list, sizeof list, cells, N * N); }
+static void exact(void) { answer = cv_exact(N, cells, N * N, made, room); }
+static void doubled(void) { answer = cv_doubled(N, cells, N * N, made, room); }
+static void every(void) { answer = cv_doubled_every_rotation(N, cells, N * N, made, room); }
+static void quick(void) { answer = cv_quick(N, cells, N * N, made, room); }
+static void grating(void) { answer = cv_grating_doubled(N, cells, N * N, made, room); }
+static void report(void) { answer = cv_grating_report(N, plan, ROOM, made, room); }
+static void check(void) { answer = cv_check(N, cells, N * N, plan, ROOM); }
+static void length(void) { answer = cv_length(N, plan, ROOM, 65535); }
+static void join(void) { answer = cv_join(N, plan, ROOM, made, room); }
+static void write_one(void) { answer = cv_write(65535, N, plan + 4, made, room); }
+static void open_plan(void) { answer = cv_open(N, plan, ROOM); }
+static void step_at(void) { step = cv_step_at(N, plan, ROOM, RECORDS - 1); }
+
+/* Runs a function on a stack of so many bytes; answers how many it changed, counted from the top. */
+static size_t taken(void (*call)(void), size_t bytes)
+{
+    memset(stack, PAINT, LARGEST);
+    getcontext(&there);
+    there.uc_stack.ss_sp = stack;
+    there.uc_stack.ss_size = bytes;
+    there.uc_link = &here;
+    makecontext(&there, call, 0);
+    if (swapcontext(&here, &there) != 0)
+        exit(2);
+    size_t free = 0;
+    while (stack[free] == PAINT)
+        free++;
+    return bytes - free;
+}
+
+/*
+ * A demand whose lines all sum to 64 times `by`. Once its first setting is taken off, input 1 has lost
+ * its output and can have another only if all the inputs after it move on by one.
+ */
+static void chain(uint32_t by)
+{
+    memset(cells, 0, sizeof cells);
+    cells[0] = 63 * by;
+    cells[1] = cells[N] = cells[N + 1] = by;
+    cells[N + 2] = 62 * by;
+    for (int i = 2; i < N; i++) {
+        cells[i * N + i] = 2 * by;
+        cells[i * N + (i + 1 < N ? i + 1 : 1)] = 62 * by;
+    }
+}
+
+/* Cells of 0 to 15, the same in every run. */
+static void mixed(void)
+{
+    uint32_t state = 1;
+    for (int k = 0; k < N * N; k++) {
+        state = state * 1664525 + 1013904223;
+        cells[k] = state >> 28;
+    }
+}
+
+/* A wish for every pair, and the most records: rotations at the largest hold, over and over. */
+static void fill_lists(void)
+{
+    for (int k = 0; k < N * N; k++)
+        memcpy(list + k * CV_WISH_SIZE, (uint8_t[]){(uint8_t)(k / N), (uint8_t)(k % N), 0, 0, 0, 0, 0x80, 0x3f}, CV_WISH_SIZE);
+    for (int k = 0; k < RECORDS; k++) {
+        uint8_t *record = plan + k * CV_RECORD_SIZE;
+        memcpy(record, (uint8_t[]){0xff, 0xff, N, 0}, 4);
+        for (int i = 0; i < N; i++)
+            record[4 + i] = (uint8_t)((i + k) % N);
+    }
+}
+
+/* The most that a call takes, with room to spare and with just the room it needs. */
+static size_t most_taken(void (*call)(void), size_t bytes)
+{
+    room = ROOM;
+    size_t first = taken(call, bytes + way_in);
+    if (answer.code == CV_DONE && answer.records * CV_RECORD_SIZE < ROOM)
+        room = answer.records * CV_RECORD_SIZE;
+    size_t second = taken(call, bytes + way_in);
+    return first > second ? first : second;
+}
+
+int main(void)
+{
+    const struct { const char *name; void (*call)(void); size_t bytes; } calls[] = {
+        {"cv_version", version, CV_STACK_VERSION}, {"cv_wish", wish, CV_STACK_WISH},
+        {"cv_exact", exact, CV_STACK_EXACT},       {"cv_doubled", doubled, CV_STACK_DOUBLED},
+        {"cv_doubled_every_rotation", every, CV_STACK_DOUBLED_EVERY_ROTATION},
+        {"cv_grating_doubled", grating, CV_STACK_GRATING_DOUBLED},
+        {"cv_quick", quick, CV_STACK_QUICK},       {"cv_check", check, CV_STACK_CHECK},
+        {"cv_grating_report", report, CV_STACK_GRATING_REPORT},
+        {"cv_length", length, CV_STACK_LENGTH},    {"cv_join", join, CV_STACK_JOIN},
+        {"cv_write", write_one, CV_STACK_WRITE},   {"cv_open", open_plan, CV_STACK_OPEN},
+        {"cv_step_at", step_at, CV_STACK_STEP_AT}, {"cv_wishes", wishes, CV_STACK_WISHES},
+    };
+    uint8_t *fence = mmap(NULL, FENCE + LARGEST, PROT_READ | PROT_WRITE, MAP_PRIVATE | MAP_ANONYMOUS, -1, 0);
+    if (fence == MAP_FAILED || mprotect(fence, FENCE, PROT_NONE) != 0)
+        return 2;
+    stack = fence + FENCE;
+    fill_lists();
+    way_in = taken(way, LARGEST) - sizeof(void *);
+    for (size_t k = 0; k < sizeof calls / sizeof *calls; k++) {
+        size_t most = 0;
+        for (int demand = 0; demand < 3; demand++) {
+            if (demand == 0)
+                chain(1);
+            else if (demand == 1)
+                chain(2);
+            else
+                mixed();
+            size_t bytes = most_taken(calls[k].call, calls[k].bytes);
+            most = bytes > most ? bytes : most;
+        }
+        printf("%s: took %zu of %zu bytes\n", calls[k].name, most > way_in ? most - way_in : 0, calls[k].bytes);
+        fflush(stdout);
+    }
+    return 0;
+}
