@@ -1,0 +1,5 @@
+pub mod Force
+pub mod Lookup
+pub mod Meaning
+pub mod Examples
+pub mod Codes
