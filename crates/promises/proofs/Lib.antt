@@ -18,3 +18,4 @@ pub mod Quick
 pub mod Checked
 pub mod Wrong
 pub mod Edge
+pub mod Larger

@@ -15,3 +15,4 @@ pub mod Doubled
 pub mod Quick
 pub mod Checked
 pub mod Wrong
+pub mod Larger

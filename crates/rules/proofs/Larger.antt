@@ -27,7 +27,7 @@ use Rattle.rules.proofs.Exact.{exact-peels, exact-only}
 
 -- ---- products with k
 
-mul-sub : (k a b : ℕ) → a * k - b * k ≡ (a - b) * k
+pub mul-sub : (k a b : ℕ) → a * k - b * k ≡ (a - b) * k
 mul-sub k a b = go (decLe b a)
   where
     go : Dec (b ≤ a) → a * k - b * k ≡ (a - b) * k
@@ -58,7 +58,7 @@ pos-down k (suc m) p = omega arith
 
 -- ---- lines
 
-sum-times : (n k : ℕ) (f : ℕ → ℕ) → sum n (λ i. f i * k) ≡ sum n f * k
+pub sum-times : (n k : ℕ) (f : ℕ → ℕ) → sum n (λ i. f i * k) ≡ sum n f * k
 sum-times n k f = omega (arith, sum-mul n k f, sum-cong n (λ i. f i * k) (λ i. k * f i) (λ i _. omega arith))
 
 most-times : (n k : ℕ) (f : ℕ → ℕ) → most n (λ i. f i * k) ≡ most n f * k
