@@ -1,3 +1,4 @@
+use mathlib.Core.Path.{refl}
 use borrow.Author.Needs.{needs}
 use Rattle.vectors.proofs.run.Statement.{statement}
 use Rattle.vectors.proofs.run.Tie as tie
@@ -9,70 +10,70 @@ cast-length : tie.Need-cast-length
 cast-length c = search needs
 
 length-requires : tie.Need-length-requires
-length-requires c κs = search needs
+length-requires c κs = tt
 
 join-requires : tie.Need-join-requires
 join-requires c κs = search needs
 
 report-requires : tie.Need-report-requires
-report-requires c κs = search needs
+report-requires c κs = tt
 
 read-requires : tie.Need-read-requires
-read-requires c κs = search needs
+read-requires c κs = tt
 
 write-requires : tie.Need-write-requires
 write-requires c κs = search needs
 
 patterns-requires : tie.Need-patterns-requires
-patterns-requires c κs = search needs
+patterns-requires c κs = tt
 
 read-requires-2 : tie.Need-read-requires-2
-read-requires-2 c κs = search needs
+read-requires-2 c κs = tt
 
 list-requires : tie.Need-list-requires
-list-requires c κs = search needs
+list-requires c κs = tt
 
 slice-aggregate-text : tie.Need-slice-aggregate-text
-slice-aggregate-text c = search needs
+slice-aggregate-text c = refl
 
 text-requires : tie.Need-text-requires
-text-requires c κs = search needs
+text-requires c κs = tt
 
 plan-requires : tie.Need-plan-requires
 plan-requires c κs = search needs
 
 returns : tie.Need-returns
-returns c = search needs
+returns c = tt
 
 returns-2 : tie.Need-returns-2
-returns-2 c = search needs
+returns-2 c = tt
 
 returns-3 : tie.Need-returns-3
-returns-3 c = search needs
+returns-3 c = tt
 
 returns-4 : tie.Need-returns-4
-returns-4 c = search needs
+returns-4 c = tt
 
 returns-5 : tie.Need-returns-5
-returns-5 c = search needs
+returns-5 c = tt
 
 returns-6 : tie.Need-returns-6
-returns-6 c = search needs
+returns-6 c = tt
 
 returns-7 : tie.Need-returns-7
-returns-7 c = search needs
+returns-7 c = tt
 
 returns-8 : tie.Need-returns-8
-returns-8 c = search needs
+returns-8 c = tt
 
 returns-9 : tie.Need-returns-9
-returns-9 c = search needs
+returns-9 c = tt
 
 returns-10 : tie.Need-returns-10
-returns-10 c = search needs
+returns-10 c = tt
 
 returns-11 : tie.Need-returns-11
-returns-11 c = search needs
+returns-11 c = tt
 
 pub run-spec : {M : Type 1} → statement M
 run-spec =

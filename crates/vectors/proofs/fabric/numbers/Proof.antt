@@ -1,6 +1,7 @@
 -- The numbers printed are some of the report.
 use Prim.Native.Nat.{_≤_, _-_}
 use lib.ListN.{length}
+use mathlib.Core.Path.{refl}
 use borrow.Author.Needs.{needs}
 use Rattle.vectors.proofs.fabric.numbers.Statement.{statement}
 use Rattle.vectors.proofs.fabric.numbers.Tie as tie
@@ -12,28 +13,28 @@ abbrev μ-loop : tie.MeasureT-loop
 μ-loop report records count k₀ t6 t7 k = count - k
 
 numbers-of-requires : tie.Need-numbers-of-requires Inv-loop μ-loop
-numbers-of-requires c κs = search needs
+numbers-of-requires c κs = tt
 
 returns : tie.Need-returns Inv-loop μ-loop
-returns c = search needs
+returns c = tt
 
 within-requires : tie.Need-within-requires Inv-loop μ-loop
-within-requires c κs = search needs
+within-requires c κs = tt
 
 loop-holds : tie.Need-loop-holds Inv-loop μ-loop
 loop-holds c = search needs
 
 slice-aggregate-field : tie.Need-slice-aggregate-field Inv-loop μ-loop
-slice-aggregate-field c = search needs
+slice-aggregate-field c = refl
 
 shared-slice-read-wide : tie.Need-shared-slice-read-wide Inv-loop μ-loop
 shared-slice-read-wide c = search needs
 
 wide-requires : tie.Need-wide-requires Inv-loop μ-loop
-wide-requires c κs = search needs
+wide-requires c κs = tt
 
 field-requires : tie.Need-field-requires Inv-loop μ-loop
-field-requires c κs = search needs
+field-requires c κs = tt
 
 add-k : tie.Need-add-k Inv-loop μ-loop
 add-k c = search needs
@@ -45,13 +46,13 @@ loop-again : tie.Need-loop-again Inv-loop μ-loop
 loop-again c = search needs
 
 slice-aggregate-text : tie.Need-slice-aggregate-text Inv-loop μ-loop
-slice-aggregate-text c = search needs
+slice-aggregate-text c = refl
 
 text-requires : tie.Need-text-requires Inv-loop μ-loop
-text-requires c κs = search needs
+text-requires c κs = tt
 
 returns-2 : tie.Need-returns-2 Inv-loop μ-loop
-returns-2 c = search needs
+returns-2 c = tt
 
 pub numbers-spec : {M : Type 1} → statement M
 numbers-spec =

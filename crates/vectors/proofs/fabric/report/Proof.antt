@@ -6,7 +6,7 @@ slice-aggregate-within : tie.Need-slice-aggregate-within
 slice-aggregate-within c = search needs
 
 within-requires : tie.Need-within-requires
-within-requires c κs = search needs
+within-requires c κs = tt
 
 array-borrow-prefix-bytes : tie.Need-array-borrow-prefix-bytes
 array-borrow-prefix-bytes c = search needs
@@ -15,10 +15,10 @@ slice-aggregate-report-into : tie.Need-slice-aggregate-report-into
 slice-aggregate-report-into c = search needs
 
 report-into-requires : tie.Need-report-into-requires
-report-into-requires c κs = search needs
+report-into-requires c κs = tt
 
 returns : tie.Need-returns
-returns c = search needs
+returns c = tt
 
 pub report-spec : {M : Type 1} → statement M
 report-spec =

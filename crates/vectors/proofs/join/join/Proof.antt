@@ -9,10 +9,10 @@ add-join-within : tie.Need-add-join-within
 add-join-within c = search needs
 
 join-within-requires : tie.Need-join-within-requires
-join-within-requires c κs = search needs
+join-within-requires c κs = tt
 
 returns : tie.Need-returns
-returns c = search needs
+returns c = tt
 
 pub join-spec : {M : Type 1} → statement M
 join-spec = tie.close (tie.spec mul-join-within add-join-within join-within-requires returns)

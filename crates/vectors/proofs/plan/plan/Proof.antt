@@ -6,7 +6,7 @@ slice-aggregate-load-cells : tie.Need-slice-aggregate-load-cells
 slice-aggregate-load-cells c = search needs
 
 load-cells-requires : tie.Need-load-cells-requires
-load-cells-requires c κs = search needs
+load-cells-requires c κs = tt
 
 mul-size : tie.Need-mul-size
 mul-size c = search needs
@@ -21,10 +21,10 @@ slice-aggregate-plan-within : tie.Need-slice-aggregate-plan-within
 slice-aggregate-plan-within c = search needs
 
 plan-within-requires : tie.Need-plan-within-requires
-plan-within-requires c κs = search needs
+plan-within-requires c κs = tt
 
 returns : tie.Need-returns
-returns c = search needs
+returns c = tt
 
 pub plan-spec : {M : Type 1} → statement M
 plan-spec =

@@ -6,13 +6,13 @@ slice-aggregate-within : tie.Need-slice-aggregate-within
 slice-aggregate-within c = search needs
 
 within-requires : tie.Need-within-requires
-within-requires c κs = search needs
+within-requires c κs = tt
 
 cast-write-into : tie.Need-cast-write-into
 cast-write-into c = search needs
 
 outputs-of-requires : tie.Need-outputs-of-requires
-outputs-of-requires c κs = search needs
+outputs-of-requires c κs = tt
 
 array-borrow-prefix-bytes : tie.Need-array-borrow-prefix-bytes
 array-borrow-prefix-bytes c = search needs
@@ -21,10 +21,10 @@ slice-aggregate-write-into : tie.Need-slice-aggregate-write-into
 slice-aggregate-write-into c = search needs
 
 write-into-requires : tie.Need-write-into-requires
-write-into-requires c κs = search needs
+write-into-requires c κs = tt
 
 returns : tie.Need-returns
-returns c = search needs
+returns c = tt
 
 pub write-spec : {M : Type 1} → statement M
 write-spec =

@@ -22,7 +22,7 @@ sub-least : tie.Need-sub-least Inv-loop μ-loop
 sub-least c = search needs
 
 least-requires : tie.Need-least-requires Inv-loop μ-loop
-least-requires c κs = search needs
+least-requires c κs = tt
 
 add-end : tie.Need-add-end Inv-loop μ-loop
 add-end c = search needs
@@ -34,7 +34,7 @@ add-byte-at : tie.Need-add-byte-at Inv-loop μ-loop
 add-byte-at c = search needs
 
 byte-at-requires : tie.Need-byte-at-requires Inv-loop μ-loop
-byte-at-requires c κs = search needs
+byte-at-requires c κs = tt
 
 slice-write-bytes : tie.Need-slice-write-bytes Inv-loop μ-loop
 slice-write-bytes c = search needs

@@ -21,7 +21,7 @@ shared-slice-read-show-cell : tie.Need-shared-slice-read-show-cell Inv-loop μ-l
 shared-slice-read-show-cell c = search needs
 
 show-cell-requires : tie.Need-show-cell-requires Inv-loop μ-loop
-show-cell-requires c κs = search needs
+show-cell-requires c κs = tt
 
 add-k : tie.Need-add-k Inv-loop μ-loop
 add-k c = search needs
@@ -33,7 +33,7 @@ loop-again : tie.Need-loop-again Inv-loop μ-loop
 loop-again c = search needs
 
 returns : tie.Need-returns Inv-loop μ-loop
-returns c = search needs
+returns c = tt
 
 pub show-cells-spec : {M : Type 1} → statement M
 show-cells-spec =
