@@ -1,18 +1,18 @@
 -- The laws of sets as numbers: each operation on words works digit by digit, and the trailing zeros end at the lowest digit that is 1.
-use mathlib.Core.Path.{_≡_, refl, sym, ap, ap₂, _∙_, subst}
+use mathlib.Core.Path.{_≡_, refl, sym, ap, _∙_, subst}
 use mathlib.Core.Bool.{Bool, true, false, true≢false}
 use mathlib.Core.Logic.{_⊎_, inl, inr, ⊎-elim}
 use Prim.Native.Nat.{ℕ, zero, suc, _+_, _-_, _*_, _/_, _%_, _^_, _≤_, _<_, min, max, zero-le, suc-le-suc}
-use native.Mathlib.Nat.{mod-lt, zero-lt-suc, not-suc-le-zero, le-of-suc-le-suc, div-add-mod', pow-suc, mul-mod-left, suc-mul, zero-mul, div-one, zero-div, one-mul, lt-of-le-of-lt}
+use native.Mathlib.Nat.{mod-lt, zero-lt-suc, not-suc-le-zero, le-of-suc-le-suc, div-add-mod', pow-suc, mul-mod-left, suc-mul, zero-mul, div-one, zero-div, one-mul}
 use native.Mathlib.Numerals.{add-one, one-add}
 use native.Mathlib.Decide.{ℕ-discrete}
 use native.Mathlib.Omega.{arith}
 use lib.Arith.{digits-mod, lt-one}
 use lib.Pow.{shr-shr, shr-lt, high, shl-exact, pow-pos}
-use lib.Bits.{bitAnd, bitOr, bitXor, differ, and-step, or-step, xor-step, and-shr, or-shr, xor-shr, xor-lt, and-le-l, and-mask, and-zero-r, xor-zero-r, block-half, block-odd, shifted-half}
+use lib.Bits.{bitAnd, bitOr, bitXor, differ, and-step, or-step, xor-step, and-shr, or-shr, xor-shr, and-mask, and-zero-r, xor-zero-r, block-half, block-odd, shifted-half}
 use mir.Val.{boolByte}
 use lib.Count.{trailingZeros, under, trailing-le}
-use Rattle.labels.specs.Label.{digit, In, Sub, Marked, Cleared, ClearedIf, Union, But, Below, From, LowestAt, absent}
+use Rattle.labels.specs.Label.{digit, In, Sub, Marked, Cleared, ClearedIf, Union, But, Common, Below, From, LowestAt, absent}
 
 two-pos : zero < 2
 two-pos = zero-lt-suc 1
@@ -117,7 +117,7 @@ cleared l j = record {
   kept = λ k h d. omega (arith, less-digit l (2 ^ j) k, one-other j k d);
 }
 
--- the same where the shifted bit is 1 only if the output is gone
+-- the same where the shifted bit is 1 only if the number is gone
 pub cleared-if : (gone : Bool) (l j : ℕ) → j < 64 → ClearedIf gone l j (bitXor l (bitAnd l ((boolByte gone * 2 ^ j) % 2 ^ 64)))
 cleared-if true l j h = record { cleared = λ _. rw (one-shifted j h) (cleared l j); same = λ e. absurd (true≢false e) }
 cleared-if false l j h = record { cleared = λ e. absurd (true≢false (sym e)); same = λ _. ap (λ (x : ℕ). bitXor l (bitAnd l (x % 2 ^ 64))) (zero-mul (2 ^ j)) ∙ ap (bitXor l) (and-zero-r l) ∙ xor-zero-r l }
@@ -134,6 +134,13 @@ but l m = record {
   less = λ k h. omega (arith, less-digit l m k, digit-lt l k);
   gone = λ k h g. omega (arith, less-digit l m k, digit-lt l k);
   kept = λ k h d. omega (arith, less-digit l m k, digit-lt m k, d);
+}
+
+pub common : (l m : ℕ) → Common l m (bitAnd l m)
+common l m = record {
+  left = λ k h. omega (arith, and-digit l m k, digit-lt l k);
+  right = λ k h. omega (arith, and-digit l m k, digit-lt m k);
+  all = λ k h g. omega (arith, and-digit l m k);
 }
 
 pub has-digit : (l j : ℕ) → bitAnd (l / 2 ^ j) 1 ≡ digit l j
@@ -161,7 +168,7 @@ all-zero zero n h f = lt-one h
 all-zero (suc d) n h f =
     omega (arith, div-add-mod' n 2, digit-zero n, f 0 (zero-lt-suc d), all-zero d (n / 2) (shr-lt d 1 (subst (λ (x : ℕ). n < 2 ^ x) (sym (add-one d)) h)) (λ i l. sym (digit-suc n i) ∙ f (suc i) (suc-le-suc l)))
 
--- sets with the same outputs are the same
+-- sets with the same numbers are the same
 pub same-set : (d n m : ℕ) → n < 2 ^ d → m < 2 ^ d → ((i : ℕ) → i < d → digit n i ≡ digit m i) → n ≡ m
 same-set zero n m h k f = lt-one h ∙ sym (lt-one k)
 same-set (suc d) n m h k f =
@@ -181,22 +188,8 @@ same-set (suc d) n m h k f =
 pub trailing-in : (d n : ℕ) → n < 2 ^ d → (n ≡ 0 → ⊥) → trailingZeros d n < d
 trailing-in d n h z = ⊎-elim (λ e. absurd (z (all-zero d n h (λ i l. trailing d n .0 i (subst (λ (x : ℕ). i < x) (sym e) l))))) (λ e. omega (arith, trailing-le d n)) (same-or (trailingZeros d n) d)
 
-module _ (row tried : ℕ) where
-  abbrev left : ℕ
-  left = bitXor row (bitAnd row tried)
-
-  pub nothing : left ≡ 0 → Sub row tried
-  nothing e k h = omega (arith, less-digit row tried k, ap (λ (x : ℕ). digit x k) e, none-digit k, digit-lt tried k)
-
-  pub lowest : row < 2 ^ 64 → (left ≡ 0 → ⊥) → LowestAt 64 row tried (trailingZeros 64 left)
-  lowest h z =
-      let t = trailing-in 64 left (xor-lt 64 row (bitAnd row tried) h (lt-of-le-of-lt (and-le-l row tried) h)) z in
-      record {
-        small = t;
-        here = omega (arith, less-digit row tried (trailingZeros 64 left), trailing 64 left .1 t, digit-lt row (trailingZeros 64 left));
-        new = λ e. omega (arith, less-digit row tried (trailingZeros 64 left), trailing 64 left .1 t, digit-lt row (trailingZeros 64 left));
-        past = λ k l e. omega (arith, less-digit row tried k, trailing 64 left .0 k l, digit-lt tried k);
-      }
+pub lowest : (l : ℕ) → l < 2 ^ 64 → (l ≡ 0 → ⊥) → LowestAt 64 l (trailingZeros 64 l)
+lowest l h z = let t = trailing-in 64 l h z in record { small = t; here = trailing 64 l .1 t; past = λ k q e. omega (arith, trailing 64 l .0 k q) }
 
 -- ---- the measure
 
@@ -232,30 +225,9 @@ module _ (l m : ℕ) (s : Sub l m) where
       lt-of : (j ≡ d → ⊥) → j < d
       lt-of e = omega arith
 
--- where an output is taken out, fewer are left
+-- where a number is taken out, fewer are left
 pub fewer : (d l j r : ℕ) → j < d → In l j → Cleared l j r → d - absent d r < d - absent d l
 fewer d l j r h e c = omega (arith, absent-most d r, absent-less r l (c .less) d j h (c .gone) e)
-
--- a mark of a new output leaves one fewer
-pub absent-mark : (l j r d : ℕ) → Marked l j r → (In l j → ⊥) → j < d → absent d r + 1 ≡ absent d l
-unfolding absent
-absent-mark l j r d m new = at d
-  where
-    bit-zero : (x k : ℕ) → (In x k → ⊥) → digit x k ≡ 0
-    bit-zero x k f = omega (arith, digit-lt x k, f)
-
-    same : (k : ℕ) → (k ≡ j → ⊥) → digit r k ≡ digit l k
-    same k f = ⊎-elim (λ e. m .more k e ∙ sym e) (λ g. bit-zero r k (λ e. ⊎-elim g f (m .only k e)) ∙ sym (bit-zero l k g)) (same-or (digit l k) 1)
-
-    below : (d : ℕ) → d ≤ j → absent d r ≡ absent d l
-    below zero h = refl
-    below (suc d) h = ap₂ (λ (x y : ℕ). x + (1 - y)) (below d (omega arith)) (same d (λ e. omega arith))
-
-    at : (d : ℕ) → j < d → absent d r + 1 ≡ absent d l
-    at zero h = absurd (not-suc-le-zero h)
-    at (suc d) h = ⊎-elim
-        (λ e. omega (arith, below d (omega arith), ap (digit r) e, ap (digit l) e, m .put, bit-zero l j new))
-        (λ e. omega (arith, at d (omega arith), same d (λ z. e (sym z)))) (same-or j d)
 
 -- ---- two words: the digits of high stand above the w digits of low
 

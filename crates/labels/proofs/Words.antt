@@ -1,12 +1,14 @@
--- The laws of sets of two words: output k is in the low word, or output k - 64 in the high one.
+-- The laws of sets of two words: k is in the low word, or k - 64 in the high one.
 use mathlib.Core.Path.{_≡_, sym, ap, _∙_, subst}
 use mathlib.Core.Logic.{_⊎_, inl, inr, ⊎-elim}
 use Prim.Native.Nat.{ℕ, _+_, _-_, _^_, _≤_, _<_}
 use native.Mathlib.Decide.{decLt}
 use native.Mathlib.Omega.{arith}
-use Rattle.labels.specs.Label.{digit, In, Sub, Marked, Cleared, Lowered, Union, But, Below, From, LowestAt}
-use Rattle.labels.proofs.Digits.{digit-lt, same-or, all-zero, cat-low, cat-high}
-use Rattle.labels.specs.Wide.{two}
+use Rattle.labels.specs.Label.{digit, In, Marked, Cleared, Lowered, Union, But, Common, Below, From, LowestAt, Lowest}
+use Rattle.labels.proofs.Digits.{digit-lt, same-or, all-zero, digit-in, cat-low, cat-high}
+use Rattle.labels.specs.declared.FoundOutput.{FoundOutput}
+use Rattle.labels.specs.declared.FoundOutput.the-variants.{At, Nothing}
+use Rattle.labels.specs.Wide.{two, outputFound, Untried}
 
 pub low : (a r k : ℕ) → k < 64 → digit (two a r) k ≡ digit r k
 unfolding two
@@ -16,7 +18,7 @@ pub high : (a r k : ℕ) → r < 2 ^ 64 → digit (two a r) (64 + k) ≡ digit a
 unfolding two
 high a r k h = cat-high 64 a r k h
 
--- what holds of the outputs of either word holds of all
+-- what holds of the numbers of either word holds of all
 by-word : (P : ℕ → Type 0) → ((k : ℕ) → k < 64 → P k) → ((i : ℕ) → P (64 + i)) → (k : ℕ) → P k
 by-word P l h k = go (decLt k 64)
   where
@@ -65,26 +67,19 @@ module _ (a b r i : ℕ) (hr : r < 2 ^ 64) where
     kept = by-word (λ k. In (two a r) k → (k ≡ 64 + i → ⊥) → In (two b r) k) (λ k l h d. sym (same-low k l) ∙ h) (λ k h d. high b r k hr ∙ m .kept k (sym (high a r k hr) ∙ h) (λ e. d (ap (λ (y : ℕ). 64 + y) e)));
   }
 
-module _ (a r b t : ℕ) (hr : r < 2 ^ 64) (ht : t < 2 ^ 64) where
-  pub lowest-low : (j : ℕ) → LowestAt 64 r t j → LowestAt 128 (two a r) (two b t) j
-  lowest-low j m = record {
-    small = omega (arith, m .small);
-    here = low a r j (m .small) ∙ m .here;
-    new = λ h. m .new (sym (low b t j (m .small)) ∙ h);
-    past = λ k l h. let q : k < 64 = omega (arith, m .small) in low b t k q ∙ m .past k l (sym (low a r k q) ∙ h);
-  }
+pub lowest-low : (a r : ℕ) (j : ℕ) → LowestAt 64 r j → LowestAt 128 (two a r) j
+lowest-low a r j m = record {
+  small = omega (arith, m .small);
+  here = low a r j (m .small) ∙ m .here;
+  past = λ k l h. m .past k l (sym (low a r k (omega (arith, m .small))) ∙ h);
+}
 
-  pub lowest-high : Sub r t → (j : ℕ) → LowestAt 64 a b j → LowestAt 128 (two a r) (two b t) (64 + j)
-  lowest-high f j m = record {
-    small = omega (arith, m .small);
-    here = high a r j hr ∙ m .here;
-    new = λ h. m .new (sym (high b t j ht) ∙ h);
-    past = by-word (λ k. k < 64 + j → In (two a r) k → In (two b t) k) (λ k l _ h. low b t k l ∙ f k (sym (low a r k l) ∙ h))
-        (λ k l h. high b t k ht ∙ m .past k (omega arith) (sym (high a r k hr) ∙ h));
-  }
-
-  pub nothing : Sub r t → Sub a b → Sub (two a r) (two b t)
-  nothing f g = by-word (λ k. In (two a r) k → In (two b t) k) (λ k l h. low b t k l ∙ f k (sym (low a r k l) ∙ h)) (λ k h. high b t k ht ∙ g k (sym (high a r k hr) ∙ h))
+pub lowest-high : (a r : ℕ) → r < 2 ^ 64 → ((k : ℕ) → In r k → ⊥) → (j : ℕ) → LowestAt 64 a j → LowestAt 128 (two a r) (64 + j)
+lowest-high a r hr nr j m = record {
+  small = omega (arith, m .small);
+  here = high a r j hr ∙ m .here;
+  past = by-word (λ k. k < 64 + j → In (two a r) k → ⊥) (λ k l _ h. nr k (sym (low a r k l) ∙ h)) (λ k l h. m .past k (omega arith) (sym (high a r k hr) ∙ h));
+}
 
 pub union : (a r b t c s : ℕ) → r < 2 ^ 64 → t < 2 ^ 64 → s < 2 ^ 64 → Union a b c → Union r t s → Union (two a r) (two b t) (two c s)
 union a r b t c s hr ht hs h l = record {
@@ -102,6 +97,15 @@ but a r b t c s hr ht hs h l = record {
   kept = by-word (λ k. In (two a r) k → (In (two b t) k → ⊥) → In (two c s) k)
       (λ k q x f. low c s k q ∙ l .kept k (sym (low a r k q) ∙ x) (λ y. f (low b t k q ∙ y)))
       (λ i x f. high c s i hs ∙ h .kept i (sym (high a r i hr) ∙ x) (λ y. f (high b t i ht ∙ y)));
+}
+
+pub common : (a r b t c s : ℕ) → r < 2 ^ 64 → t < 2 ^ 64 → s < 2 ^ 64 → Common a b c → Common r t s → Common (two a r) (two b t) (two c s)
+common a r b t c s hr ht hs h l = record {
+  left = by-word (λ k. In (two c s) k → In (two a r) k) (λ k q x. low a r k q ∙ l .left k (sym (low c s k q) ∙ x)) (λ i x. high a r i hr ∙ h .left i (sym (high c s i hs) ∙ x));
+  right = by-word (λ k. In (two c s) k → In (two b t) k) (λ k q x. low b t k q ∙ l .right k (sym (low c s k q) ∙ x)) (λ i x. high b t i ht ∙ h .right i (sym (high c s i hs) ∙ x));
+  all = by-word (λ k. In (two a r) k → In (two b t) k → In (two c s) k)
+      (λ k q x y. low c s k q ∙ l .all k (sym (low a r k q) ∙ x) (sym (low b t k q) ∙ y))
+      (λ i x y. high c s i hs ∙ h .all i (sym (high a r i hr) ∙ x) (sym (high b t i ht) ∙ y));
 }
 
 pub below-low : (a r c s j : ℕ) → r < 2 ^ 64 → s < 2 ^ 64 → j < 64 → ((k : ℕ) → In c k → ⊥) → Below r j s → Below (two a r) j (two c s)
@@ -132,9 +136,12 @@ from-high a r c s j hr hs ns f = record {
   all = by-word (λ k. 64 + j ≤ k → In (two a r) k → In (two c s) k) (λ k q l x. absurd (omega arith)) (λ i l x. high c s i hs ∙ f .all i (omega arith) (sym (high a r i hr) ∙ x));
 }
 
--- the lowest output stands in the low word where that has one
+-- the lowest number stands in the low word where that has one
 pub lowered-low : (a r s : ℕ) → r < 2 ^ 64 → s < 2 ^ 64 → (r ≡ 0 → ⊥) → Lowered r s → Lowered (two a r) (two a s)
-lowered-low a r s hr hs some m = record { cleared = by-word (λ j. In (two a r) j → ((k : ℕ) → k < j → In (two a r) k → ⊥) → Cleared (two a r) j (two a s)) here past }
+lowered-low a r s hr hs some m = record {
+  cleared = by-word (λ j. In (two a r) j → ((k : ℕ) → k < j → In (two a r) k → ⊥) → Cleared (two a r) j (two a s)) here past;
+  same = λ n. ap (two a) (m .same (λ k h. n k (low a r k (digit-in 64 r k hr h) ∙ h)));
+}
   where
     here : (j : ℕ) → j < 64 → In (two a r) j → ((k : ℕ) → k < j → In (two a r) k → ⊥) → Cleared (two a r) j (two a s)
     here j q e f = cleared-low a r s j hr hs q (m .cleared j (sym (low a r j q) ∙ e) (λ k l h. f k l (low a r k (omega arith) ∙ h)))
@@ -146,7 +153,24 @@ pub lowered-high : (a b r : ℕ) → r < 2 ^ 64 → ((k : ℕ) → In r k → �
 lowered-high a b r hr nr m = record {
   cleared = by-word (λ j. In (two a r) j → ((k : ℕ) → k < j → In (two a r) k → ⊥) → Cleared (two a r) j (two b r)) (λ j q e f. absurd (nr j (sym (low a r j q) ∙ e)))
       (λ i e f. cleared-high a b r i hr (m .cleared i (sym (high a r i hr) ∙ e) (λ k l h. f (64 + k) (omega arith) (high a r k hr ∙ h))));
+  same = λ n. ap (λ (x : ℕ). two x r) (m .same (λ k h. n (64 + k) (high a r k hr ∙ h)));
 }
 
 pub every : (a r : ℕ) → r < 2 ^ 64 → ((k : ℕ) → k < 64 → In a k) → ((k : ℕ) → k < 64 → In r k) → (k : ℕ) → k < 128 → In (two a r) k
 every a r hr fa fr = by-word (λ k. k < 128 → In (two a r) k) (λ k q l. low a r k q ∙ fr k q) (λ i l. high a r i hr ∙ fa i (omega arith))
+
+-- a set of two words has nothing from 128 on
+pub in-words : (a r k : ℕ) → a < 2 ^ 64 → r < 2 ^ 64 → In (two a r) k → k < 128
+in-words a r k ha hr = by-word (λ k. In (two a r) k → k < 128) (λ k q _. omega arith) (λ i h. omega (arith, digit-in 64 a i ha (sym (high a r i hr) ∙ h))) k
+
+-- ---- ports
+
+-- the lowest of what is not tried
+pub untried : (w l t m : ℕ) → But l t m → (f : FoundOutput) → Lowest w m (outputFound f) → Untried w l t f
+untried w l t m b (At j) a = record {
+  small = a .small;
+  here = b .less (j .0) (a .here);
+  new = b .gone (j .0) (a .here);
+  past = λ k q h. ⊎-elim (λ e. e) (λ n. absurd (a .past k q (b .kept k h n))) (same-or (digit t k) 1);
+}
+untried w l t m b Nothing n = λ k h. ⊎-elim (λ e. e) (λ x. absurd (n k (b .kept k h x))) (same-or (digit t k) 1)

@@ -1,2 +1,3 @@
 pub mod Label
 pub mod Wide
+pub mod Rows

@@ -1,83 +1,101 @@
-// Labels: sets of outputs as bits, by value. Output j is in the set where bit j is 1: one word for a switch of 64 ports, two for 128.
+// Labels: sets of ports as bits, by value. A number is in the set where that bit is 1: one word for numbers below 64, two for 128.
+// A set of ports is a set of numbers under a type of its own, so that no function takes inputs for outputs.
 // Contracts speak of membership alone, so that no caller sees bits, and the laws hold of any number of words.
-// This is the fast set of the matching search, of the record check and of the wish list; whose outputs they are is left to the callers.
+// This is the fast set of the matching search, of the record check and of the wish list; whose ports they are is left to the callers.
+use switch::InputPort;
 use switch::OutputPort;
 ghost use mathlib.Core.Path.{_≡_};
-ghost use Prim.Native.Nat.{ℕ, _<_};
-ghost use Rattle.labels.specs.Label.{In, Marked, Cleared, ClearedIf, Lowered, Union, But, Below, From, Lowest, hasOutput};
-ghost use Rattle.labels.specs.Wide.{outputsOf};
+ghost use Prim.Native.Nat.{ℕ, _≤_, _<_};
+ghost use lib.ListN.{length};
+ghost use Rattle.labels.specs.Label.{In, Marked, Cleared, ClearedIf, Lowered, Union, But, Common, Below, From, Upto, Lowest, isIn};
+ghost use Rattle.labels.specs.Wide.{numbersOf, outputsOf, inputsOf, outputFound, inputFound, Untried};
+ghost use Rattle.labels.specs.Rows.{rowOf, RowPut};
 
-// Every output of a word.
+// Every number of a word.
 const EVERY: u64 = 0xffff_ffff_ffff_ffff;
 
-// A set of outputs below 64.
+// A set of numbers below 64.
 pub struct Label(pub u64);
 
-// A set of outputs below 128.
+// A set of numbers below 128.
 pub struct Wide {
     pub low: Label,
     pub high: Label,
 }
 
-// The lowest output that was asked for.
+// A set of outputs.
+pub struct Outputs(pub Wide);
+
+// A set of inputs.
+pub struct Inputs(pub Wide);
+
+// The lowest number of a set.
 pub enum Found {
+    At(usize),
+    Nothing,
+}
+
+// The lowest output of a set.
+pub enum FoundOutput {
     At(OutputPort),
     Nothing,
 }
 
+// The lowest input of a set.
+pub enum FoundInput {
+    At(InputPort),
+    Nothing,
+}
+
 impl Label {
-    // No output.
+    // No number.
     pub fn none() -> Label
         ensures { λ r. ⌜ ((k : ℕ) → In (r .0) k → ⊥) ⌝ }
     {
         Label(0)
     }
 
-    // Every output.
+    // Every number.
     pub fn every() -> Label
         ensures { λ r. ⌜ ((k : ℕ) → k < 64 → In (r .0) k) ⌝ }
     {
         Label(EVERY)
     }
 
-    // Is output j in the set?
-    pub fn has(self, j: OutputPort) -> bool
-        requires { ⌜ j .0 < 64 ⌝ }
-        ensures { λ r. ⌜ r ≡ hasOutput (self .0) (j .0) ⌝ }
+    // Is j in the set?
+    pub fn has(self, j: usize) -> bool
+        requires { ⌜ j < 64 ⌝ }
+        ensures { λ r. ⌜ r ≡ isIn (self .0) j ⌝ }
     {
-        let k = j.0;
-        (self.0 >> k) & 1 == 1
+        (self.0 >> j) & 1 == 1
     }
 
-    // The set and output j besides.
-    pub fn mark(self, j: OutputPort) -> Label
-        requires { ⌜ j .0 < 64 ⌝ }
-        ensures { λ r. ⌜ Marked (self .0) (j .0) (r .0) ⌝ }
+    // The set and j besides.
+    pub fn mark(self, j: usize) -> Label
+        requires { ⌜ j < 64 ⌝ }
+        ensures { λ r. ⌜ Marked (self .0) j (r .0) ⌝ }
     {
-        let k = j.0;
-        Label(self.0 | (1u64 << k))
+        Label(self.0 | (1u64 << j))
     }
 
-    // The set without output j.
-    pub fn without(self, j: OutputPort) -> Label
-        requires { ⌜ j .0 < 64 ⌝ }
-        ensures { λ r. ⌜ Cleared (self .0) (j .0) (r .0) ⌝ }
+    // The set without j.
+    pub fn without(self, j: usize) -> Label
+        requires { ⌜ j < 64 ⌝ }
+        ensures { λ r. ⌜ Cleared (self .0) j (r .0) ⌝ }
     {
-        let k = j.0;
-        Label(self.0 ^ (self.0 & (1u64 << k)))
+        Label(self.0 ^ (self.0 & (1u64 << j)))
     }
 
-    // The set without output j, where that is gone. No branch waits for the answer.
-    pub fn without_if(self, j: OutputPort, gone: bool) -> Label
-        requires { ⌜ j .0 < 64 ⌝ }
-        ensures { λ r. ⌜ ClearedIf gone (self .0) (j .0) (r .0) ⌝ }
+    // The set without j, where that is gone. No branch waits for the answer.
+    pub fn without_if(self, j: usize, gone: bool) -> Label
+        requires { ⌜ j < 64 ⌝ }
+        ensures { λ r. ⌜ ClearedIf gone (self .0) j (r .0) ⌝ }
     {
-        let k = j.0;
         let one = gone as u64;
-        Label(self.0 ^ (self.0 & (one << k)))
+        Label(self.0 ^ (self.0 & (one << j)))
     }
 
-    // The set without its lowest output, in a step that need not know which it is.
+    // The set without its lowest number, in a step that need not know which it is.
     pub fn without_lowest(self) -> Label
         ensures { λ r. ⌜ Lowered (self .0) (r .0) ⌝ }
     {
@@ -87,56 +105,61 @@ impl Label {
         Label(self.0 & (self.0 - 1))
     }
 
-    // The outputs of both sets.
+    // The numbers of both sets.
     pub fn with(self, other: Label) -> Label
         ensures { λ r. ⌜ Union (self .0) (other .0) (r .0) ⌝ }
     {
         Label(self.0 | other.0)
     }
 
-    // The outputs of the set but those of the other.
+    // The numbers of the set but those of the other.
     pub fn but(self, other: Label) -> Label
         ensures { λ r. ⌜ But (self .0) (other .0) (r .0) ⌝ }
     {
         Label(self.0 ^ (self.0 & other.0))
     }
 
-    // The outputs of the set that are lower than j.
-    pub fn below(self, j: OutputPort) -> Label
-        requires { ⌜ j .0 < 64 ⌝ }
-        ensures { λ r. ⌜ Below (self .0) (j .0) (r .0) ⌝ }
+    // The numbers that both sets have.
+    pub fn common(self, other: Label) -> Label
+        ensures { λ r. ⌜ Common (self .0) (other .0) (r .0) ⌝ }
     {
-        let k = j.0;
-        let first = 1u64 << k;
+        Label(self.0 & other.0)
+    }
+
+    // The numbers of the set that are lower than j.
+    pub fn below(self, j: usize) -> Label
+        requires { ⌜ j < 64 ⌝ }
+        ensures { λ r. ⌜ Below (self .0) j (r .0) ⌝ }
+    {
+        let first = 1u64 << j;
         Label(self.0 % first)
     }
 
-    // The outputs of the set that are not lower than j.
-    pub fn from(self, j: OutputPort) -> Label
-        requires { ⌜ j .0 < 64 ⌝ }
-        ensures { λ r. ⌜ From (self .0) (j .0) (r .0) ⌝ }
+    // The numbers of the set that are not lower than j.
+    pub fn from(self, j: usize) -> Label
+        requires { ⌜ j < 64 ⌝ }
+        ensures { λ r. ⌜ From (self .0) j (r .0) ⌝ }
     {
-        let k = j.0;
-        let first = 1u64 << k;
+        let first = 1u64 << j;
         Label(self.0 - self.0 % first)
     }
 
-    // The lowest output of the set that is not tried.
-    pub fn lowest_untried(self, tried: Label) -> Found
-        ensures { λ r. ⌜ Lowest 64 (self .0) (tried .0) r ⌝ }
+    // The lowest number of the set.
+    pub fn lowest(self) -> Found
+        ensures { λ r. ⌜ Lowest 64 (self .0) r ⌝ }
     {
-        let m = self.0 ^ (self.0 & tried.0);
+        let m = self.0;
         if m == 0 {
             return Found::Nothing;
         }
-        Found::At(OutputPort(u64::trailing_zeros(m) as usize))
+        Found::At(u64::trailing_zeros(m) as usize)
     }
 }
 
 impl Wide {
-    // No output.
+    // No number.
     pub fn none() -> Wide
-        ensures { λ r. ⌜ ((k : ℕ) → In (outputsOf r) k → ⊥) ⌝ }
+        ensures { λ r. ⌜ ((k : ℕ) → In (numbersOf r) k → ⊥) ⌝ }
     {
         Wide {
             low: Label::none(),
@@ -144,9 +167,9 @@ impl Wide {
         }
     }
 
-    // Every output.
+    // Every number.
     pub fn every() -> Wide
-        ensures { λ r. ⌜ ((k : ℕ) → k < 128 → In (outputsOf r) k) ⌝ }
+        ensures { λ r. ⌜ ((k : ℕ) → k < 128 → In (numbersOf r) k) ⌝ }
     {
         Wide {
             low: Label::every(),
@@ -154,29 +177,27 @@ impl Wide {
         }
     }
 
-    // Is output j in the set?
-    pub fn has(self, j: OutputPort) -> bool
-        requires { ⌜ j .0 < 128 ⌝ }
-        ensures { λ r. ⌜ r ≡ hasOutput (outputsOf self) (j .0) ⌝ }
+    // Is j in the set?
+    pub fn has(self, j: usize) -> bool
+        requires { ⌜ j < 128 ⌝ }
+        ensures { λ r. ⌜ r ≡ isIn (numbersOf self) j ⌝ }
     {
-        let k = j.0;
-        if k < 64 {
+        if j < 64 {
             let l = self.low;
             return l.has(j);
         }
         let h = self.high;
-        h.has(OutputPort(k - 64))
+        h.has(j - 64)
     }
 
-    // The set and output j besides.
-    pub fn mark(self, j: OutputPort) -> Wide
-        requires { ⌜ j .0 < 128 ⌝ }
-        ensures { λ r. ⌜ Marked (outputsOf self) (j .0) (outputsOf r) ⌝ }
+    // The set and j besides.
+    pub fn mark(self, j: usize) -> Wide
+        requires { ⌜ j < 128 ⌝ }
+        ensures { λ r. ⌜ Marked (numbersOf self) j (numbersOf r) ⌝ }
     {
-        let k = j.0;
         let l = self.low;
         let h = self.high;
-        if k < 64 {
+        if j < 64 {
             return Wide {
                 low: l.mark(j),
                 high: h,
@@ -184,19 +205,18 @@ impl Wide {
         }
         Wide {
             low: l,
-            high: h.mark(OutputPort(k - 64)),
+            high: h.mark(j - 64),
         }
     }
 
-    // The set without output j.
-    pub fn without(self, j: OutputPort) -> Wide
-        requires { ⌜ j .0 < 128 ⌝ }
-        ensures { λ r. ⌜ Cleared (outputsOf self) (j .0) (outputsOf r) ⌝ }
+    // The set without j.
+    pub fn without(self, j: usize) -> Wide
+        requires { ⌜ j < 128 ⌝ }
+        ensures { λ r. ⌜ Cleared (numbersOf self) j (numbersOf r) ⌝ }
     {
-        let k = j.0;
         let l = self.low;
         let h = self.high;
-        if k < 64 {
+        if j < 64 {
             return Wide {
                 low: l.without(j),
                 high: h,
@@ -204,19 +224,18 @@ impl Wide {
         }
         Wide {
             low: l,
-            high: h.without(OutputPort(k - 64)),
+            high: h.without(j - 64),
         }
     }
 
-    // The set without output j, where that is gone.
-    pub fn without_if(self, j: OutputPort, gone: bool) -> Wide
-        requires { ⌜ j .0 < 128 ⌝ }
-        ensures { λ r. ⌜ ClearedIf gone (outputsOf self) (j .0) (outputsOf r) ⌝ }
+    // The set without j, where that is gone.
+    pub fn without_if(self, j: usize, gone: bool) -> Wide
+        requires { ⌜ j < 128 ⌝ }
+        ensures { λ r. ⌜ ClearedIf gone (numbersOf self) j (numbersOf r) ⌝ }
     {
-        let k = j.0;
         let l = self.low;
         let h = self.high;
-        if k < 64 {
+        if j < 64 {
             return Wide {
                 low: l.without_if(j, gone),
                 high: h,
@@ -224,13 +243,13 @@ impl Wide {
         }
         Wide {
             low: l,
-            high: h.without_if(OutputPort(k - 64), gone),
+            high: h.without_if(j - 64, gone),
         }
     }
 
-    // The set without its lowest output.
+    // The set without its lowest number.
     pub fn without_lowest(self) -> Wide
-        ensures { λ r. ⌜ Lowered (outputsOf self) (outputsOf r) ⌝ }
+        ensures { λ r. ⌜ Lowered (numbersOf self) (numbersOf r) ⌝ }
     {
         let l = self.low;
         let h = self.high;
@@ -246,9 +265,9 @@ impl Wide {
         }
     }
 
-    // The outputs of both sets.
+    // The numbers of both sets.
     pub fn with(self, other: Wide) -> Wide
-        ensures { λ r. ⌜ Union (outputsOf self) (outputsOf other) (outputsOf r) ⌝ }
+        ensures { λ r. ⌜ Union (numbersOf self) (numbersOf other) (numbersOf r) ⌝ }
     {
         let l = self.low;
         let m = other.low;
@@ -260,9 +279,9 @@ impl Wide {
         }
     }
 
-    // The outputs of the set but those of the other.
+    // The numbers of the set but those of the other.
     pub fn but(self, other: Wide) -> Wide
-        ensures { λ r. ⌜ But (outputsOf self) (outputsOf other) (outputsOf r) ⌝ }
+        ensures { λ r. ⌜ But (numbersOf self) (numbersOf other) (numbersOf r) ⌝ }
     {
         let l = self.low;
         let m = other.low;
@@ -274,15 +293,28 @@ impl Wide {
         }
     }
 
-    // The outputs of the set that are lower than j.
-    pub fn below(self, j: OutputPort) -> Wide
-        requires { ⌜ j .0 < 128 ⌝ }
-        ensures { λ r. ⌜ Below (outputsOf self) (j .0) (outputsOf r) ⌝ }
+    // The numbers that both sets have.
+    pub fn common(self, other: Wide) -> Wide
+        ensures { λ r. ⌜ Common (numbersOf self) (numbersOf other) (numbersOf r) ⌝ }
     {
-        let k = j.0;
+        let l = self.low;
+        let m = other.low;
+        let h = self.high;
+        let g = other.high;
+        Wide {
+            low: l.common(m),
+            high: h.common(g),
+        }
+    }
+
+    // The numbers of the set that are lower than j.
+    pub fn below(self, j: usize) -> Wide
+        requires { ⌜ j < 128 ⌝ }
+        ensures { λ r. ⌜ Below (numbersOf self) j (numbersOf r) ⌝ }
+    {
         let l = self.low;
         let h = self.high;
-        if k < 64 {
+        if j < 64 {
             return Wide {
                 low: l.below(j),
                 high: Label::none(),
@@ -290,19 +322,18 @@ impl Wide {
         }
         Wide {
             low: l,
-            high: h.below(OutputPort(k - 64)),
+            high: h.below(j - 64),
         }
     }
 
-    // The outputs of the set that are not lower than j.
-    pub fn from(self, j: OutputPort) -> Wide
-        requires { ⌜ j .0 < 128 ⌝ }
-        ensures { λ r. ⌜ From (outputsOf self) (j .0) (outputsOf r) ⌝ }
+    // The numbers of the set that are not lower than j.
+    pub fn from(self, j: usize) -> Wide
+        requires { ⌜ j < 128 ⌝ }
+        ensures { λ r. ⌜ From (numbersOf self) j (numbersOf r) ⌝ }
     {
-        let k = j.0;
         let l = self.low;
         let h = self.high;
-        if k < 64 {
+        if j < 64 {
             return Wide {
                 low: l.from(j),
                 high: h,
@@ -310,28 +341,225 @@ impl Wide {
         }
         Wide {
             low: Label::none(),
-            high: h.from(OutputPort(k - 64)),
+            high: h.from(j - 64),
         }
     }
 
-    // The lowest output of the set that is not tried.
-    pub fn lowest_untried(self, tried: Wide) -> Found
-        ensures { λ r. ⌜ Lowest 128 (outputsOf self) (outputsOf tried) r ⌝ }
+    // The lowest number of the set.
+    pub fn lowest(self) -> Found
+        ensures { λ r. ⌜ Lowest 128 (numbersOf self) r ⌝ }
     {
         let l = self.low;
-        let t = tried.low;
-        let a = l.lowest_untried(t);
+        let a = l.lowest();
         match a {
             Found::At(j) => Found::At(j),
             Found::Nothing => {
                 let h = self.high;
-                let u = tried.high;
-                let b = h.lowest_untried(u);
+                let b = h.lowest();
                 match b {
-                    Found::At(j) => Found::At(OutputPort(64 + j.0)),
+                    Found::At(j) => Found::At(64 + j),
                     Found::Nothing => Found::Nothing,
                 }
             }
         }
     }
+}
+
+impl Outputs {
+    // No output.
+    pub fn none() -> Outputs
+        ensures { λ r. ⌜ ((k : ℕ) → In (outputsOf r) k → ⊥) ⌝ }
+    {
+        Outputs(Wide::none())
+    }
+
+    // Every output.
+    pub fn every() -> Outputs
+        ensures { λ r. ⌜ ((k : ℕ) → k < 128 → In (outputsOf r) k) ⌝ }
+    {
+        Outputs(Wide::every())
+    }
+
+    // Is output j in the set?
+    pub fn has(self, j: OutputPort) -> bool
+        requires { ⌜ j .0 < 128 ⌝ }
+        ensures { λ r. ⌜ r ≡ isIn (outputsOf self) (j .0) ⌝ }
+    {
+        let s = self.0;
+        s.has(j.0)
+    }
+
+    // The set and output j besides.
+    pub fn mark(self, j: OutputPort) -> Outputs
+        requires { ⌜ j .0 < 128 ⌝ }
+        ensures { λ r. ⌜ Marked (outputsOf self) (j .0) (outputsOf r) ⌝ }
+    {
+        let s = self.0;
+        Outputs(s.mark(j.0))
+    }
+
+    // The set without output j.
+    pub fn without(self, j: OutputPort) -> Outputs
+        requires { ⌜ j .0 < 128 ⌝ }
+        ensures { λ r. ⌜ Cleared (outputsOf self) (j .0) (outputsOf r) ⌝ }
+    {
+        let s = self.0;
+        Outputs(s.without(j.0))
+    }
+
+    // The set without output j, where that is gone.
+    pub fn without_if(self, j: OutputPort, gone: bool) -> Outputs
+        requires { ⌜ j .0 < 128 ⌝ }
+        ensures { λ r. ⌜ ClearedIf gone (outputsOf self) (j .0) (outputsOf r) ⌝ }
+    {
+        let s = self.0;
+        Outputs(s.without_if(j.0, gone))
+    }
+
+    // The set without its lowest output.
+    pub fn without_lowest(self) -> Outputs
+        ensures { λ r. ⌜ Lowered (outputsOf self) (outputsOf r) ⌝ }
+    {
+        let s = self.0;
+        Outputs(s.without_lowest())
+    }
+
+    // The outputs of both sets.
+    pub fn with(self, other: Outputs) -> Outputs
+        ensures { λ r. ⌜ Union (outputsOf self) (outputsOf other) (outputsOf r) ⌝ }
+    {
+        let s = self.0;
+        Outputs(s.with(other.0))
+    }
+
+    // The outputs of the set but those of the other.
+    pub fn but(self, other: Outputs) -> Outputs
+        ensures { λ r. ⌜ But (outputsOf self) (outputsOf other) (outputsOf r) ⌝ }
+    {
+        let s = self.0;
+        Outputs(s.but(other.0))
+    }
+
+    // The outputs that both sets have.
+    pub fn common(self, other: Outputs) -> Outputs
+        ensures { λ r. ⌜ Common (outputsOf self) (outputsOf other) (outputsOf r) ⌝ }
+    {
+        let s = self.0;
+        Outputs(s.common(other.0))
+    }
+
+    // The outputs of the set that are lower than j.
+    pub fn below(self, j: OutputPort) -> Outputs
+        requires { ⌜ j .0 < 128 ⌝ }
+        ensures { λ r. ⌜ Below (outputsOf self) (j .0) (outputsOf r) ⌝ }
+    {
+        let s = self.0;
+        Outputs(s.below(j.0))
+    }
+
+    // The lowest output of the set.
+    pub fn lowest(self) -> FoundOutput
+        ensures { λ r. ⌜ Lowest 128 (outputsOf self) (outputFound r) ⌝ }
+    {
+        let s = self.0;
+        let f = s.lowest();
+        match f {
+            Found::At(j) => FoundOutput::At(OutputPort(j)),
+            Found::Nothing => FoundOutput::Nothing,
+        }
+    }
+
+    // The lowest output of the set that is not tried.
+    pub fn lowest_untried(self, tried: Outputs) -> FoundOutput
+        ensures { λ r. ⌜ Untried 128 (outputsOf self) (outputsOf tried) r ⌝ }
+    {
+        let new = self.but(tried);
+        new.lowest()
+    }
+}
+
+impl Inputs {
+    // The first n inputs.
+    pub fn first(n: usize) -> Inputs
+        requires { ⌜ n ≤ 128 ⌝ }
+        ensures { λ r. ⌜ Upto n (inputsOf r) ⌝ }
+    {
+        let every = Wide::every();
+        if n == 128 {
+            return Inputs(every);
+        }
+        Inputs(every.below(n))
+    }
+
+    // The set without input i.
+    pub fn without(self, i: InputPort) -> Inputs
+        requires { ⌜ i .0 < 128 ⌝ }
+        ensures { λ r. ⌜ Cleared (inputsOf self) (i .0) (inputsOf r) ⌝ }
+    {
+        let s = self.0;
+        Inputs(s.without(i.0))
+    }
+
+    // The set without its lowest input.
+    pub fn without_lowest(self) -> Inputs
+        ensures { λ r. ⌜ Lowered (inputsOf self) (inputsOf r) ⌝ }
+    {
+        let s = self.0;
+        Inputs(s.without_lowest())
+    }
+
+    // The inputs of the set that are lower than i.
+    pub fn below(self, i: InputPort) -> Inputs
+        requires { ⌜ i .0 < 128 ⌝ }
+        ensures { λ r. ⌜ Below (inputsOf self) (i .0) (inputsOf r) ⌝ }
+    {
+        let s = self.0;
+        Inputs(s.below(i.0))
+    }
+
+    // The inputs of the set that are not lower than i.
+    pub fn from(self, i: InputPort) -> Inputs
+        requires { ⌜ i .0 < 128 ⌝ }
+        ensures { λ r. ⌜ From (inputsOf self) (i .0) (inputsOf r) ⌝ }
+    {
+        let s = self.0;
+        Inputs(s.from(i.0))
+    }
+
+    // The lowest input of the set.
+    pub fn lowest(self) -> FoundInput
+        ensures { λ r. ⌜ Lowest 128 (inputsOf self) (inputFound r) ⌝ }
+    {
+        let s = self.0;
+        let f = s.lowest();
+        match f {
+            Found::At(i) => FoundInput::At(InputPort(i)),
+            Found::Nothing => FoundInput::Nothing,
+        }
+    }
+}
+
+// The label of input i: its two words stand in lists of their own.
+pub fn row_of(lows: &[u64], highs: &[u64], i: InputPort) -> Outputs
+    requires { ⌜ (i .0 < length (now lows)) × (i .0 < length (now highs)) ⌝ }
+    ensures { λ r. ⌜ outputsOf r ≡ rowOf (now (lows .entry)) (now (highs .entry)) (i .0) ⌝ }
+{
+    let k = i.0;
+    Outputs(Wide {
+        low: Label(lows[k]),
+        high: Label(highs[k]),
+    })
+}
+
+// Input i gets this label.
+pub fn put_row(lows: &mut [u64], highs: &mut [u64], i: InputPort, row: Outputs)
+    requires { ⌜ (i .0 < length (now lows)) × (i .0 < length (now highs)) ⌝ }
+    ensures { λ _. ⌜ RowPut (i .0) (outputsOf row) (now (lows .entry)) (now (highs .entry)) (now (lows .exit)) (now (highs .exit)) ⌝ }
+{
+    let k = i.0;
+    let words = row.0;
+    let low = words.low;
+    let high = words.high;
+    lows[k] = low.0;
+    highs[k] = high.0;
 }

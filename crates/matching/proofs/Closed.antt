@@ -11,7 +11,7 @@ use Rattle.counting.specs.Count.{ind, count}
 use Rattle.counting.proofs.Sum.{sum-change}
 use Rattle.counting.proofs.Count.{ind-true, ind-false}
 use Rattle.counting.proofs.Pigeonhole.{pigeonhole}
-use Rattle.labels.specs.Label.{digit, In, hasOutput}
+use Rattle.labels.specs.Label.{digit, In, isIn}
 use Rattle.rules.specs.First.{Fits}
 use Rattle.matching.specs.Tables.{Held, Holds, Matching}
 use Rattle.matching.specs.Search.{Stays, Closed}
@@ -62,16 +62,16 @@ module _ (w n : ℕ) (E : ℕ → ℕ → Type 0) (by out : List ℕ) (fixed u i
     (idle : Holds by i → ⊥) (closed : Closed E by fixed u) (fits : Fits n E o) (held : AllHeld by fixed) (keeps : Keeps by fixed o) where
   -- tried, and not fixed
   abbrev new : ℕ → Bool
-  new k = hasOutput u k && not (hasOutput fixed k)
+  new k = isIn u k && not (isIn fixed k)
 
   tried : (k : ℕ) → T (new k) → In u k
-  tried k t = eqb→eq (digit u k) 1 (both (hasOutput u k) (not (hasOutput fixed k)) t .0)
+  tried k t = eqb→eq (digit u k) 1 (both (isIn u k) (not (isIn fixed k)) t .0)
 
   loose : (k : ℕ) → T (new k) → In fixed k → ⊥
-  loose k t f = T-not (hasOutput fixed k) (both (hasOutput u k) (not (hasOutput fixed k)) t .1) (rw f tt)
+  loose k t f = T-not (isIn fixed k) (both (isIn u k) (not (isIn fixed k)) t .1) (rw f tt)
 
   is-new : (k : ℕ) → In u k → (In fixed k → ⊥) → T (new k)
-  is-new k a f = pair (hasOutput u k) (not (hasOutput fixed k)) (rw a tt) (not-T (hasOutput fixed k) (λ e. f (eqb→eq (digit fixed k) 1 e)))
+  is-new k a f = pair (isIn u k) (not (isIn fixed k)) (rw a tt) (not-T (isIn fixed k) (λ e. f (eqb→eq (digit fixed k) 1 e)))
 
   holder : (k : ℕ) → T (new k) → Stays E by u k
   holder k t = ⊎-elim (λ (f : In fixed k). absurd (loose k t f)) (λ y. y) (closed k (tried k t))

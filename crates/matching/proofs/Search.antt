@@ -6,9 +6,10 @@ use Prim.Native.Nat.{ℕ, _+_, _-_, _<_, _≤_}
 use native.Mathlib.Omega.{arith}
 use lib.ListN.{length, getD, set, length-set}
 use lib.Seq.{getD-set-same, getD-set-other}
-use Rattle.labels.specs.Label.{digit, In, Sub, Union, But, Lowest, LowestAt, absent}
-use Rattle.labels.specs.declared.Found.{Found}
-use Rattle.labels.specs.declared.Found.the-variants.{At, Nothing}
+use Rattle.labels.specs.Label.{digit, In, Sub, Union, But, absent}
+use Rattle.labels.specs.Wide.{UntriedAt, Untried}
+use Rattle.labels.specs.declared.FoundOutput.{FoundOutput}
+use Rattle.labels.specs.declared.FoundOutput.the-variants.{At, Nothing}
 use Rattle.labels.proofs.Digits.{same-or, absent-less}
 use Rattle.switch.specs.declared.OutputPort.{OutputPort}
 use Rattle.matching.specs.declared.Asked.{Asked}
@@ -114,11 +115,11 @@ module _ (w n : ℕ) (E : ℕ → ℕ → Type 0) (by out : List ℕ) (t j i k :
 
 -- ---- the lowest output that is left
 
-pub lowest-at : (w row seen : ℕ) (f : Found) (j : OutputPort) → Lowest w row seen f → f ≡ At j → LowestAt w row seen (j .0)
-lowest-at w row seen f j l q = subst (Lowest w row seen) q l
+pub lowest-at : (w row seen : ℕ) (f : FoundOutput) (j : OutputPort) → Untried w row seen f → f ≡ At j → UntriedAt w row seen (j .0)
+lowest-at w row seen f j l q = subst (Untried w row seen) q l
 
-pub none-left : (w row seen : ℕ) (f : Found) → Lowest w row seen f → f ≡ Nothing → Sub row seen
-none-left w row seen f l q = subst (Lowest w row seen) q l
+pub none-left : (w row seen : ℕ) (f : FoundOutput) → Untried w row seen f → f ≡ Nothing → Sub row seen
+none-left w row seen f l q = subst (Untried w row seen) q l
 
 pub one-up : (v : ℕ) → (v ≡ 0 → ⊥) → v ≡ v - 1 + 1
 one-up v f = omega arith
@@ -143,7 +144,7 @@ module _ (w n : ℕ) (E : ℕ → ℕ → Type 0) (by out : List ℕ) (held t : 
   }
 
   -- one can be had at once
-  pub spare-moved : (outputs j : ℕ) → LowestAt w outputs held j → Moved w n E by out t outputs j j by out
+  pub spare-moved : (outputs j : ℕ) → UntriedAt w outputs held j → Moved w n E by out t outputs j j by out
   spare-moved outputs j l = let s = p .spare j (l .small) (l .new) in free-moved outputs j (l .here) (l .small) (s .0) (s .1)
 
   -- all are tried
@@ -151,7 +152,7 @@ module _ (w n : ℕ) (E : ℕ → ℕ → Type 0) (by out : List ℕ) (held t : 
   tried-unmoved outputs s = record { holders = refl; outs = refl; more = λ k x. x; all = s; closed = λ j x. inl x }
 
   -- those that are not are a wave
-  pub wave-of : (outputs wave j : ℕ) → Sub outputs held → LowestAt w outputs t j → But outputs t wave → Wave w held t wave
+  pub wave-of : (outputs wave j : ℕ) → Sub outputs held → UntriedAt w outputs t j → But outputs t wave → Wave w held t wave
   wave-of outputs wave j s l b = record { some = (j, l .small, b .kept j (l .here) (l .new)); new = b .gone; known = λ k x. s k (b .less k x) }
 
   -- what came of asking them is what came of asking all

@@ -8,8 +8,8 @@ use native.Mathlib.Decide.{decLt}
 use native.Mathlib.Omega.{arith}
 use Rattle.labels.specs.Label.{In, Sub, Cleared, Union}
 use Rattle.labels.specs.Wide.{two}
-use Rattle.labels.specs.declared.Found.{Found}
-use Rattle.labels.specs.declared.Found.the-variants.{At, Nothing}
+use Rattle.labels.specs.declared.FoundOutput.{FoundOutput}
+use Rattle.labels.specs.declared.FoundOutput.the-variants.{At, Nothing}
 use Rattle.labels.proofs.Digits.{same-or, digit-in}
 use Rattle.labels.proofs.Words.{low, high}
 use Rattle.switch.specs.declared.OutputPort.{OutputPort}
@@ -49,7 +49,7 @@ module _ (E : ℕ → ℕ → Type 0) (by : List ℕ) (word base before : ℕ) w
 
 -- ---- both words
 
-abbrev is-nothing : Found → Type 0
+abbrev is-nothing : FoundOutput → Type 0
 is-nothing (At j) = ⊥
 is-nothing Nothing = Unit {0}
 
@@ -76,7 +76,7 @@ module _ (E : ℕ → ℕ → Type 0) (by : List ℕ) (a r : ℕ) (hr : r < 2 ^ 
       high-from y = (64 + y .0, y .1, in-high (y .0) (y .2), y .3, y .4)
 
   -- an output of the low word is free
-  pub low-leads : (none u : ℕ) (f : Found) {x : OutputPort} → f ≡ At x → Reaches E by r 0 none f u → Leads E by (two a r) f u
+  pub low-leads : (none u : ℕ) (f : FoundOutput) {x : OutputPort} → f ≡ At x → Reaches E by r 0 none f u → Leads E by (two a r) f u
   low-leads none u (At j) e y = let q : j .0 ≡ y .0 = y .2 ∙ omega arith in (subst (In (two a r)) (sym q) (in-low (y .0) (digit-in 64 r (y .0) hr (y .1)) (y .1)), omega (arith, y .3), y .4)
   low-leads none u Nothing e y = absurd (differ e)
     where
@@ -84,9 +84,9 @@ module _ (E : ℕ → ℕ → Type 0) (by : List ℕ) (a r : ℕ) (hr : r < 2 ^ 
       differ q = subst is-nothing q tt
 
   -- none is: it is the high word's to say
-  pub high-leads : (none before u : ℕ) (g f : Found) → ((k : ℕ) → In none k → ⊥) → g ≡ Nothing → Reaches E by r 0 none g before → Reaches E by a 64 before f u → Leads E by (two a r) f u
+  pub high-leads : (none before u : ℕ) (g f : FoundOutput) → ((k : ℕ) → In none k → ⊥) → g ≡ Nothing → Reaches E by r 0 none g before → Reaches E by a 64 before f u → Leads E by (two a r) f u
   high-leads none before u g (At j) empty e l y = (subst (In (two a r)) (sym (y .2)) (in-high (y .0) (y .1)), omega (arith, y .3), y .4)
-  high-leads none before u g Nothing empty e l h = both-words none before u empty (subst (λ (x : Found). Reaches E by r 0 none x before) e l) h
+  high-leads none before u g Nothing empty e l h = both-words none before u empty (subst (λ (x : FoundOutput). Reaches E by r 0 none x before) e l) h
 
 -- ---- who can move
 

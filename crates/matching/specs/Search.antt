@@ -6,8 +6,8 @@ use mathlib.Core.List.{List}
 use Prim.Native.Nat.{ℕ, _+_, _<_, _≤_}
 use lib.ListN.{length, getD, set}
 use Rattle.labels.specs.Label.{In, Sub}
-use Rattle.labels.specs.declared.Found.{Found}
-use Rattle.labels.specs.declared.Found.the-variants.{At, Nothing}
+use Rattle.labels.specs.declared.FoundOutput.{FoundOutput}
+use Rattle.labels.specs.declared.FoundOutput.the-variants.{At, Nothing}
 use Rattle.matching.specs.declared.Asked.{Asked}
 use Rattle.matching.specs.declared.Asked.the-variants.{Freed, Stuck}
 use Rattle.matching.specs.Tables.{triedOf, Held, Holds, joined, Matching}
@@ -38,7 +38,7 @@ pub record Grown (E : ℕ → ℕ → Type 0) (by : List ℕ) (word base before 
   pub from : (k : ℕ) → In r k → In before k ⊎ ((j i : ℕ) × In word j × Held by (base + j) i × E i k)
 
 -- an output of the word is free, or none is
-abbrev pub Reaches : (ℕ → ℕ → Type 0) → List ℕ → ℕ → ℕ → ℕ → Found → ℕ → Type 0
+abbrev pub Reaches : (ℕ → ℕ → Type 0) → List ℕ → ℕ → ℕ → ℕ → FoundOutput → ℕ → Type 0
 Reaches E by word base before (At j) r = (k : ℕ) × In word k × (j .0 ≡ base + k) × (j .0 < base + 64) × (getD by (j .0) 0 ≡ 0)
 Reaches E by word base before Nothing r = Grown E by word base before r
 
@@ -48,7 +48,7 @@ pub record Further (E : ℕ → ℕ → Type 0) (by : List ℕ) (wave r : ℕ) :
   pub from : (k : ℕ) → In r k → (j i : ℕ) × In wave j × Held by j i × E i k
 
 -- an output of the wave is free, or none is
-abbrev pub Leads : (ℕ → ℕ → Type 0) → List ℕ → ℕ → Found → ℕ → Type 0
+abbrev pub Leads : (ℕ → ℕ → Type 0) → List ℕ → ℕ → FoundOutput → ℕ → Type 0
 Leads E by wave (At j) r = In wave (j .0) × (j .0 < 128) × (getD by (j .0) 0 ≡ 0)
 Leads E by wave Nothing r = Further E by wave r
 

@@ -4,18 +4,15 @@ use mathlib.Core.List.{List}
 use Prim.Native.Nat.{ℕ, _+_, _<_, _≤_}
 use lib.ListN.{length, getD}
 use Rattle.labels.specs.Label.{In}
-use Rattle.labels.specs.Wide.{two, outputsOf}
+use Rattle.labels.specs.Wide.{outputsOf}
+use Rattle.labels.specs.Rows.{rowOf}
 use Rattle.matching.specs.declared.Tried.{Tried}
 
 -- the set of outputs already tried
 abbrev pub triedOf : Tried → ℕ
 triedOf t = outputsOf (t .outputs)
 
--- the outputs that input i may take: its label of two words
-abbrev pub rowOf : List ℕ → List ℕ → ℕ → ℕ
-rowOf lows highs i = two (getD highs i 0) (getD lows i 0)
-
--- input i may take output j
+-- input i may take output j: it is in the label of that input
 abbrev pub Allowed : List ℕ → List ℕ → ℕ → ℕ → Type 0
 Allowed lows highs i j = In (rowOf lows highs i) j
 

@@ -3,17 +3,19 @@
 // dictionary order. The matching is kept from setting to setting: only inputs that hold nothing ask again, and only those from the
 // first of them on are settled anew where the others can stay. Which pairs are allowed, and what is taken off them, is left to the planners.
 use labels::Found;
+use labels::FoundOutput;
 use labels::Label;
-use labels::Wide;
+use labels::Outputs;
+use labels::row_of;
 use switch::InputPort;
 use switch::OutputPort;
 ghost use mathlib.Core.Path.{_≡_};
 ghost use mathlib.Core.Logic.{_⊎_};
 ghost use Prim.Native.Nat.{ℕ, _+_, _<_, _≤_};
 ghost use lib.ListN.{length, set};
-ghost use Rattle.labels.specs.Label.{In, Sub, Marked, Lowest, Union};
-ghost use Rattle.labels.specs.Wide.{outputsOf};
-ghost use Rattle.matching.specs.Tables.{triedOf, rowOf, Allowed, Rows, joined};
+ghost use Rattle.labels.specs.Label.{In, Sub, Marked, Union};
+ghost use Rattle.labels.specs.Wide.{outputsOf, Untried};
+ghost use Rattle.matching.specs.Tables.{triedOf, Allowed, Rows, joined};
 ghost use Rattle.matching.specs.Search.{Ports, Reaches, Leads, AskPre, Wave, AskPost, Movable, Mover, Handed, Free};
 ghost use Rattle.matching.specs.Chosen.{Fixed, CompletePre, CompletePost, Lowering, Lowered, Dead, SettledPost, SettledAll, Settled, Ready, Chosen, HoldsPost};
 
@@ -25,7 +27,7 @@ const FREE: u8 = 0;
 
 // The outputs already tried. The set goes into the search and comes back larger, or as it was where none is left to try.
 struct Tried {
-    outputs: Wide,
+    outputs: Outputs,
 }
 
 // What asking came to: one of the outputs asked for was made free, or none can be, whatever is tried by then.
@@ -42,14 +44,14 @@ struct Given {
 
 // What a wave of outputs leads to: to one of them that is free, or to all that their holders may take.
 struct Reached {
-    free: Found,
-    outputs: Wide,
+    free: FoundOutput,
+    outputs: Outputs,
 }
 
 // Where joining inputs ended: whether all are joined, the outputs that are held, and what the one that is stuck has tried.
 struct Seats {
     full: bool,
-    held: Wide,
+    held: Outputs,
     seen: Tried,
 }
 
@@ -67,7 +69,7 @@ impl Tried {
         ensures { λ r. ⌜ ((k : ℕ) → In (triedOf r) k → ⊥) ⌝ }
     {
         Tried {
-            outputs: Wide::none(),
+            outputs: Outputs::none(),
         }
     }
 
@@ -83,7 +85,7 @@ impl Tried {
     }
 
     // A wave of outputs is tried too.
-    fn with(self, wave: Wide) -> Tried
+    fn with(self, wave: Outputs) -> Tried
         ensures { λ r. ⌜ Union (triedOf self) (outputsOf wave) (triedOf r) ⌝ }
     {
         let seen = self.outputs;
@@ -93,8 +95,8 @@ impl Tried {
     }
 
     // The lowest output of the row that is not tried.
-    fn next(self, row: Wide) -> Found
-        ensures { λ r. ⌜ Lowest 128 (outputsOf row) (triedOf self) r ⌝ }
+    fn next(self, row: Outputs) -> FoundOutput
+        ensures { λ r. ⌜ Untried 128 (outputsOf row) (triedOf self) r ⌝ }
     {
         let seen = self.outputs;
         row.lowest_untried(seen)
@@ -159,11 +161,11 @@ fn give_way(out: &[u8], from: usize, seen: Tried) -> usize
 }
 
 // Every output but those of the n that nobody holds, which can be had at once.
-fn held_outputs(by: &[u8], n: usize) -> Wide
+fn held_outputs(by: &[u8], n: usize) -> Outputs
     requires { ⌜ (length (now by) ≡ 128) × (n ≤ 128) ⌝ }
     ensures { λ r. ⌜ Free 128 (now (by .entry)) (outputsOf r) ⌝ }
 {
-    let mut held = Wide::every();
+    let mut held = Outputs::every();
     for k in 0..n {
         if by[k] == FREE {
             held = held.without(OutputPort(k));
@@ -178,7 +180,7 @@ fn complete(
     highs: &[u64],
     by: &mut [u8],
     out: &mut [u8],
-    held: Wide,
+    held: Outputs,
     fixed: Tried,
     from: usize,
 ) -> Seats
@@ -205,7 +207,7 @@ fn seat(
     highs: &[u64],
     by: &mut [u8],
     out: &mut [u8],
-    held: Wide,
+    held: Outputs,
     fixed: Tried,
     i: InputPort,
 ) -> Seats
@@ -294,7 +296,7 @@ fn settle(
     loop {
         let lower = row.below(own);
         let f = dead.next(lower);
-        let Found::At(lowest) = f else {
+        let FoundOutput::At(lowest) = f else {
             return Prefix {
                 fixed: fixed.mark(own),
                 dead: dead.mark(own),
@@ -317,12 +319,12 @@ fn settle(
 }
 
 // The lowest of these outputs alone, or all of them.
-fn lowest_or_all(outputs: Wide, lowest: OutputPort, alone: bool) -> Wide
+fn lowest_or_all(outputs: Outputs, lowest: OutputPort, alone: bool) -> Outputs
     requires { ⌜ (lowest .0 < 128) × In (outputsOf outputs) (lowest .0) ⌝ }
     ensures { λ r. ⌜ Sub (outputsOf r) (outputsOf outputs) × In (outputsOf r) (lowest .0) ⌝ }
 {
     if alone {
-        return Wide::none().mark(lowest);
+        return Outputs::none().mark(lowest);
     }
     outputs
 }
@@ -347,7 +349,7 @@ fn ask_lower(
     by: &mut [u8],
     out: &mut [u8],
     dead: Tried,
-    lower: Wide,
+    lower: Outputs,
     own: OutputPort,
     i: InputPort,
 ) -> Asked
@@ -355,7 +357,7 @@ fn ask_lower(
     ensures { λ r. ⌜ Lowered 128 (length (now (lows .entry))) (Allowed (now (lows .entry)) (now (highs .entry))) (now (by .entry)) (now (out .entry)) (triedOf dead) (outputsOf lower) (own .0) (i .0) (now (by .exit)) (now (out .exit)) r ⌝ }
 {
     release(by, own);
-    let held = Wide::every().without(own);
+    let held = Outputs::every().without(own);
     let a = ask_inputs(lows, highs, by, out, held, dead, lower);
     match a {
         Asked::Stuck(seen) => {
@@ -375,24 +377,24 @@ fn ask_inputs(
     highs: &[u64],
     by: &mut [u8],
     out: &mut [u8],
-    held: Wide,
+    held: Outputs,
     tried: Tried,
-    outputs: Wide,
+    outputs: Outputs,
 ) -> Asked
     requires { ⌜ Rows 128 (now lows) (now highs) × AskPre 128 (length (now lows)) (Allowed (now lows) (now highs)) (now by) (now out) (outputsOf held) (triedOf tried) ⌝ }
     ensures { λ r. ⌜ AskPost 128 (length (now (lows .entry))) (Allowed (now (lows .entry)) (now (highs .entry))) (now (by .entry)) (now (out .entry)) (triedOf tried) (outputsOf outputs) (now (by .exit)) (now (out .exit)) r ⌝ }
 {
     let s = outputs.lowest_untried(held);
     match s {
-        Found::At(spare) => Asked::Freed(Given {
+        FoundOutput::At(spare) => Asked::Freed(Given {
             output: spare,
             spent: spare,
         }),
-        Found::Nothing => {
+        FoundOutput::Nothing => {
             let f = tried.next(outputs);
             match f {
-                Found::Nothing => Asked::Stuck(tried),
-                Found::At(_) => ask_outputs(
+                FoundOutput::Nothing => Asked::Stuck(tried),
+                FoundOutput::At(_) => ask_outputs(
                     lows,
                     highs,
                     by,
@@ -412,9 +414,9 @@ fn ask_outputs(
     highs: &[u64],
     by: &mut [u8],
     out: &mut [u8],
-    held: Wide,
+    held: Outputs,
     tried: Tried,
-    wave: Wide,
+    wave: Outputs,
 ) -> Asked
     requires { ⌜ Rows 128 (now lows) (now highs) × AskPre 128 (length (now lows)) (Allowed (now lows) (now highs)) (now by) (now out) (outputsOf held) (triedOf tried) × Wave 128 (outputsOf held) (triedOf tried) (outputsOf wave) ⌝ }
     ensures { λ r. ⌜ AskPost 128 (length (now (lows .entry))) (Allowed (now (lows .entry)) (now (highs .entry))) (now (by .entry)) (now (out .entry)) (triedOf tried) (outputsOf wave) (now (by .exit)) (now (out .exit)) r ⌝ }
@@ -422,11 +424,11 @@ fn ask_outputs(
     let w = leads_to(lows, highs, by, wave);
     let f = w.free;
     match f {
-        Found::At(j) => Asked::Freed(Given {
+        FoundOutput::At(j) => Asked::Freed(Given {
             output: j,
             spent: j,
         }),
-        Found::Nothing => {
+        FoundOutput::Nothing => {
             let a = ask_inputs(lows, highs, by, out, held, tried.with(wave), w.outputs);
             match a {
                 Asked::Stuck(seen) => Asked::Stuck(seen),
@@ -445,15 +447,16 @@ fn ask_outputs(
 }
 
 // What a wave of outputs leads to, word by word.
-fn leads_to(lows: &[u64], highs: &[u64], by: &[u8], wave: Wide) -> Reached
+fn leads_to(lows: &[u64], highs: &[u64], by: &[u8], wave: Outputs) -> Reached
     requires { ⌜ Rows 128 (now lows) (now highs) × Ports 128 (length (now lows)) (now by) ⌝ }
     ensures { λ r. ⌜ Leads (Allowed (now (lows .entry)) (now (highs .entry))) (now (by .entry)) (outputsOf wave) (r .free) (outputsOf (r .outputs)) ⌝ }
 {
-    let low = word_leads_to(lows, highs, by, wave.low, 0, Wide::none());
+    let words = wave.0;
+    let low = word_leads_to(lows, highs, by, words.low, 0, Outputs::none());
     let f = low.free;
     match f {
-        Found::At(_) => low,
-        Found::Nothing => word_leads_to(lows, highs, by, wave.high, 64, low.outputs),
+        FoundOutput::At(_) => low,
+        FoundOutput::Nothing => word_leads_to(lows, highs, by, words.high, 64, low.outputs),
     }
 }
 
@@ -464,7 +467,7 @@ fn word_leads_to(
     by: &[u8],
     word: Label,
     base: usize,
-    before: Wide,
+    before: Outputs,
 ) -> Reached
     requires { ⌜ Rows 128 (now lows) (now highs) × Ports 128 (length (now lows)) (now by) × (base + 64 ≤ 128) ⌝ }
     ensures { λ r. ⌜ Reaches (Allowed (now (lows .entry)) (now (highs .entry))) (now (by .entry)) (word .0) base (outputsOf before) (r .free) (outputsOf (r .outputs)) ⌝ }
@@ -472,18 +475,18 @@ fn word_leads_to(
     let mut rest = word;
     let mut outputs = before;
     loop {
-        let f = rest.lowest_untried(Label::none());
+        let f = rest.lowest();
         let Found::At(j) = f else {
             return Reached {
-                free: Found::Nothing,
+                free: FoundOutput::Nothing,
                 outputs: outputs,
             };
         };
-        let k = base + j.0;
+        let k = base + j;
         let v = by[k];
         if v == FREE {
             return Reached {
-                free: Found::At(OutputPort(k)),
+                free: FoundOutput::At(OutputPort(k)),
                 outputs: outputs,
             };
         }
@@ -499,7 +502,7 @@ fn hand_on(
     highs: &[u64],
     by: &mut [u8],
     out: &mut [u8],
-    wave: Wide,
+    wave: Outputs,
     wanted: OutputPort,
 ) -> OutputPort
     requires { ⌜ Rows 128 (now lows) (now highs) × (length (now out) ≡ 128) × (wanted .0 < 128) × Movable 128 (length (now lows)) (Allowed (now lows) (now highs)) (now by) (outputsOf wave) (wanted .0) ⌝ }
@@ -514,14 +517,14 @@ fn hand_on(
 }
 
 // The lowest of these outputs whose holder may take the wanted one.
-fn mover(lows: &[u64], highs: &[u64], by: &[u8], wave: Wide, wanted: OutputPort) -> OutputPort
+fn mover(lows: &[u64], highs: &[u64], by: &[u8], wave: Outputs, wanted: OutputPort) -> OutputPort
     requires { ⌜ Rows 128 (now lows) (now highs) × (wanted .0 < 128) × Movable 128 (length (now lows)) (Allowed (now lows) (now highs)) (now by) (outputsOf wave) (wanted .0) ⌝ }
     ensures { λ r. ⌜ Mover (Allowed (now (lows .entry)) (now (highs .entry))) (now (by .entry)) (outputsOf wave) (wanted .0) (r .0) ⌝ }
 {
     let mut rest = wave;
     loop {
-        let f = rest.lowest_untried(Wide::none());
-        let Found::At(j) = f else {
+        let f = rest.lowest();
+        let FoundOutput::At(j) = f else {
             return wanted;
         };
         let k = j.0;
@@ -553,16 +556,4 @@ fn output_of(out: &[u8], i: InputPort) -> OutputPort
 {
     let k = i.0;
     OutputPort(out[k] as usize)
-}
-
-// The outputs that input i may take.
-fn row_of(lows: &[u64], highs: &[u64], i: InputPort) -> Wide
-    requires { ⌜ Rows 128 (now lows) (now highs) × (i .0 < length (now lows)) ⌝ }
-    ensures { λ r. ⌜ outputsOf r ≡ rowOf (now (lows .entry)) (now (highs .entry)) (i .0) ⌝ }
-{
-    let k = i.0;
-    Wide {
-        low: Label(lows[k]),
-        high: Label(highs[k]),
-    }
 }

@@ -1,10 +1,10 @@
 // Peeling a working copy: filled and labelled, then one full setting after the other taken off it, the first in dictionary order each time.
 // A step promises that what is left to plan is the record it took, held for the smallest cell, and then what is left afterwards.
 // The matching is kept from step to step: only emptied pairs are released. What becomes of the records is left to the planners.
-use labels::Label;
-use labels::Wide;
+use labels::row_of;
 use matching::next_setting;
 use matching::release;
+use switch::InputPort;
 use switch::OutputPort;
 ghost use mathlib.Core.Path.{_≡_};
 ghost use Prim.Native.Nat.{_<_};
@@ -58,10 +58,7 @@ fn release_emptied(n: usize, lows: &[u64], highs: &[u64], by: &mut [u8], out: &[
     while 0 < i {
         i -= 1;
         let j = OutputPort(out[i] as usize);
-        let row = Wide {
-            low: Label(lows[i]),
-            high: Label(highs[i]),
-        };
+        let row = row_of(lows, highs, InputPort(i));
         if !row.has(j) {
             release(by, j);
             kept = i;

@@ -13,16 +13,16 @@ use Rattle.rules.specs.Quick.{quickPlan}
 use Rattle.rules.proofs.QuickFrom.{quick-cong}
 use Rattle.work.specs.Level.{Sized}
 use Rattle.work.specs.Labelled.{Labelled}
-use Rattle.labels.specs.Label.{In}
-use Rattle.labels.specs.Wide.{outputsOf}
+use Rattle.labels.specs.Label.{Upto}
+use Rattle.labels.specs.Wide.{inputsOf}
 use Rattle.slot.specs.declared.Rest.{Rest}
 use Rattle.slot.specs.Filled.{leftIn, leftover}
 use Rattle.quick.specs.Lent.{Small, Loaded}
 
 module _ (N : ℕ) (d w : List ℕ) (m : Small N d) where
   pub loaded : (w' lows' highs' : List ℕ) (rest : Rest) → w' ≡ d ++ w → Sized N w' → Labelled N w' lows' highs' → rest .left ≡ allSlots N (cell N d)
-      → ((k : ℕ) → In (outputsOf (rest .inputs)) k → k < N) → ((k : ℕ) → k < N → In (outputsOf (rest .inputs)) k) → Loaded N d w' lows' highs' rest
-  loaded w' lows' highs' rest e s l a i o = record { copy = record { sized = s; labels = l; all = a ∙ all; inside = i; others = λ k q n j _. absurd (n (o k q)) }; same = same }
+      → Upto N (inputsOf (rest .inputs)) → Loaded N d w' lows' highs' rest
+  loaded w' lows' highs' rest e s l a u = record { copy = record { sized = s; labels = l; all = a ∙ all; inside = u .only; others = λ k q n j _. absurd (n (u .all k q)) }; same = same }
     where
       same : (i j : ℕ) → i < N → j < N → cell N w' i j ≡ cell N d i j
       same = subst (λ (x : List ℕ). (i j : ℕ) → i < N → j < N → cell N x i j ≡ cell N d i j) (sym e) (cell-append N d w (m .size))

@@ -5,12 +5,12 @@
 use demand::Checked;
 use demand::asked_slots;
 use demand::check_demand;
+use labels::Inputs;
 use records::EDITION;
 use records::HEAD;
 use records::IDLE;
 use records::put_record;
 use slot::Rest;
-use slot::all_inputs;
 use slot::fill_slot;
 use switch::Counts;
 use switch::Outcome;
@@ -187,9 +187,8 @@ fn load(n: usize, cells: &[u32], work: &mut [u32], lows: &mut [u64], highs: &mut
 {
     copy(cells, work);
     label_rows(work, n, lows, highs);
-    let inputs = all_inputs(n);
     Rest {
-        inputs: inputs,
+        inputs: Inputs::first(n),
         left: asked_slots(n, cells),
     }
 }

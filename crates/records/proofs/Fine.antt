@@ -9,7 +9,7 @@ use native.Mathlib.Omega.{arith}
 use lib.Dec.{eqb}
 use lib.ListN.{getD}
 use borrow.Author.Tests.{lt-ltb, le-ltb, eq-eqb, ne-eqb}
-use Rattle.labels.specs.Label.{digit, In, Marked, hasOutput}
+use Rattle.labels.specs.Label.{digit, In, Marked, isIn}
 use Rattle.records.specs.Record.{all, any, hold, outputs, inside, new, later, outputsFine, wellFormed}
 use Rattle.records.proofs.Every.{all-more, all-fails, any-more}
 
@@ -56,7 +56,7 @@ module _ (o : List ℕ) (i : ℕ) where
   unfolding new
   new-fails ne f = rw (ne-eqb _ _ ne, f)
 
-has-marked : {l j r : ℕ} → Marked l j r → (v : ℕ) → hasOutput r v ≡ (hasOutput l v || eqb j v)
+has-marked : {l j r : ℕ} → Marked l j r → (v : ℕ) → isIn r v ≡ (isIn l v || eqb j v)
 has-marked {l} {j} {r} m v =
     dite (ℕ-discrete v j)
     (λ e. rw (eq-eqb j v (sym e), or-true, eq-eqb (digit r v) 1 (ap (digit r) e ∙ m .put)))
@@ -68,7 +68,7 @@ has-marked {l} {j} {r} m v =
 pub record Passed (N s : ℕ) (o : List ℕ) (i : ℕ) : Type 0 where
   pub in-range : all i (inside N o) ≡ true
   pub once : all i (new o) ≡ true
-  pub holds : (v : ℕ) → v < N → hasOutput s v ≡ earlier o i v
+  pub holds : (v : ℕ) → v < N → isIn s v ≡ earlier o i v
 
 pub passed-none : (N s : ℕ) (o : List ℕ) → ((k : ℕ) → In s k → ⊥) → Passed N s o 0
 unfolding all any
@@ -76,7 +76,7 @@ passed-none N s o h = record { in-range = refl; once = refl; holds = λ v l. ne-
 
 -- the next output is v
 module _ (N s : ℕ) (o : List ℕ) (i v : ℕ) (e : v ≡ getD o i 0) (p : Passed N s o i) where
-  pub passed-below : (t : ℕ) → v < N → hasOutput s v ≡ false → Marked s v t → Passed N t o (i + 1)
+  pub passed-below : (t : ℕ) → v < N → isIn s v ≡ false → Marked s v t → Passed N t o (i + 1)
   passed-below t l new-one m = record {
     in-range = all-more i (inside N o) (p .in-range) (inside-below N o i (omega arith));
     once = all-more i (new o) (p .once) (new-first o i (ap (earlier o i) (sym e) ∙ sym (p .holds v l) ∙ new-one));
@@ -90,7 +90,7 @@ module _ (N s : ℕ) (o : List ℕ) (i v : ℕ) (e : v ≡ getD o i 0) (p : Pass
     holds = λ w lw. rw (any-more, p .holds w lw, ne-eqb (getD o i 0) w (λ r. omega arith), or-false);
   }
 
-  pub passed-twice : i < N → N ≤ 255 → v < N → hasOutput s v ≡ true → false ≡ (all N (inside N o) && all N (new o))
+  pub passed-twice : i < N → N ≤ 255 → v < N → isIn s v ≡ true → false ≡ (all N (inside N o) && all N (new o))
   passed-twice li few l old =
       sym (rw (all-fails N (new o) i li (new-fails o i (λ q. omega arith) (ap (earlier o i) (sym e) ∙ sym (p .holds v l) ∙ old)), and-false))
 

@@ -1,7 +1,7 @@
 // One plan record: when it is well formed, its hold and outputs, and writing one, as document 01 has them.
 // The description in specs/ is over a record's width and its edition byte, and so are the functions below the public call.
 // Writing promises its whole answer and every byte of lent memory, for any N; plans of many records are left to the crates above.
-use labels::Wide;
+use labels::Outputs;
 use switch::Counts;
 use switch::Outcome;
 use switch::OutputPort;
@@ -99,7 +99,7 @@ fn setting_fine(outputs: &[u8], n: usize) -> bool
     requires { ⌜ (n ≤ 128) × (n ≤ length (now outputs)) ⌝ }
     ensures { λ r. ⌜ r ≡ (all n (inside n (now (outputs .entry))) && all n (new (now (outputs .entry)))) ⌝ }
 {
-    let mut seen = Wide::none();
+    let mut seen = Outputs::none();
     for i in 0..n {
         let b = outputs[i];
         let j = OutputPort(wide(b));

@@ -1,16 +1,16 @@
--- The inputs still ahead are visited lowest first, up to the last one and then from input 0 on; those that are passed over have no slots left.
+-- Inputs that are visited lowest first, up to the last one and then from input 0 on, are those of the rule; the ones passed over have no slots left.
 use mathlib.Core.Path.{_≡_, sym, ap, _∙_, subst}
 use mathlib.Core.List.{List}
-use Prim.Native.Nat.{ℕ, zero, suc, _+_, _*_, _-_, _%_, _≤_, _<_}
+use Prim.Native.Nat.{ℕ, _+_, _-_, _%_, _≤_, _<_}
 use native.Mathlib.Nat.{mod-lt, mod-eq-of-lt, add-mod-mod, add-mod-right}
 use native.Mathlib.Omega.{arith}
-use lib.ListN.{length, getD}
+use lib.ListN.{length, getD, length-set}
+use lib.Seq.{getD-set-other}
 use Rattle.switch.specs.Demand.{cell}
-use Rattle.labels.specs.Label.{In, Sub, Cleared, Below, From, absent}
-use Rattle.labels.specs.Wide.{outputsOf}
-use Rattle.labels.proofs.Digits.{digit-lt, absent-most, absent-less}
+use Rattle.labels.specs.Label.{In, Sub, Cleared, Below, From, LowestAt}
+use Rattle.labels.specs.Wide.{inputsOf, outputsOf}
 use Rattle.slot.specs.declared.Turn.{Turn}
-use Rattle.slot.specs.Filled.{Copy, Turned}
+use Rattle.slot.specs.Filled.{Copy, Waiting, Turned, Visited, none, next}
 use Rattle.slot.proofs.Visits.{Visiting, visiting-none, visiting-next, visiting-skips}
 
 -- ---- parts of a set
@@ -85,151 +85,84 @@ module _ (N s : ℕ) (S : ℕ) (w₀ w lows highs out : List ℕ) (turn : Turn) 
   over : ((k : ℕ) → In r k → ⊥) → Visiting N s h w₀ w lows highs out turn
   over no-one = passed h here (omega arith) (λ x _ _. no-one x)
 
--- ---- where a slot stands
+-- ---- turns, one after the other
 
--- the inputs of S still to be visited after v visits: r up to the last input and then those before the first one, or r alone
-pub data Stage (N f S v r later : ℕ) : Type 0 where
-  on : v + f ≤ N → Cut S (v + f) N r → Cut S 0 f later → Stage N f S v r later
-  past : N ≤ v + f → v ≤ N → Cut S (v + f - N) f r → ((k : ℕ) → In later k → ⊥) → Stage N f S v r later
+-- the inputs of r are still ahead: their turns complete those of l
+pub record Ahead (N l : ℕ) (w₀ lows₀ highs₀ out₀ : List ℕ) (turn₀ : Turn) (r : ℕ) (w lows highs out : List ℕ) (turn : Turn) : Type 0 where
+  pub copy : Copy N (turn .rest) w lows highs
+  pub waits : Waiting N r out
+  pub work : length w ≡ length w₀
+  pub long : length out ≡ length out₀
+  pub rest : (w' lows' highs' out' : List ℕ) (turn' : Turn) → Visited N r w lows highs out turn w' lows' highs' out' turn' → Visited N l w₀ lows₀ highs₀ out₀ turn₀ w' lows' highs' out' turn'
 
-pub record Going (N s S : ℕ) (w₀ w lows highs out : List ℕ) (turn : Turn) (r later : ℕ) : Type 0 where
-  pub made : ℕ
-  pub visiting : Visiting N s made w₀ w lows highs out turn
-  pub empty : (i : ℕ) → i < N → (In S i → ⊥) → (j : ℕ) → j < N → cell N w₀ i j ≡ 0
-  pub stage : Stage N (s % N) S made r later
-
--- no visit yet
-pub going-start : (N s : ℕ) (w lows highs out : List ℕ) (turn : Turn) → Copy N (turn .rest) w lows highs → N ≤ length out → ((i : ℕ) → getD out i 255 ≡ 255)
-    → ((k : ℕ) → In (outputsOf (turn .taken)) k → ⊥) → (r later : ℕ) → From (outputsOf (turn .rest .inputs)) (s % N) r → Below (outputsOf (turn .rest .inputs)) (s % N) later
-    → Going N s (outputsOf (turn .rest .inputs)) w w lows highs out turn r later
-going-start N s w lows highs out turn c l o t r later f b = record {
-  made = 0;
-  visiting = visiting-none N s w lows highs out turn c l o t;
-  empty = c .others;
-  stage = on (omega (arith, mod-lt s (c .sized .some)))
-      (subst (λ (x : ℕ). Cut (outputsOf (turn .rest .inputs)) x N r) (let e : s % N ≡ 0 + s % N = omega arith in e) (cut-from (outputsOf (turn .rest .inputs)) (s % N) N r (c .inside) f))
-      (cut-below (outputsOf (turn .rest .inputs)) (s % N) later b);
+-- one less
+pub ahead-next : (N l : ℕ) (w₀ lows₀ highs₀ out₀ : List ℕ) (turn₀ : Turn) (r : ℕ) (w lows highs out : List ℕ) (turn : Turn) → Ahead N l w₀ lows₀ highs₀ out₀ turn₀ r w lows highs out turn
+    → (i r' : ℕ) → LowestAt 128 r i → Cleared r i r' → (w' lows' highs' out' : List ℕ) (turn' : Turn) → Turned N i w out turn w' lows' highs' out' turn' → length w' ≡ length w
+    → Ahead N l w₀ lows₀ highs₀ out₀ turn₀ r' w' lows' highs' out' turn'
+ahead-next N l w₀ lows₀ highs₀ out₀ turn₀ r w lows highs out turn g i r' m d w' lows' highs' out' turn' t z = record {
+  copy = t .copy;
+  waits = λ k h. let b = g .waits k (d .less k h) in (b .0, ap (λ (o : List ℕ). getD o k 255) (t .seated) ∙ getD-set-other out i k _ 255 (λ e. d .gone (subst (In r') e h)) ∙ b .1);
+  work = z ∙ g .work;
+  long = ap length (t .seated) ∙ length-set out i _ ∙ g .long;
+  rest = λ w₁ lows₁ highs₁ out₁ turn₁ k. g .rest w₁ lows₁ highs₁ out₁ turn₁ (next m d t k);
 }
 
-module _ (N s S : ℕ) (w₀ w lows highs out : List ℕ) (turn : Turn) (r later : ℕ) (g : Going N s S w₀ w lows highs out turn r later) where
+-- ---- the run's turns
+
+-- the inputs of S from the run's first on have had their turns: all its visits are made
+module _ (N s S : ℕ) (w₀ : List ℕ) (f b h : ℕ) (top : h ≤ N) (empty : (i : ℕ) → i < N → (In S i → ⊥) → (j : ℕ) → j < N → cell N w₀ i j ≡ 0) where
+  pub visits-made : {r : ℕ} {w lows highs out w' lows' highs' out' : List ℕ} {turn turn' : Turn} → Visited N r w lows highs out turn w' lows' highs' out' turn'
+      → (v : ℕ) → v ≤ h → b ≤ v + f → ((q : ℕ) → v ≤ q → q < h → (q + s) % N ≡ q + f - b) → Visiting N s v w₀ w lows highs out turn → Cut S (v + f - b) (h + f - b) r
+      → Visiting N s h w₀ w' lows' highs' out' turn'
+  visits-made {r} {w} {lows} {highs} {out} {turn = turn} (none n) v here base port g c = over N s S w₀ w lows highs out turn v f b h r top here base port g empty c n
+  visits-made {r} {w} {lows} {highs} {out} {turn = turn} (next {i = i} {r = r'} {w₁ = wᵢ} {lows₁ = lowsᵢ} {highs₁ = highsᵢ} {out₁ = outᵢ} {turn₁ = turnᵢ} m d t k) v here base port g c =
+      let x = reached N s S w₀ w lows highs out turn v f b h r top here base port g empty c i (m .here) (m .past) in
+      let lo : v + f - b ≤ i = c .from i (m .here) in
+      let e : i + 1 ≡ i + b - f + 1 + f - b = omega (arith, x .1, x .2) in
+      visits-made k (i + b - f + 1) (omega (arith, x .2)) (omega (arith, x .1)) (λ q p. port q (omega (arith, x .1)))
+      (visiting-next N s (i + b - f) w₀ w lows highs out turn (omega (arith, x .2)) (x .0) wᵢ lowsᵢ highsᵢ outᵢ turnᵢ (subst (λ (y : ℕ). Turned N y w out turn wᵢ lowsᵢ highsᵢ outᵢ turnᵢ) (sym (x .3)) t))
+      (subst (λ (y : ℕ). Cut S y (h + f - b) r') e (cut-lowered S (v + f - b) (h + f - b) r i r' c (m .here) (m .past) d))
+
+-- ---- a slot: from input s mod N on, and then from input 0 on
+
+module _ (N s : ℕ) (w₀ lows₀ highs₀ out₀ : List ℕ) (begun : Turn) (copy : Copy N (begun .rest) w₀ lows₀ highs₀) (wide : N ≤ length out₀) (idle : (i : ℕ) → getD out₀ i 255 ≡ 255) where
   abbrev f : ℕ
   f = s % N
 
+  abbrev S : ℕ
+  S = inputsOf (begun .rest .inputs)
+
   pos : 0 < N
-  pos = g .visiting .copy .sized .some
+  pos = copy .sized .some
 
   small : f < N
   small = mod-lt s pos
 
-  on-port : (q : ℕ) → q < N - f → (q + s) % N ≡ q + f - 0
-  on-port q l = port-on N s pos q (omega arith) ∙ (let e : q + f ≡ q + f - 0 = omega arith in e)
+  module _ (ahead : ℕ) (from : From S (s % N) ahead) where
+    pub first-waits : Waiting N ahead out₀
+    first-waits i h = (copy .inside i (from .less i h), idle i)
 
-  past-port : (v q : ℕ) → N ≤ v + f → v ≤ q → q < N → (q + s) % N ≡ q + f - N
-  past-port v q h l t = port-past N s pos q t (omega arith)
+    module _ (w lows highs out : List ℕ) (half : Turn) (free : (k : ℕ) → k < 128 → In (outputsOf (begun .free)) k) (first : Visited N ahead w₀ lows₀ highs₀ out₀ begun w lows highs out half) where
+      pub first-half : Visiting N s (N - s % N) w₀ w lows highs out half
+      first-half =
+          visits-made N s S w₀ f 0 (N - f) (omega arith) (copy .others) first 0 (omega arith) (omega arith)
+          (λ q _ l. port-on N s pos q (omega arith) ∙ (let e : q + f ≡ q + f - 0 = omega arith in e))
+          (visiting-none N s w₀ lows₀ highs₀ out₀ begun copy wide idle free)
+          (subst (λ (x : ℕ). Cut S x (N - f + f - 0) ahead) (let e : f ≡ 0 + f - 0 = omega arith in e)
+          (subst (λ (x : ℕ). Cut S f x ahead) (let e : N ≡ N - f + f - 0 = omega (arith, small) in e) (cut-from S f N ahead (copy .inside) from)))
 
-  -- the inputs ahead as a run of visits sees them
-  on-cut : (v : ℕ) → v + f ≤ N → Cut S (v + f) N r → Cut S (v + f - 0) (N - f + f - 0) r
-  on-cut v l c = subst (λ (x : ℕ). Cut S x (N - f + f - 0) r) (let e : v + f ≡ v + f - 0 = omega arith in e) (subst (λ (x : ℕ). Cut S (v + f) x r) (let e : N ≡ N - f + f - 0 = omega arith in e) c)
+      module _ (later : ℕ) (below : Below S (s % N) later) where
+        around : (q : ℕ) → N - f ≤ q → q < N → (q + s) % N ≡ q + f - N
+        around q l h = port-past N s pos q h (omega arith)
 
-  past-cut : (v x : ℕ) → Cut S (v + f - N) f x → Cut S (v + f - N) (N + f - N) x
-  past-cut v x c = subst (λ (y : ℕ). Cut S (v + f - N) y x) (let e : f ≡ N + f - N = omega arith in e) c
+        pub second-waits : Waiting N later out
+        second-waits i h =
+            let l : i < f = below .small i h in
+            let e : i + (N - f) + f - N ≡ i = omega (arith, small) in
+            (omega (arith, l, small), subst (λ (x : ℕ). getD out x 255 ≡ 255) (around (i + (N - f)) (omega arith) (omega (arith, l)) ∙ e) (first-half .ahead (i + (N - f)) (omega arith) (omega (arith, l))))
 
-  first-cut : Cut S 0 f later → Cut S (N - f + f - N) f later
-  first-cut c = subst (λ (x : ℕ). Cut S x f later) (let e : 0 ≡ N - f + f - N = omega (arith, small) in e) c
-
-  -- the lowest input that is ahead is the next one to be visited
-  module _ (i : ℕ) (here : In r i) (lowest : (k : ℕ) → k < i → In r k → ⊥) where
-    next : (q : ℕ) × Visiting N s q w₀ w lows highs out turn × (q < N) × ((q + s) % N ≡ i) × ((r' : ℕ) → Cleared r i r' → Stage N f S (q + 1) r' later)
-    next = go (g .stage)
-      where
-        go : Stage N f S (g .made) r later → (q : ℕ) × Visiting N s q w₀ w lows highs out turn × (q < N) × ((q + s) % N ≡ i) × ((r' : ℕ) → Cleared r i r' → Stage N f S (q + 1) r' later)
-        go (on l c b) =
-            let x = reached N s S w₀ w lows highs out turn (g .made) f 0 (N - f) r (omega arith) (omega arith) (omega arith) (λ q _ t. on-port q t) (g .visiting) (g .empty) (on-cut (g .made) l c) i here lowest in (
-              i + 0 - f,
-              x .0,
-              omega (arith, x .2),
-              x .3,
-              λ r' d. on (omega (arith, c .below i here, c .from i here))
-                  (subst (λ (y : ℕ). Cut S y N r') (let e : i + 1 ≡ i + 0 - f + 1 + f = omega (arith, c .from i here) in e) (cut-lowered S (g .made + f) N r i r' c here lowest d)) b,
-            )
-        go (past h l c b) =
-            let x = reached N s S w₀ w lows highs out turn (g .made) f N N r (omega arith) l h (λ q a t. past-port (g .made) q h a t) (g .visiting) (g .empty) (past-cut (g .made) r c) i here lowest in
-            let m : f < N = small in (
-              i + N - f,
-              x .0,
-              x .2,
-              x .3,
-              λ r' d. past (omega arith) (omega (arith, x .2))
-                  (subst (λ (y : ℕ). Cut S y f r') (let e : i + 1 ≡ i + N - f + 1 + f - N = omega arith in e) (cut-lowered S (g .made + f - N) f r i r' c here lowest d)) b,
-            )
-
-    -- it can be visited
-    pub going-ready : Copy N (turn .rest) w lows highs × (i < N) × (N ≤ length out) × (getD out i 255 ≡ 255)
-    going-ready =
-        let n = next in (
-          n .1 .copy,
-          subst (λ (x : ℕ). x < N) (n .3) (mod-lt (n .0 + s) pos),
-          n .1 .seats .wide,
-          subst (λ (x : ℕ). getD out x 255 ≡ 255) (n .3) (n .1 .ahead (n .0) (omega arith) (n .2)),
-        )
-
-    -- and has been
-    pub going-next : (w' lows' highs' out' : List ℕ) (turn' : Turn) → Turned N i w out turn w' lows' highs' out' turn' → (r' : ℕ) → Cleared r i r'
-        → Going N s S w₀ w' lows' highs' out' turn' r' later
-    going-next w' lows' highs' out' turn' t r' d =
-        let n = next in
-        record {
-          made = n .0 + 1;
-          visiting = visiting-next N s (n .0) w₀ w lows highs out turn (n .2) (n .1) w' lows' highs' out' turn' (subst (λ (x : ℕ). Turned N x w out turn w' lows' highs' out' turn') (sym (n .3)) t);
-          empty = g .empty;
-          stage = n .4 r' d;
-        }
-
-  module _ (none : (k : ℕ) → In r k → ⊥) where
-    on-over : g .made + f ≤ N → Cut S (g .made + f) N r → Visiting N s (N - f) w₀ w lows highs out turn
-    on-over l c = over N s S w₀ w lows highs out turn (g .made) f 0 (N - f) r (omega arith) (omega arith) (omega arith) (λ q _ t. on-port q t) (g .visiting) (g .empty) (on-cut (g .made) l c) none
-
-    -- none is left up to the last input: it goes on with those before the first one
-    pub going-around : (j : ℕ) → In later j → (r' : ℕ) → ((k : ℕ) → In r' k → ⊥) → Going N s S w₀ w lows highs out turn later r'
-    going-around j e r' no-one = go (g .stage)
-      where
-        go : Stage N f S (g .made) r later → Going N s S w₀ w lows highs out turn later r'
-        go (on l c b) = record { made = N - f; visiting = on-over l c; empty = g .empty; stage = past (omega (arith, small)) (omega arith) (first-cut b) no-one }
-        go (past h l c b) = absurd (b j e)
-
-    -- none is left at all: every input has had its turn
-    pub going-end : ((k : ℕ) → In later k → ⊥) → Visiting N s N w₀ w lows highs out turn
-    going-end last = go (g .stage)
-      where
-        go : Stage N f S (g .made) r later → Visiting N s N w₀ w lows highs out turn
-        go (on l c b) =
-            over N s S w₀ w lows highs out turn (N - f) f N N later (omega arith) (omega arith) (omega (arith, small)) (λ q a t. past-port (N - f) q (omega (arith, small)) a t) (on-over l c) (g .empty)
-            (past-cut (N - f) later (first-cut b)) last
-        go (past h l c b) = over N s S w₀ w lows highs out turn (g .made) f N N r (omega arith) l h (λ q a t. past-port (g .made) q h a t) (g .visiting) (g .empty) (past-cut (g .made) r c) none
-
-  -- they are all ports of the switch
-  pub going-inside : ((k : ℕ) → In r k → k < length out) × ((k : ℕ) → In later k → k < length out)
-  going-inside = go (g .stage)
-    where
-      go : Stage N f S (g .made) r later → ((k : ℕ) → In r k → k < length out) × ((k : ℕ) → In later k → k < length out)
-      go (on l c b) = (λ k h. omega (arith, c .below k h, g .visiting .seats .wide), λ k h. omega (arith, b .below k h, g .visiting .seats .wide, small))
-      go (past l t c b) = (λ k h. omega (arith, c .below k h, g .visiting .seats .wide, small), λ k h. absurd (b k h))
-
--- ---- how many are left to visit: those that come later count twice, so that going on with them is a step too
-
-abbrev pub count : ℕ → ℕ
-count r = 128 - absent 128 r
-
-abbrev pub to-visit : ℕ → ℕ → ℕ
-to-visit r later = count r + 2 * count later
-
-absent-all : (d l : ℕ) → ((k : ℕ) → In l k → ⊥) → absent d l ≡ d
-unfolding absent
-absent-all zero l h = omega arith
-absent-all (suc d) l h = omega (arith, absent-all d l h, digit-lt l d, h d)
-
-pub fewer-ahead : (r i r' later : ℕ) → i < 128 → In r i → Cleared r i r' → to-visit r' later < to-visit r later
-fewer-ahead r i r' later h e d = omega (arith, absent-most 128 r', absent-less r' r (d .less) 128 i h (d .gone) e)
-
-pub fewer-around : (r later j r' : ℕ) → j < 128 → In later j → ((k : ℕ) → In r' k → ⊥) → to-visit later r' < to-visit r later
-fewer-around r later j r' h e n = omega (arith, absent-all 128 r' n, absent-less r' later (λ k x. absurd (n k x)) 128 j h (n j) e)
+        pub second-half : (w' lows' highs' out' : List ℕ) (whole : Turn) → Visited N later w lows highs out half w' lows' highs' out' whole → Visiting N s N w₀ w' lows' highs' out' whole
+        second-half w' lows' highs' out' whole second =
+            visits-made N s S w₀ f N N (omega arith) (copy .others) second (N - f) (omega arith) (omega (arith, small)) around first-half
+            (subst (λ (x : ℕ). Cut S x (N + f - N) later) (let e : 0 ≡ N - f + f - N = omega (arith, small) in e)
+            (subst (λ (x : ℕ). Cut S 0 x later) (let e : f ≡ N + f - N = omega arith in e) (cut-below S f later below)))

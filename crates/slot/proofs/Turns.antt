@@ -1,27 +1,24 @@
--- An input's label has the outputs with slots left for it, so its lowest that is not taken is what the rule gives the input.
+-- An input's label has the outputs with slots left for it, so the lowest that it has in common with the free ones is what the rule gives the input.
 use mathlib.Core.Path.{_≡_, sym, ap, _∙_, subst}
-use mathlib.Core.Logic.{_≢_, inl, inr}
-use mathlib.Core.Bool.{true, false}
+use mathlib.Core.Logic.{_≢_}
+use mathlib.Core.Bool.{true, false, not}
 use mathlib.Core.List.{List}
-use Prim.Native.Nat.{ℕ, _+_, _*_, _-_, _^_, _≤_, _<_}
-use native.Mathlib.Decide.{ℕ-discrete, decLt}
+use Prim.Native.Nat.{ℕ, _+_, _*_, _-_, _≤_, _<_}
+use native.Mathlib.Decide.{ℕ-discrete}
 use native.Mathlib.Omega.{arith}
 use lib.ListN.{length, getD, set, length-set}
 use lib.Seq.{set-getD}
-use lib.Dec.{T, eqb}
+use lib.Dec.{T}
 use borrow.Author.Tests.{eq-eqb, ne-eqb}
 use Rattle.counting.specs.Matrix.{row}
 use Rattle.counting.proofs.Sum.{sum-at}
 use Rattle.counting.proofs.Matrix.{Raised, raised-all}
 use Rattle.switch.specs.Demand.{cell}
 use Rattle.switch.proofs.Demand.{set-lowered}
-use Rattle.labels.specs.declared.Wide.{Wide}
-use Rattle.labels.specs.declared.Found.{Found}
-use Rattle.labels.specs.declared.Found.the-variants.{At, Nothing}
-use Rattle.labels.specs.Label.{digit, In, Sub, hasOutput, Marked, Cleared, ClearedIf, Lowest, LowestAt}
-use Rattle.labels.specs.Wide.{two, outputsOf}
-use Rattle.labels.proofs.Digits.{digit-in}
-use Rattle.labels.proofs.Words.{high, lowest-low, nothing}
+use Rattle.labels.specs.declared.Inputs.{Inputs}
+use Rattle.labels.specs.declared.Outputs.{Outputs}
+use Rattle.labels.specs.Label.{digit, In, Cleared, Common, LowestAt}
+use Rattle.labels.specs.Wide.{inputsOf, outputsOf}
 use Rattle.rules.specs.Search.{put}
 use Rattle.rules.specs.Peel.{peel}
 use Rattle.rules.specs.Quick.{may}
@@ -29,60 +26,32 @@ use Rattle.rules.proofs.Ports.{put-same, put-other}
 use Rattle.rules.proofs.Peel.{peel-at, peel-off}
 use Rattle.rules.proofs.Slot.{lowest-at, lowest-none, may-yes, may-is}
 use Rattle.slot.specs.declared.Turn.{Turn}
-use Rattle.work.specs.Labelled.{labelOf, RowOf, TakePre, TakePost}
-use Rattle.work.proofs.Labels.{taken-zero, taken-some}
-use Rattle.slot.specs.Filled.{leftIn, Copy, turnOf, Turned, StillAsking}
+use Rattle.work.specs.Labelled.{RowOf, TakePost}
+use Rattle.slot.specs.Filled.{leftIn, Copy, takenOf, turnOf, Turned, StillAsking}
 
 -- ---- sets and tests
 
-has-in : (l j : ℕ) → T (hasOutput l j) → In l j
-has-in l j t = go (ℕ-discrete (digit l j) 1)
+in-free : (l j : ℕ) → In l j → T (takenOf l j) → ⊥
+in-free l j e = rw (eq-eqb (digit l j) 1 e) (λ t. t)
+
+free-in : (l j : ℕ) → (T (takenOf l j) → ⊥) → In l j
+free-in l j f = go (ℕ-discrete (digit l j) 1)
   where
-    go : Dec (digit l j ≡ 1) → digit l j ≡ 1
+    go : Dec (In l j) → In l j
     go (yes e) = e
-    go (no e) = absurd (rw (ne-eqb (digit l j) 1 e) at t)
+    go (no e) = absurd (f (rw (ne-eqb (digit l j) 1 e) tt))
 
-in-has : (l j : ℕ) → In l j → T (hasOutput l j)
-in-has l j e = rw (eq-eqb (digit l j) 1 e) tt
+pub every-free : (l j : ℕ) → In l j → takenOf l j ≡ false
+every-free l j e = ap not (eq-eqb (digit l j) 1 e)
 
-pub none-has : (l : ℕ) → ((k : ℕ) → In l k → ⊥) → (j : ℕ) → hasOutput l j ≡ false
-none-has l h j = ne-eqb (digit l j) 1 (h j)
-
--- a set marked at j has j besides
-pub marked-has : (l j r : ℕ) → Marked l j r → (b : ℕ) → hasOutput r b ≡ put (hasOutput l) j true b
-marked-has l j r m b = go (ℕ-discrete b j) (ℕ-discrete (digit l b) 1)
+-- where j is no longer free, it is taken besides
+pub cleared-taken : (l j r : ℕ) → Cleared l j r → (b : ℕ) → takenOf r b ≡ put (takenOf l) j true b
+cleared-taken l j r m b = go (ℕ-discrete b j) (ℕ-discrete (digit l b) 1)
   where
-    go : Dec (b ≡ j) → Dec (digit l b ≡ 1) → hasOutput r b ≡ put (hasOutput l) j true b
-    go (yes e) d = rw (e, put-same (hasOutput l) j true) (eq-eqb (digit r j) 1 (m .put))
-    go (no e) (yes d) = rw (put-other (hasOutput l) j true b e) (eq-eqb (digit r b) 1 (m .more b d) ∙ sym (eq-eqb (digit l b) 1 d))
-    go (no e) (no d) = rw (put-other (hasOutput l) j true b e) (ne-eqb (digit r b) 1 only ∙ sym (ne-eqb (digit l b) 1 d))
-      where
-        only : In r b → ⊥
-        only h = elim (m .only b h) [ inl x ↦ d x | inr x ↦ e x ]
-
--- a set below 64 has nothing in the high word, so its low word alone is asked
-pub lowest-word : (a r b t : ℕ) → r < 2 ^ 64 → t < 2 ^ 64 → ((k : ℕ) → In (two a r) k → k < 64) → (f : Found) → Lowest 64 r t f → Lowest 128 (two a r) (two b t) f
-lowest-word a r b t hr ht s (At j) m = lowest-low a r b t hr ht (j .0) m
-lowest-word a r b t hr ht s Nothing m = nothing a r b t hr ht m (λ k h. absurd (omega (arith, s (64 + k) (high a r k hr ∙ h))))
-
--- two words that are one number are the same words
-pub two-low : (a r b t : ℕ) → r < 2 ^ 64 → t < 2 ^ 64 → two a r ≡ two b t → r ≡ t
-unfolding two
-two-low a r b t hr ht e = omega (arith, e)
-
-pub two-high : (a r b t : ℕ) → r < 2 ^ 64 → t < 2 ^ 64 → two a r ≡ two b t → a ≡ b
-unfolding two
-two-high a r b t hr ht e = omega (arith, e)
-
--- a set of two words has nothing from 128 on
-pub in-words : (a r k : ℕ) → a < 2 ^ 64 → r < 2 ^ 64 → In (two a r) k → k < 128
-in-words a r k ha hr h = go (decLt k 64)
-  where
-    go : Dec (k < 64) → k < 128
-    go (yes l) = omega arith
-    go (no l) =
-        let e : k ≡ 64 + (k - 64) = omega arith in
-        omega (arith, digit-in 64 a (k - 64) ha (sym (high a r (k - 64) hr) ∙ sym (ap (digit (two a r)) e) ∙ h))
+    go : Dec (b ≡ j) → Dec (In l b) → takenOf r b ≡ put (takenOf l) j true b
+    go (yes e) d = rw (e, put-same (takenOf l) j true) (ap not (ne-eqb (digit r j) 1 (m .gone)))
+    go (no e) (yes d) = rw (put-other (takenOf l) j true b e) (ap not (eq-eqb (digit r b) 1 (m .kept b d e) ∙ sym (eq-eqb (digit l b) 1 d)))
+    go (no e) (no d) = rw (put-other (takenOf l) j true b e) (ap not (ne-eqb (digit r b) 1 (λ h. d (m .less b h)) ∙ sym (ne-eqb (digit l b) 1 d)))
 
 -- ---- the inputs that are asked
 
@@ -102,19 +71,19 @@ asking-same row i l = record { less = λ k h. h; gone = λ k h n. absurd (n h) }
 
 -- ---- what the rule gives
 
-module _ (N : ℕ) (w : List ℕ) (i label taken : ℕ) (r : RowOf N w i label) where
-  pub turn-none : Sub label taken → turnOf N w taken i ≡ 255
+module _ (N : ℕ) (w : List ℕ) (i label free both : ℕ) (r : RowOf N w i label) (c : Common label free both) where
+  pub turn-none : ((k : ℕ) → In both k → ⊥) → turnOf N w free i ≡ 255
   unfolding turnOf
-  turn-none h = lowest-none N 0 (may (cell N w) (hasOutput taken) i)
-      (λ y _ l t. let p = may-is (cell N w) (hasOutput taken) i y t in p .1 (in-has taken y (h y (r .all y (omega arith) (p .0)))))
+  turn-none n = lowest-none N 0 (may (cell N w) (takenOf free) i)
+      (λ y _ l t. let p = may-is (cell N w) (takenOf free) i y t in n y (c .all y (r .all y (omega arith) (p .0)) (free-in free y (p .1))))
 
-  pub turn-at : (j : ℕ) → LowestAt 128 label taken j → turnOf N w taken i ≡ j
+  pub turn-at : (j : ℕ) → LowestAt 128 both j → turnOf N w free i ≡ j
   unfolding turnOf
   turn-at j m =
-      let o = r .only j (m .here) in
-      lowest-at N 0 (may (cell N w) (hasOutput taken) i) j (omega arith) (omega (arith, o .0))
-      (may-yes (cell N w) (hasOutput taken) i j (o .1) (λ t. m .new (has-in taken j t)))
-      (λ y _ l t. let p = may-is (cell N w) (hasOutput taken) i y t in p .1 (in-has taken y (m .past y l (r .all y (below y l (o .0)) (p .0)))))
+      let o = r .only j (c .left j (m .here)) in
+      lowest-at N 0 (may (cell N w) (takenOf free) i) j (omega arith) (omega (arith, o .0))
+      (may-yes (cell N w) (takenOf free) i j (o .1) (in-free free j (c .right j (m .here))))
+      (λ y _ l t. let p = may-is (cell N w) (takenOf free) i y t in m .past y l (c .all y (r .all y (below y l (o .0)) (p .0)) (free-in free y (p .1))))
     where
       below : (y : ℕ) → y < j → j < N → y < N
       below y l k = omega arith
@@ -150,73 +119,59 @@ nothing-peel i M a b idle = sym (peel-off 1 (put (λ _. 255) i 255) M a b (λ e.
         go (yes x) = ap (put {A = ℕ} (λ _. 255) i 255) x ∙ put-same {A = ℕ} (λ _. 255) i 255
         go (no x) = put-other {A = ℕ} (λ _. 255) i 255 a x
 
--- the label that is written is the one that the pair's cell, which stands at r, now asks for
-pub served : (N : ℕ) (w lows highs : List ℕ) (i j : ℕ) → TakePre N w lows highs i j 1 → (r : ℕ) → r ≡ i * N + j
-    → (a b : ℕ) → a < 2 ^ 64 → b < 2 ^ 64 → getD lows i 0 < 2 ^ 64 → getD highs i 0 < 2 ^ 64 → ClearedIf (eqb (getD w r 0 - 1) 0) (labelOf lows highs i) j (two b a)
-    → TakePost N w i j 1 (set w r (getD w r 0 - 1)) (set lows i a) (set highs i b)
-served N w lows highs i j p r e a b ha hb hl hh q = go (ℕ-discrete (getD w r 0 - 1) 0)
-  where
-    go : Dec (getD w r 0 - 1 ≡ 0) → TakePost N w i j 1 (set w r (getD w r 0 - 1)) (set lows i a) (set highs i b)
-    go (yes z) = taken-zero N w lows highs i j 1 p r e a b z (q .cleared (eq-eqb (getD w r 0 - 1) 0 z))
-    go (no z) =
-        let f = q .same (ne-eqb (getD w r 0 - 1) 0 z) in
-        subst (λ (x : List ℕ). TakePost N w i j 1 (set w r (getD w r 0 - 1)) x (set highs i b)) (sym (ap (set lows i) (two-low b a (getD highs i 0) (getD lows i 0) ha hl f) ∙ set-getD lows i 0))
-        (subst (λ (x : List ℕ). TakePost N w i j 1 (set w r (getD w r 0 - 1)) lows x) (sym (ap (set highs i) (two-high b a (getD highs i 0) (getD lows i 0) ha hl f) ∙ set-getD highs i 0))
-        (taken-some N w lows highs i j 1 p r e z))
-
 -- ---- the turn
 
 -- no slot is left for the input: it is idle
-pub turn-idle : (N : ℕ) (w : List ℕ) (taken i : ℕ) → ((j : ℕ) → j < N → cell N w i j ≡ 0) → turnOf N w taken i ≡ 255
+pub turn-idle : (N : ℕ) (w : List ℕ) (free i : ℕ) → ((j : ℕ) → j < N → cell N w i j ≡ 0) → turnOf N w free i ≡ 255
 unfolding turnOf
-turn-idle N w taken i h = lowest-none N 0 (may (cell N w) (hasOutput taken) i) (λ y _ l t. omega (arith, h y (omega arith), may-is (cell N w) (hasOutput taken) i y t .0))
+turn-idle N w free i h = lowest-none N 0 (may (cell N w) (takenOf free) i) (λ y _ l t. omega (arith, h y (omega arith), may-is (cell N w) (takenOf free) i y t .0))
 
 module _ (N i : ℕ) (w lows highs out : List ℕ) (turn : Turn) (c : Copy N (turn .rest) w lows highs) where
   -- nothing is free: the input stays idle, and need not be asked again where its label is empty
-  pub turned-none : turnOf N w (outputsOf (turn .taken)) i ≡ 255 → getD out i 255 ≡ 255
-      → (turn' : Turn) → turn' .taken ≡ turn .taken → turn' .rest .left ≡ turn .rest .left
-      → StillAsking (labelOf lows highs i) i (outputsOf (turn .rest .inputs)) (outputsOf (turn' .rest .inputs))
+  pub turned-none : turnOf N w (outputsOf (turn .free)) i ≡ 255 → getD out i 255 ≡ 255
+      → (turn' : Turn) → turn' .free ≡ turn .free → turn' .rest .left ≡ turn .rest .left
+      → (label : ℕ) → RowOf N w i label → StillAsking label i (inputsOf (turn .rest .inputs)) (inputsOf (turn' .rest .inputs))
       → Turned N i w out turn w lows highs out turn'
-  turned-none e o turn' t l a = record {
+  turned-none e o turn' t l label r a = record {
     copy = record { sized = c .sized; labels = c .labels; all = l ∙ c .all; inside = λ k h. c .inside k (a .less k h); others = others };
     seated = sym (ap (set out i) (e ∙ sym o) ∙ set-getD out i 255);
     cells = λ a b la lb. rw e (nothing-peel i (cell N w) a b (omega (arith, c .sized .few)));
-    taken = λ b lb. rw e (ap (λ (x : Wide). hasOutput (outputsOf x) b) t ∙ sym (put-other (hasOutput (outputsOf (turn .taken))) 255 true b (omega (arith, c .sized .few))));
+    taken = λ b lb. rw e (ap (λ (x : Outputs). takenOf (outputsOf x) b) t ∙ sym (put-other (takenOf (outputsOf (turn .free))) 255 true b (omega (arith, c .sized .few))));
   }
     where
-      others : (k : ℕ) → k < N → (In (outputsOf (turn' .rest .inputs)) k → ⊥) → (j : ℕ) → j < N → cell N w k j ≡ 0
-      others k lk n j lj = go (ℕ-discrete (digit (outputsOf (turn .rest .inputs)) k) 1)
+      others : (k : ℕ) → k < N → (In (inputsOf (turn' .rest .inputs)) k → ⊥) → (j : ℕ) → j < N → cell N w k j ≡ 0
+      others k lk n j lj = go (ℕ-discrete (digit (inputsOf (turn .rest .inputs)) k) 1)
         where
-          go : Dec (In (outputsOf (turn .rest .inputs)) k) → cell N w k j ≡ 0
+          go : Dec (In (inputsOf (turn .rest .inputs)) k) → cell N w k j ≡ 0
           go (no z) = c .others k lk z j lj
           go (yes z) =
               let g = a .gone k z n in
-              none-of (cell N w k j) (λ p. g .1 j (subst (λ (x : ℕ). In (labelOf lows highs x) j) (g .0) (c .labels .row k lk .all j lj p)))
+              none-of (cell N w k j) (λ p. g .1 j (r .all j lj (subst (λ (x : ℕ). 0 < cell N w x j) (g .0) p)))
             where
               none-of : (x : ℕ) → (0 < x → ⊥) → x ≡ 0
               none-of x f = omega (arith, f)
 
   -- output j: one slot of the pair less, and one in all
-  pub turned-at : (j : ℕ) → i < N → j < N → 0 < cell N w i j → turnOf N w (outputsOf (turn .taken)) i ≡ j → (w' lows' highs' : List ℕ) (turn' : Turn)
-      → TakePost N w i j 1 w' lows' highs' → Marked (outputsOf (turn .taken)) j (outputsOf (turn' .taken)) → turn' .rest .left ≡ turn .rest .left - 1 → turn' .rest .inputs ≡ turn .rest .inputs
+  pub turned-at : (j : ℕ) → i < N → j < N → 0 < cell N w i j → turnOf N w (outputsOf (turn .free)) i ≡ j → (w' lows' highs' : List ℕ) (turn' : Turn)
+      → TakePost N w i j 1 w' lows' highs' → Cleared (outputsOf (turn .free)) j (outputsOf (turn' .free)) → turn' .rest .left ≡ turn .rest .left - 1 → turn' .rest .inputs ≡ turn .rest .inputs
       → Turned N i w out turn w' lows' highs' (set out i j) turn'
   turned-at j li lj p e w' lows' highs' turn' s m f g = record {
     copy = record {
       sized = record { some = c .sized .some; few = c .sized .few; room = omega (arith, c .sized .room, ap length (s .taken), length-set w (i * N + j) (cell N w i j - 1)) };
       labels = s .labels;
       all = unfold leftIn in omega (arith, f, c .all, raised-all N (cell N w') (cell N w) i j 1 li lj low);
-      inside = λ k h. c .inside k (subst (λ (x : Wide). In (outputsOf x) k) g h);
-      others = λ k lk n b lb. omega (arith, lowered-le k b lk lb, c .others k lk (λ h. n (subst (λ (x : Wide). In (outputsOf x) k) (sym g) h)) b lb);
+      inside = λ k h. c .inside k (subst (λ (x : Inputs). In (inputsOf x) k) g h);
+      others = λ k lk n b lb. omega (arith, lowered-le k b lk lb, c .others k lk (λ h. n (subst (λ (x : Inputs). In (inputsOf x) k) (sym g) h)) b lb);
     };
     seated = ap (set out i) (sym e);
     cells = peeled;
-    taken = λ b lb. rw e (marked-has (outputsOf (turn .taken)) j (outputsOf (turn' .taken)) m b);
+    taken = λ b lb. rw e (cleared-taken (outputsOf (turn .free)) j (outputsOf (turn' .free)) m b);
   }
     where
       low : Raised N (cell N w') (cell N w) i j 1
       low = subst (λ (x : List ℕ). Raised N (cell N x) (cell N w) i j 1) (sym (s .taken)) (set-lowered N w (c .sized .room) i j 1 li lj p)
 
-      peeled : (a b : ℕ) → a < N → b < N → cell N w' a b ≡ peel 1 (put (λ _. 255) i (turnOf N w (outputsOf (turn .taken)) i)) (cell N w) a b
+      peeled : (a b : ℕ) → a < N → b < N → cell N w' a b ≡ peel 1 (put (λ _. 255) i (turnOf N w (outputsOf (turn .free)) i)) (cell N w) a b
       peeled a b la lb = rw e (lowered-peel N i j (cell N w') (cell N w) low a b la lb (omega (arith, c .sized .few)))
 
       lowered-le : (a b : ℕ) → a < N → b < N → cell N w' a b ≤ cell N w a b

@@ -13,7 +13,7 @@ use lib.Seq.{getD-set-same, getD-set-other, ext-getD}
 use Rattle.counting.specs.Count.{δ}
 use Rattle.switch.specs.Demand.{cell}
 use Rattle.switch.specs.Plan.{Record}
-use Rattle.labels.specs.Label.{In, hasOutput}
+use Rattle.labels.specs.Label.{In}
 use Rattle.labels.specs.Wide.{outputsOf}
 use Rattle.rules.specs.Search.{put}
 use Rattle.rules.specs.Peel.{peel}
@@ -26,25 +26,25 @@ use Rattle.rules.proofs.Rotate.{around-full, around-reach}
 use Rattle.rules.proofs.Slot.{lowest-cong, may-cong, visits-idle, slot-idle}
 use Rattle.rules.proofs.QuickFrom.{visits-next, quick-step, quick-cong}
 use Rattle.slot.specs.declared.Turn.{Turn}
-use Rattle.slot.specs.Filled.{leftIn, leftover, Copy, Seats, turnOf, Turned, Filled}
-use Rattle.slot.proofs.Turns.{none-has, asking-same, turn-idle, turned-none}
+use Rattle.slot.specs.Filled.{leftIn, leftover, Copy, Seats, takenOf, turnOf, Turned, Filled}
+use Rattle.slot.proofs.Turns.{every-free, asking-same, turn-idle, turned-none}
 
 -- the first v visits of slot s, begun with the working copy w₀
 pub record Visiting (N s v : ℕ) (w₀ w lows highs out : List ℕ) (turn : Turn) : Type 0 where
   pub copy : Copy N (turn .rest) w lows highs
   pub cells : (a b : ℕ) → a < N → b < N → cell N w a b ≡ peel 1 (visits N (cell N w₀) s v .outputs) (cell N w₀) a b
-  pub taken : (b : ℕ) → b < N → hasOutput (outputsOf (turn .taken)) b ≡ visits N (cell N w₀) s v .taken b
+  pub taken : (b : ℕ) → b < N → takenOf (outputsOf (turn .free)) b ≡ visits N (cell N w₀) s v .taken b
   pub seated : (q : ℕ) → q < v → getD out ((q + s) % N) 255 ≡ visits N (cell N w₀) s v .outputs ((q + s) % N)
   pub ahead : (q : ℕ) → v ≤ q → q < N → getD out ((q + s) % N) 255 ≡ 255
   pub seats : Seats N out
 
 pub visiting-none : (N s : ℕ) (w lows highs out : List ℕ) (turn : Turn) → Copy N (turn .rest) w lows highs → N ≤ length out → ((i : ℕ) → getD out i 255 ≡ 255)
-    → ((k : ℕ) → In (outputsOf (turn .taken)) k → ⊥) → Visiting N s 0 w w lows highs out turn
+    → ((k : ℕ) → k < 128 → In (outputsOf (turn .free)) k) → Visiting N s 0 w w lows highs out turn
 unfolding visits
 visiting-none N s w lows highs out turn c l o h = record {
   copy = c;
   cells = λ a b la lb. sym (peel-off 1 (λ _. 255) (cell N w) a b (omega (arith, c .sized .few)));
-  taken = λ b lb. none-has (outputsOf (turn .taken)) h b;
+  taken = λ b lb. every-free (outputsOf (turn .free)) b (h b (omega (arith, c .sized .few)));
   seated = λ q l. absurd (omega arith);
   ahead = λ q _ _. o ((q + s) % N);
   seats = record { wide = l; idle = λ i _. o i };
@@ -74,17 +74,17 @@ module _ (N s v : ℕ) (w₀ w lows highs out : List ℕ) (turn : Turn) (lv : v 
   fresh b lb = g .cells i b li lb ∙ peel-off 1 (x .outputs) M i b (λ e. omega (arith, small, e, visits-idle N (g .copy .sized .some) small M s v (omega arith) i earlier))
 
   -- and it takes what the rule gives it
-  given : turnOf N w (outputsOf (turn .taken)) i ≡ lowest N 0 (may M (x .taken) i)
+  given : turnOf N w (outputsOf (turn .free)) i ≡ lowest N 0 (may M (x .taken) i)
   unfolding turnOf
-  given = lowest-cong N 0 (may (cell N w) (hasOutput (outputsOf (turn .taken))) i) (may M (x .taken) i)
-      (λ y _ l. may-cong (cell N w) M (hasOutput (outputsOf (turn .taken))) (x .taken) i y (fresh y (omega arith)) (g .taken y (omega arith)))
+  given = lowest-cong N 0 (may (cell N w) (takenOf (outputsOf (turn .free))) i) (may M (x .taken) i)
+      (λ y _ l. may-cong (cell N w) M (takenOf (outputsOf (turn .free))) (x .taken) i y (fresh y (omega arith)) (g .taken y (omega arith)))
 
-  next : visits N (cell N w₀) s (v + 1) ≡ seat (visits N (cell N w₀) s v) i (turnOf N w (outputsOf (turn .taken)) i)
+  next : visits N (cell N w₀) s (v + 1) ≡ seat (visits N (cell N w₀) s v) i (turnOf N w (outputsOf (turn .free)) i)
   next = visits-next N (cell N w₀) s v ∙ ap (seat x i) (sym given)
 
   module _ (w' lows' highs' out' : List ℕ) (turn' : Turn) (t : Turned N i w out turn w' lows' highs' out' turn') where
     abbrev j : ℕ
-    j = turnOf N w (outputsOf (turn .taken)) i
+    j = turnOf N w (outputsOf (turn .free)) i
 
     -- a turn's peel upon the visits' peel
     peeled : (a b : ℕ) → a < N → b < N → cell N w' a b ≡ peel 1 (put (x .outputs) i j) M a b
@@ -98,12 +98,12 @@ module _ (N s v : ℕ) (w₀ w lows highs out : List ℕ) (turn : Turn) (lv : v 
         go (no e) = t .cells a b la lb ∙ peel-off 1 (put (λ _. 255) i j) (cell N w) a b (λ q. omega (arith, small, q, put-other (λ _. 255) i j a e))
             ∙ g .cells a b la lb ∙ ap (λ (o : ℕ). M a b - 1 * δ o b) (sym (put-other (x .outputs) i j a e))
 
-    taken' : (b : ℕ) → b < N → hasOutput (outputsOf (turn' .taken)) b ≡ put (x .taken) j true b
+    taken' : (b : ℕ) → b < N → takenOf (outputsOf (turn' .free)) b ≡ put (x .taken) j true b
     taken' b lb = t .taken b lb ∙ go (ℕ-discrete b j)
       where
-        go : Dec (b ≡ j) → put (hasOutput (outputsOf (turn .taken))) j true b ≡ put (x .taken) j true b
-        go (yes e) = rw e (put-same (hasOutput (outputsOf (turn .taken))) j true ∙ sym (put-same (x .taken) j true))
-        go (no e) = put-other (hasOutput (outputsOf (turn .taken))) j true b e ∙ g .taken b lb ∙ sym (put-other (x .taken) j true b e)
+        go : Dec (b ≡ j) → put (takenOf (outputsOf (turn .free))) j true b ≡ put (x .taken) j true b
+        go (yes e) = rw e (put-same (takenOf (outputsOf (turn .free))) j true ∙ sym (put-same (x .taken) j true))
+        go (no e) = put-other (takenOf (outputsOf (turn .free))) j true b e ∙ g .taken b lb ∙ sym (put-other (x .taken) j true b e)
 
     long : length out' ≡ length out
     long = ap length (t .seated) ∙ length-set out i j
@@ -141,8 +141,8 @@ module _ (N s v : ℕ) (w₀ w lows highs out : List ℕ) (turn : Turn) (lv : v 
   pub visiting-skip : ((b : ℕ) → b < N → cell N w₀ ((v + s) % N) b ≡ 0) → Visiting N s (v + 1) w₀ w lows highs out turn
   visiting-skip empty =
       visiting-next w lows highs out turn
-      (turned-none N i w lows highs out turn (g .copy) (turn-idle N w (outputsOf (turn .taken)) i (λ b lb. fresh b lb ∙ empty b lb)) (g .ahead v (omega arith) lv) turn refl refl
-      (asking-same _ i _))
+      (turned-none N i w lows highs out turn (g .copy) (turn-idle N w (outputsOf (turn .free)) i (λ b lb. fresh b lb ∙ empty b lb)) (g .ahead v (omega arith) lv) turn refl refl
+      _ (g .copy .labels .row i li) (asking-same _ i _))
 
 -- nor need any number of them
 pub visiting-skips : (N s : ℕ) (w₀ w lows highs out : List ℕ) (turn : Turn) (v k : ℕ) → v + k ≤ N → ((q : ℕ) → v ≤ q → q < v + k → (b : ℕ) → b < N → cell N w₀ ((q + s) % N) b ≡ 0)

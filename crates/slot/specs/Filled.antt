@@ -1,6 +1,6 @@
 -- One slot on a working copy with a label for each input: what each turn may assume and what it promises. Definitions only.
 use mathlib.Core.Path.{_≡_}
-use mathlib.Core.Bool.{true}
+use mathlib.Core.Bool.{Bool, true, not}
 use mathlib.Core.List.{List, _∷_}
 use Prim.Native.Nat.{ℕ, _+_, _≤_, _<_}
 use lib.ListN.{length, getD, set}
@@ -8,8 +8,8 @@ use Rattle.counting.specs.Sum.{sum}
 use Rattle.counting.specs.Matrix.{row}
 use Rattle.switch.specs.Demand.{cell}
 use Rattle.switch.specs.Plan.{Record}
-use Rattle.labels.specs.Label.{In, Sub, hasOutput}
-use Rattle.labels.specs.Wide.{outputsOf}
+use Rattle.labels.specs.Label.{In, isIn, Sub, Cleared, LowestAt}
+use Rattle.labels.specs.Wide.{inputsOf, outputsOf}
 use Rattle.rules.specs.Search.{put}
 use Rattle.rules.specs.Peel.{peel}
 use Rattle.rules.specs.Quick.{lowest, may, quickFrom}
@@ -31,24 +31,38 @@ pub record Copy (N : ℕ) (rest : Rest) (w lows highs : List ℕ) : Type 0 where
   pub sized : Sized N w
   pub labels : Labelled N w lows highs
   pub all : rest .left ≡ leftIn N w
-  pub inside : (i : ℕ) → In (outputsOf (rest .inputs)) i → i < N
-  pub others : (i : ℕ) → i < N → (In (outputsOf (rest .inputs)) i → ⊥) → (j : ℕ) → j < N → cell N w i j ≡ 0
+  pub inside : (i : ℕ) → In (inputsOf (rest .inputs)) i → i < N
+  pub others : (i : ℕ) → i < N → (In (inputsOf (rest .inputs)) i → ⊥) → (j : ℕ) → j < N → cell N w i j ≡ 0
 
 -- the outputs of a slot have room for N inputs, and are idle past them
 pub record Seats (N : ℕ) (out : List ℕ) : Type 0 where
   pub wide : N ≤ length out
   pub idle : (i : ℕ) → N ≤ i → getD out i 255 ≡ 255
 
--- what input i takes on its turn, where some outputs are taken: the lowest free one with slots left for that pair, 255 where there is none
+-- an output is taken where it is not free
+abbrev pub takenOf : ℕ → ℕ → Bool
+takenOf free j = not (isIn free j)
+
+-- what input i takes on its turn, where some outputs are free: the lowest of them with slots left for that pair, 255 where there is none
 unfoldable pub turnOf : ℕ → List ℕ → ℕ → ℕ → ℕ
-turnOf N w taken i = lowest N 0 (may (cell N w) (hasOutput taken) i)
+turnOf N w free i = lowest N 0 (may (cell N w) (takenOf free) i)
 
 -- input i has had its turn: what it takes stands among the outputs, one slot of that pair is subtracted, and the output is taken
 pub record Turned (N i : ℕ) (w out : List ℕ) (turn : Turn) (w' lows' highs' out' : List ℕ) (turn' : Turn) : Type 0 where
   pub copy : Copy N (turn' .rest) w' lows' highs'
-  pub seated : out' ≡ set out i (turnOf N w (outputsOf (turn .taken)) i)
-  pub cells : (a b : ℕ) → a < N → b < N → cell N w' a b ≡ peel 1 (put (λ _. 255) i (turnOf N w (outputsOf (turn .taken)) i)) (cell N w) a b
-  pub taken : (b : ℕ) → b < N → hasOutput (outputsOf (turn' .taken)) b ≡ put (hasOutput (outputsOf (turn .taken))) (turnOf N w (outputsOf (turn .taken)) i) true b
+  pub seated : out' ≡ set out i (turnOf N w (outputsOf (turn .free)) i)
+  pub cells : (a b : ℕ) → a < N → b < N → cell N w' a b ≡ peel 1 (put (λ _. 255) i (turnOf N w (outputsOf (turn .free)) i)) (cell N w) a b
+  pub taken : (b : ℕ) → b < N → takenOf (outputsOf (turn' .free)) b ≡ put (takenOf (outputsOf (turn .free))) (turnOf N w (outputsOf (turn .free)) i) true b
+
+-- the inputs of l are of the switch, and idle so far
+abbrev pub Waiting : ℕ → ℕ → List ℕ → Type 0
+Waiting N l out = (i : ℕ) → In l i → (i < N) × (getD out i 255 ≡ 255)
+
+-- the inputs of l have had their turns, the lowest first
+pub data Visited (N : ℕ) : ℕ → List ℕ → List ℕ → List ℕ → List ℕ → Turn → List ℕ → List ℕ → List ℕ → List ℕ → Turn → Type 0 where
+  none : {l : ℕ} {w lows highs out : List ℕ} {turn : Turn} → ((i : ℕ) → In l i → ⊥) → Visited N l w lows highs out turn w lows highs out turn
+  next : {l i r : ℕ} {w lows highs out w₁ lows₁ highs₁ out₁ w' lows' highs' out' : List ℕ} {turn turn₁ turn' : Turn} → LowestAt 128 l i → Cleared l i r
+      → Turned N i w out turn w₁ lows₁ highs₁ out₁ turn₁ → Visited N r w₁ lows₁ highs₁ out₁ turn₁ w' lows' highs' out' turn' → Visited N l w lows highs out turn w' lows' highs' out' turn'
 
 -- r has the inputs of l, but i may be gone where its label is empty
 pub record StillAsking (row i l r : ℕ) : Type 0 where

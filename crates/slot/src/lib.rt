@@ -2,37 +2,34 @@
 // takes the lowest free output with slots left for that pair. Inputs without slots left are passed over, by a set of those that may ask.
 // It promises that what was still to come is this slot's record and what is still to come of the cells it leaves, for any number of ports
 // up to 128. When the slots end and where their records go is left to the crate above.
-use demand::cell_at;
-use labels::Found;
-use labels::Label;
-use labels::Wide;
+use labels::FoundInput;
+use labels::FoundOutput;
+use labels::Inputs;
+use labels::Outputs;
+use labels::row_of;
 use records::IDLE;
 use switch::InputPort;
-use switch::OutputPort;
+use work::take;
 ghost use mathlib.Core.Path.{_≡_};
 ghost use Prim.Native.Nat.{ℕ, _<_, _≤_};
 ghost use lib.ListN.{length, getD};
-ghost use Rattle.labels.specs.Label.{In, Lowest};
-ghost use Rattle.labels.specs.Wide.{outputsOf};
-ghost use Rattle.work.specs.Labelled.{TakePre, TakePost};
-ghost use Rattle.slot.specs.Filled.{Copy, Turned, StillAsking, Filled};
-
-// The outputs of one word of a label.
-const WORD: usize = 64;
+ghost use Rattle.labels.specs.Wide.{inputsOf, outputsOf};
+ghost use Rattle.slot.specs.Filled.{Copy, Waiting, Turned, Visited, StillAsking, Filled};
 
 // What is left to serve: no input but these has slots left, and so many slots are left in all.
 pub struct Rest {
-    pub inputs: Wide,
+    pub inputs: Inputs,
     pub left: u64,
 }
 
-// What a turn leaves: which outputs are taken in this slot, and what is left to serve.
+// What a turn leaves: which outputs are free in this slot, and what is left to serve.
 pub struct Turn {
-    pub taken: Wide,
+    pub free: Outputs,
     pub rest: Rest,
 }
 
-// Slot s: the inputs with slots left are visited, from input s mod N around. It answers what is left to serve.
+// Slot s: the inputs with slots left have their turns, those from input s mod N on and then those below it. It answers what is left
+// to serve.
 pub fn fill_slot(
     n: usize,
     work: &mut [u32],
@@ -46,26 +43,15 @@ pub fn fill_slot(
     ensures { λ r. ⌜ Filled n s (now (work .entry)) (now (work .exit)) (now (lows .exit)) (now (highs .exit)) (now (out .exit)) r ⌝ }
 {
     idle_all(out);
-    let first = OutputPort(s % n);
+    let first = InputPort(s % n);
     let inputs = rest.inputs;
-    let mut ahead = inputs.from(first);
-    let mut later = inputs.below(first);
-    let mut turn = Turn {
-        taken: Wide::none(),
+    let begun = Turn {
+        free: Outputs::every(),
         rest: rest,
     };
-    loop {
-        let Found::At(i) = lowest_free(out.len(), ahead, Wide::none()) else {
-            let Found::At(j) = lowest_free(out.len(), later, Wide::none()) else {
-                return turn.rest;
-            };
-            ahead = later;
-            later = Wide::none();
-            continue;
-        };
-        turn = visit(n, work, lows, highs, InputPort(i.0), turn, out);
-        ahead = ahead.without_lowest();
-    }
+    let half = visit_each(n, work, lows, highs, inputs.from(first), begun, out);
+    let whole = visit_each(n, work, lows, highs, inputs.below(first), half, out);
+    whole.rest
 }
 
 // Every input is idle.
@@ -74,6 +60,31 @@ fn idle_all(out: &mut [u8])
 {
     for i in 0..out.len() {
         out[i] = IDLE;
+    }
+}
+
+// These inputs have their turns, the lowest first.
+fn visit_each(
+    n: usize,
+    work: &mut [u32],
+    lows: &mut [u64],
+    highs: &mut [u64],
+    inputs: Inputs,
+    begun: Turn,
+    out: &mut [u8],
+) -> Turn
+    requires { ⌜ Copy n (begun .rest) (now work) (now lows) (now highs) × (n ≤ length (now out)) × Waiting n (inputsOf inputs) (now out) ⌝ }
+    ensures { λ r. ⌜ Visited n (inputsOf inputs) (now (work .entry)) (now (lows .entry)) (now (highs .entry)) (now (out .entry)) begun (now (work .exit)) (now (lows .exit)) (now (highs .exit)) (now (out .exit)) r ⌝ }
+{
+    let mut ahead = inputs;
+    let mut turn = begun;
+    loop {
+        let f = ahead.lowest();
+        let FoundInput::At(i) = f else {
+            return turn;
+        };
+        turn = visit(n, work, lows, highs, i, turn, out);
+        ahead = ahead.without_lowest();
     }
 }
 
@@ -91,26 +102,25 @@ fn visit(
     ensures { λ r. ⌜ Turned n (i .0) (now (work .entry)) (now (out .entry)) turn (now (work .exit)) (now (lows .exit)) (now (highs .exit)) (now (out .exit)) r ⌝ }
 {
     let port = i.0;
-    let taken = turn.taken;
+    let free = turn.free;
     let rest = turn.rest;
     let inputs = rest.inputs;
-    let row = Wide {
-        low: Label(lows[port]),
-        high: Label(highs[port]),
-    };
-    let Found::At(j) = lowest_free(out.len(), row, taken) else {
+    let row = row_of(lows, highs, i);
+    let both = row.common(free);
+    let f = both.lowest();
+    let FoundOutput::At(j) = f else {
         return Turn {
-            taken: taken,
+            free: free,
             rest: Rest {
-                inputs: still_asking(out.len(), inputs, i, row),
+                inputs: still_asking(inputs, i, row),
                 left: rest.left,
             },
         };
     };
     out[port] = j.0 as u8;
-    serve(work, n, lows, highs, i, j);
+    take(work, n, lows, highs, i, j, 1);
     Turn {
-        taken: taken.mark(j),
+        free: free.without(j),
         rest: Rest {
             inputs: inputs,
             left: rest.left - 1,
@@ -119,64 +129,13 @@ fn visit(
 }
 
 // The inputs without i, where its label is empty.
-fn still_asking(width: usize, inputs: Wide, i: InputPort, row: Wide) -> Wide
-    requires { ⌜ (i .0 < 128) × ((k : ℕ) → In (outputsOf row) k → k < width) ⌝ }
-    ensures { λ r. ⌜ StillAsking (outputsOf row) (i .0) (outputsOf inputs) (outputsOf r) ⌝ }
+fn still_asking(inputs: Inputs, i: InputPort, row: Outputs) -> Inputs
+    requires { ⌜ i .0 < 128 ⌝ }
+    ensures { λ r. ⌜ StillAsking (outputsOf row) (i .0) (inputsOf inputs) (inputsOf r) ⌝ }
 {
-    let Found::At(j) = lowest_free(width, row, Wide::none()) else {
-        return inputs.without(OutputPort(i.0));
-    };
-    inputs
-}
-
-// The lowest output of a label that is not taken, of so many outputs: up to 64 of them stand in the low word alone.
-fn lowest_free(width: usize, row: Wide, taken: Wide) -> Found
-    requires { ⌜ ((k : ℕ) → In (outputsOf row) k → k < width) ⌝ }
-    ensures { λ r. ⌜ Lowest 128 (outputsOf row) (outputsOf taken) r ⌝ }
-{
-    if width <= WORD {
-        let l = row.low;
-        let t = taken.low;
-        return l.lowest_untried(t);
+    let f = row.lowest();
+    match f {
+        FoundOutput::At(_) => inputs,
+        FoundOutput::Nothing => inputs.without(i),
     }
-    row.lowest_untried(taken)
-}
-
-// One slot of a pair is served. Nobody can foresee which slot of a pair is its last, so the label is written either way.
-fn serve(
-    work: &mut [u32],
-    n: usize,
-    lows: &mut [u64],
-    highs: &mut [u64],
-    i: InputPort,
-    j: OutputPort,
-)
-    requires { ⌜ TakePre n (now work) (now lows) (now highs) (i .0) (j .0) 1 ⌝ }
-    ensures { λ _. ⌜ TakePost n (now (work .entry)) (i .0) (j .0) 1 (now (work .exit)) (now (lows .exit)) (now (highs .exit)) ⌝ }
-{
-    let at = cell_at(n, i, j);
-    let left = work[at] - 1;
-    work[at] = left;
-    let k = i.0;
-    let row = Wide {
-        low: Label(lows[k]),
-        high: Label(highs[k]),
-    };
-    let asked = row.without_if(j, left == 0);
-    let low = asked.low;
-    let high = asked.high;
-    lows[k] = low.0;
-    highs[k] = high.0;
-}
-
-// All inputs of a switch.
-pub fn all_inputs(n: usize) -> Wide
-    requires { ⌜ n ≤ 128 ⌝ }
-    ensures { λ r. ⌜ ((k : ℕ) → In (outputsOf r) k → k < n) × ((k : ℕ) → k < n → In (outputsOf r) k) ⌝ }
-{
-    let every = Wide::every();
-    if n == 128 {
-        return every;
-    }
-    every.below(OutputPort(n))
 }

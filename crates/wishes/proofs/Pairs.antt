@@ -1,5 +1,5 @@
 -- The sets hold just the pairs that the records passed name: a mark puts one output into the set of one input, and a record names one pair.
-use Prim.Native.Nat.{ℕ, zero, suc, _+_, _<_, _≤_}
+use Prim.Native.Nat.{ℕ, zero, suc, _+_, _≤_}
 use native.Mathlib.Nat.{le-of-suc-le-suc, eq-or-lt-of-le, le-refl, le-trans, lt-of-lt-of-le}
 use native.Mathlib.Numerals.{add-one}
 use native.Mathlib.Decide.{ℕ-discrete}
@@ -9,11 +9,11 @@ use mathlib.Core.Bool.{Bool, true, false, _&&_, _||_, or-true, true≢false}
 use mathlib.Core.List.{List}
 use mathlib.Core.Logic.{inl, inr}
 use lib.Dec.{eqb}
-use lib.ListN.{length, getD, set, replicate, length-set, length-replicate, getD-replicate}
-use lib.Seq.{getD-set-same, getD-set-other}
+use lib.ListN.{replicate, length-replicate, getD-replicate}
 use borrow.Author.Tests.{eqb-true, eqb-false, eq-eqb, ne-eqb}
-use Rattle.labels.specs.Label.{digit, hasOutput, Marked}
+use Rattle.labels.specs.Label.{digit, isIn, Marked}
 use Rattle.labels.specs.Wide.{two}
+use Rattle.labels.specs.Rows.{rowOf, RowPut}
 use Rattle.labels.proofs.Digits.{none-digit}
 use Rattle.wishes.specs.declared.WishRecord.{WishRecord}
 use Rattle.wishes.specs.Record.{recordAt, samePair, names}
@@ -24,10 +24,10 @@ use Rattle.wishes.proofs.Faults.{fault-agree, inside}
 -- ---- marking
 
 -- in the set after a mark: the output marked, and what was in it before
-has-marked : (l j r b : ℕ) → Marked l j r → hasOutput r b ≡ (eqb j b || hasOutput l b)
-has-marked l j r b m = go (eqb j b) (hasOutput l b) refl refl
+has-marked : (l j r b : ℕ) → Marked l j r → isIn r b ≡ (eqb j b || isIn l b)
+has-marked l j r b m = go (eqb j b) (isIn l b) refl refl
   where
-    go : (e h : Bool) → eqb j b ≡ e → hasOutput l b ≡ h → hasOutput r b ≡ (e || h)
+    go : (e h : Bool) → eqb j b ≡ e → isIn l b ≡ h → isIn r b ≡ (e || h)
     go true h p q = eq-eqb (digit r b) 1 (rw (eqb-true j b p) at (m .put))
     go false true p q = eq-eqb (digit r b) 1 (m .more b (eqb-true (digit l b) 1 q))
     go false false p q = ne-eqb (digit r b) 1 (λ i. elim (m .only b i) [
@@ -35,15 +35,14 @@ has-marked l j r b m = go (eqb j b) (hasOutput l b) refl refl
       | inr x ↦ eqb-false j b p (sym x)
     ])
 
-pub marks : (lows highs : List ℕ) (i j low high : ℕ) → i < length lows → i < length highs → Marked (two (getD highs i 0) (getD lows i 0)) j (two high low)
-    → Marks i j lows highs (set lows i low) (set highs i high)
-marks lows highs i j low high l h m = record { low = length-set lows i low; high = length-set highs i high; pairs = λ a b. at a b (ℕ-discrete a i) }
+pub marks : (i j l r : ℕ) (lows highs lows' highs' : List ℕ) → l ≡ rowOf lows highs i → Marked l j r → RowPut i r lows highs lows' highs' → Marks i j lows highs lows' highs'
+marks i j l r lows highs lows' highs' e m p = record { low = p .low; high = p .high; pairs = λ a b. at a b (ℕ-discrete a i) }
   where
-    at : (a b : ℕ) → Dec (a ≡ i) → seenPair (set lows i low) (set highs i high) a b ≡ (samePair i j a b || seenPair lows highs a b)
-    at a b (yes e) = unfold seenPair samePair in
-        rw (e, getD-set-same lows i low 0 l, getD-set-same highs i high 0 h, eq-eqb i i refl) (has-marked _ j _ b m)
-    at a b (no n) = unfold seenPair samePair in
-        rw (getD-set-other lows i a low 0 n, getD-set-other highs i a high 0 n, ne-eqb i a (λ e. n (sym e)))
+    at : (a b : ℕ) → Dec (a ≡ i) → seenPair lows' highs' a b ≡ (samePair i j a b || seenPair lows highs a b)
+    at a b (yes z) = unfold seenPair samePair in
+        rw (z, eq-eqb i i refl) (ap (λ (x : ℕ). isIn x b) (p .here) ∙ has-marked l j r b m ∙ ap (λ (x : ℕ). eqb j b || isIn x b) e)
+    at a b (no z) = unfold seenPair samePair in
+        rw (ne-eqb i a (λ q. z (sym q))) (ap (λ (x : ℕ). isIn x b) (p .other a z))
 
 -- ---- what the sets hold
 

@@ -4,14 +4,14 @@ use mathlib.Core.Bool.{Bool, _||_}
 use mathlib.Core.List.{List}
 use mathlib.Core.Path.{_≡_}
 use lib.ListN.{length, getD}
-use Rattle.labels.specs.Label.{hasOutput}
-use Rattle.labels.specs.Wide.{two}
+use Rattle.labels.specs.Label.{isIn}
+use Rattle.labels.specs.Rows.{rowOf}
 use Rattle.wishes.specs.Record.{samePair}
 use Rattle.wishes.specs.Fault.{named}
 
 -- output j is in the set of input i
 unfoldable pub seenPair : List ℕ → List ℕ → ℕ → ℕ → Bool
-seenPair lows highs i j = hasOutput (two (getD highs i 0) (getD lows i 0)) j
+seenPair lows highs i j = isIn (rowOf lows highs i) j
 
 -- room for N inputs
 pub record Room (N : ℕ) (lows highs : List ℕ) : Type 0 where

@@ -2,8 +2,8 @@
 // `wishes` answers for every list, of any length and any bytes: codes 1, 2 and 9, then the first faulty record's 11, 12, 6, 7 or 8.
 // A refusal changes no cell; a success makes the cell of each named pair its wish's slots, and every other 0.
 // What one wish is worth is the crate `wish`'s matter, and whether the lines are too long is for whoever plans the demand.
-use labels::Label;
-use labels::Wide;
+use labels::put_row;
+use labels::row_of;
 use switch::Counts;
 use switch::InputPort;
 use switch::Outcome;
@@ -182,11 +182,7 @@ fn seen(i: InputPort, j: OutputPort, lows: &[u64], highs: &[u64]) -> bool
     requires { ⌜ (j .0 < 128) × (i .0 < length (now lows)) × (i .0 < length (now highs)) ⌝ }
     ensures { λ r. ⌜ r ≡ seenPair (now (lows .entry)) (now (highs .entry)) (i .0) (j .0) ⌝ }
 {
-    let at = i.0;
-    let outputs = Wide {
-        low: Label(lows[at]),
-        high: Label(highs[at]),
-    };
+    let outputs = row_of(lows, highs, i);
     outputs.has(j)
 }
 
@@ -195,14 +191,8 @@ fn mark(i: InputPort, j: OutputPort, lows: &mut [u64], highs: &mut [u64])
     requires { ⌜ (j .0 < 128) × (i .0 < length (now lows)) × (i .0 < length (now highs)) ⌝ }
     ensures { λ _. ⌜ Marks (i .0) (j .0) (now (lows .entry)) (now (highs .entry)) (now (lows .exit)) (now (highs .exit)) ⌝ }
 {
-    let at = i.0;
-    let outputs = Wide {
-        low: Label(lows[at]),
-        high: Label(highs[at]),
-    };
-    let more = outputs.mark(j);
-    lows[at] = more.low.0;
-    highs[at] = more.high.0;
+    let outputs = row_of(lows, highs, i);
+    put_row(lows, highs, i, outputs.mark(j));
 }
 
 // Codes 6, 7 and 8, for the wish of record k.

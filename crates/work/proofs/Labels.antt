@@ -1,18 +1,20 @@
 -- The labels of the rows: marked cell by cell, and after a cell falls only its own row's label can change.
-use mathlib.Core.Path.{_≡_, sym, ap, ap₂, subst, _∙_}
+use mathlib.Core.Path.{_≡_, sym, ap, subst, _∙_}
 use mathlib.Core.Logic.{_≢_, inl, inr}
 use mathlib.Core.List.{List}
 use Prim.Native.Nat.{ℕ, _+_, _-_, _*_, _<_, _≤_}
 use native.Mathlib.Decide.{ℕ-discrete}
 use native.Mathlib.Omega.{arith}
-use lib.ListN.{length, getD, set, length-set}
+use lib.Dec.{eqb}
+use lib.ListN.{length, getD, set}
+use borrow.Author.Tests.{eq-eqb, ne-eqb}
 use lib.Seq.{getD-set-same, getD-set-other}
 use Rattle.switch.specs.Demand.{cell}
 use Rattle.switch.proofs.Demand.{index-inj}
-use Rattle.labels.specs.Label.{In, Marked, Cleared}
-use Rattle.labels.specs.Wide.{two}
+use Rattle.labels.specs.Label.{In, Marked, Cleared, ClearedIf}
+use Rattle.labels.specs.Rows.{rowOf, RowPut}
 use Rattle.work.specs.Level.{Sized}
-use Rattle.work.specs.Labelled.{labelOf, RowOf, Labelled, TakePre, TakePost}
+use Rattle.work.specs.Labelled.{RowOf, Labelled, TakePre, TakePost}
 use Rattle.work.proofs.Cells.{index-in}
 
 -- ---- one label, marked cell by cell
@@ -61,28 +63,18 @@ module _ (w : List ℕ) (row l : ℕ) where
 
 -- ---- a label for each input
 
-pub label-same : (lows highs : List ℕ) (i a b : ℕ) → i < length lows → i < length highs → labelOf (set lows i a) (set highs i b) i ≡ two b a
-label-same lows highs i a b ll lh = ap₂ two (getD-set-same highs i b 0 lh) (getD-set-same lows i a 0 ll)
-
-pub label-other : (lows highs : List ℕ) (i k a b : ℕ) → k ≢ i → labelOf (set lows i a) (set highs i b) k ≡ labelOf lows highs k
-label-other lows highs i k a b ne = ap₂ two (getD-set-other highs i k b 0 ne) (getD-set-other lows i k a 0 ne)
-
 -- the inputs below i have their labels
 pub record Begun (N : ℕ) (w lows highs : List ℕ) (i : ℕ) : Type 0 where
   pub low : length lows ≡ N
   pub high : length highs ≡ N
-  pub row : (k : ℕ) → k < i → RowOf N w k (labelOf lows highs k)
+  pub row : (k : ℕ) → k < i → RowOf N w k (rowOf lows highs k)
 
-pub begun-next : (N : ℕ) (w lows highs : List ℕ) (i a b : ℕ) → i < N → Begun N w lows highs i → RowOf N w i (two b a) → Begun N w (set lows i a) (set highs i b) (i + 1)
-begun-next N w lows highs i a b l p q = record {
-  low = length-set lows i a ∙ p .low;
-  high = length-set highs i b ∙ p .high;
-  row = λ k h. go k h (ℕ-discrete k i);
-}
+pub begun-next : (N : ℕ) (w lows highs lows' highs' : List ℕ) (i l : ℕ) → Begun N w lows highs i → RowOf N w i l → RowPut i l lows highs lows' highs' → Begun N w lows' highs' (i + 1)
+begun-next N w lows highs lows' highs' i l b q p = record { low = p .low ∙ b .low; high = p .high ∙ b .high; row = λ k h. go k h (ℕ-discrete k i) }
   where
-    go : (k : ℕ) → k < i + 1 → Dec (k ≡ i) → RowOf N w k (labelOf (set lows i a) (set highs i b) k)
-    go k h (yes z) = rw (z, label-same lows highs i a b (omega (arith, p .low)) (omega (arith, p .high))) q
-    go k h (no z) = rw (label-other lows highs i k a b z) (p .row k (omega arith))
+    go : (k : ℕ) → k < i + 1 → Dec (k ≡ i) → RowOf N w k (rowOf lows' highs' k)
+    go k h (yes z) = rw (z, p .here) q
+    go k h (no z) = rw (p .other k z) (b .row k (omega arith))
 
 -- ---- the cell of a pair falls to v
 
@@ -128,38 +120,27 @@ module _ (N : ℕ) (w lows highs : List ℕ) (i j v : ℕ) (s : Sized N w) (li :
       only m e (yes x) = rw (x, same) (omega arith)
       only m e (no x) = rw (other i m (q .only m e .0) (λ y. x (y .1))) (q .only m e .1)
 
-  pub labels-zero : (a b : ℕ) → v ≡ 0 → Cleared (labelOf lows highs i) j (two b a) → Labelled N (set w (i * N + j) v) (set lows i a) (set highs i b)
-  labels-zero a b z c = record { low = length-set lows i a ∙ ls .low; high = length-set highs i b ∙ ls .high; row = λ k h. go k h (ℕ-discrete k i) }
+  -- the output leaves the label just where nothing is left
+  row-taken : (l r : ℕ) → ClearedIf (eqb v 0) l j r → RowOf N w i l → RowOf N after i r
+  row-taken l r c q = go (ℕ-discrete v 0)
     where
-      go : (k : ℕ) → k < N → Dec (k ≡ i) → RowOf N after k (labelOf (set lows i a) (set highs i b) k)
-      go k h (yes x) = rw (x, label-same lows highs i a b (omega (arith, ls .low)) (omega (arith, ls .high))) (row-zero (labelOf lows highs i) (two b a) z c (ls .row i li))
-      go k h (no x) = rw (label-other lows highs i k a b x) (row-same k (labelOf lows highs k) x (ls .row k h))
+      go : Dec (v ≡ 0) → RowOf N after i r
+      go (yes z) = row-zero l r z (c .cleared (eq-eqb v 0 z)) q
+      go (no z) = rw (c .same (ne-eqb v 0 z)) (row-some l z q)
 
-  pub labels-some : v ≢ 0 → Labelled N (set w (i * N + j) v) lows highs
-  labels-some ne = record { low = ls .low; high = ls .high; row = λ k h. go k h (ℕ-discrete k i) }
+  pub labels-taken : (l r : ℕ) (lows' highs' : List ℕ) → l ≡ rowOf lows highs i → ClearedIf (eqb v 0) l j r → RowPut i r lows highs lows' highs'
+      → Labelled N (set w (i * N + j) v) lows' highs'
+  labels-taken l r lows' highs' e c p = record { low = p .low ∙ ls .low; high = p .high ∙ ls .high; row = λ k h. go k h (ℕ-discrete k i) }
     where
-      go : (k : ℕ) → k < N → Dec (k ≡ i) → RowOf N after k (labelOf lows highs k)
-      go k h (yes x) = rw x (row-some (labelOf lows highs i) ne (ls .row i li))
-      go k h (no x) = row-same k (labelOf lows highs k) x (ls .row k h)
+      go : (k : ℕ) → k < N → Dec (k ≡ i) → RowOf N after k (rowOf lows' highs' k)
+      go k h (yes x) = rw (x, p .here) (row-taken l r c (rw e (ls .row i li)))
+      go k h (no x) = rw (p .other k x) (row-same k (rowOf lows highs k) x (ls .row k h))
 
--- the hold is taken off the pair's cell, which stands at r
-module _ (N : ℕ) (w lows highs : List ℕ) (i j hold : ℕ) (p : TakePre N w lows highs i j hold) (r : ℕ) (e : r ≡ i * N + j) where
-  value : getD w r 0 - hold ≡ cell N w i j - hold
-  unfolding cell
-  value = ap (λ x. getD w x 0 - hold) e
-
-  stored : set w r (getD w r 0 - hold) ≡ set w (i * N + j) (cell N w i j - hold)
-  stored = ap₂ (set w) e value
-
-  pub taken-zero : (a b : ℕ) → getD w r 0 - hold ≡ 0 → Cleared (labelOf lows highs i) j (two b a)
-      → TakePost N w i j hold (set w r (getD w r 0 - hold)) (set lows i a) (set highs i b)
-  taken-zero a b z c = record {
-    taken = stored;
-    labels = rw stored (labels-zero N w lows highs i j (cell N w i j - hold) (p .sized) (p .input) (p .output) (omega arith) (p .labels) a b (sym value ∙ z) c);
-  }
-
-  pub taken-some : getD w r 0 - hold ≢ 0 → TakePost N w i j hold (set w r (getD w r 0 - hold)) lows highs
-  taken-some z = record {
-    taken = stored;
-    labels = rw stored (labels-some N w lows highs i j (cell N w i j - hold) (p .sized) (p .input) (p .output) (omega arith) (p .labels) (λ q. z (value ∙ q)));
-  }
+-- the hold is taken off the pair's cell, which stands at q
+pub taken : (N : ℕ) (w lows highs : List ℕ) (i j hold : ℕ) → TakePre N w lows highs i j hold → (q : ℕ) → q ≡ i * N + j → (l r : ℕ) (lows' highs' : List ℕ) → l ≡ rowOf lows highs i
+    → ClearedIf (eqb (getD w q 0 - hold) 0) l j r → RowPut i r lows highs lows' highs' → TakePost N w i j hold (set w q (getD w q 0 - hold)) lows' highs'
+unfolding cell
+taken N w lows highs i j hold p q e l r lows' highs' f c put = record {
+  taken = ap (λ (x : ℕ). set w x (getD w x 0 - hold)) e;
+  labels = rw e (labels-taken N w lows highs i j (getD w (i * N + j) 0 - hold) (p .sized) (p .input) (p .output) (omega arith) (p .labels) l r lows' highs' f (rw e at c) put);
+}

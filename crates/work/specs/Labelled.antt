@@ -2,16 +2,12 @@
 use mathlib.Core.Path.{_≡_}
 use mathlib.Core.List.{List}
 use Prim.Native.Nat.{ℕ, _+_, _*_, _-_, _≤_, _<_}
-use lib.ListN.{length, getD, set}
+use lib.ListN.{length, set}
 use Rattle.switch.specs.Demand.{cell}
 use Rattle.labels.specs.Label.{In}
-use Rattle.labels.specs.Wide.{two}
+use Rattle.labels.specs.Rows.{rowOf}
 use Rattle.rules.specs.Peel.{peelTo}
 use Rattle.work.specs.Level.{Sized, Uses, outOf}
-
--- the label of input i
-abbrev pub labelOf : List ℕ → List ℕ → ℕ → ℕ
-labelOf lows highs i = two (getD highs i 0) (getD lows i 0)
 
 -- output j is in the label l of input i just where the cell is not zero
 pub record RowOf (N : ℕ) (w : List ℕ) (i l : ℕ) : Type 0 where
@@ -22,7 +18,7 @@ pub record RowOf (N : ℕ) (w : List ℕ) (i l : ℕ) : Type 0 where
 pub record Labelled (N : ℕ) (w lows highs : List ℕ) : Type 0 where
   pub low : length lows ≡ N
   pub high : length highs ≡ N
-  pub row : (i : ℕ) → i < N → RowOf N w i (labelOf lows highs i)
+  pub row : (i : ℕ) → i < N → RowOf N w i (rowOf lows highs i)
 
 -- what can be taken off a pair
 pub record TakePre (N : ℕ) (w lows highs : List ℕ) (i j hold : ℕ) : Type 0 where

@@ -4,8 +4,9 @@
 // they are written, is left to the crates above.
 use demand::cell_at;
 use demand::line_sum;
-use labels::Label;
-use labels::Wide;
+use labels::Outputs;
+use labels::put_row;
+use labels::row_of;
 use switch::InputPort;
 use switch::OutputPort;
 ghost use mathlib.Core.Path.{_≡_};
@@ -87,21 +88,17 @@ pub fn label_rows(cells: &[u32], n: usize, lows: &mut [u64], highs: &mut [u64])
     ensures { λ _. ⌜ Labelled n (now (cells .entry)) (now (lows .exit)) (now (highs .exit)) ⌝ }
 {
     for i in 0..n {
-        let row = label_row(cells, n, InputPort(i));
-        let low = row.low;
-        let high = row.high;
-        lows[i] = low.0;
-        highs[i] = high.0;
+        put_row(lows, highs, InputPort(i), label_row(cells, n, InputPort(i)));
     }
 }
 
 // The label of one input.
-fn label_row(cells: &[u32], n: usize, i: InputPort) -> Wide
+fn label_row(cells: &[u32], n: usize, i: InputPort) -> Outputs
     requires { ⌜ Sized n (now cells) × (i .0 < n) ⌝ }
     ensures { λ r. ⌜ RowOf n (now (cells .entry)) (i .0) (outputsOf r) ⌝ }
 {
     let row = i.0 * n;
-    let mut label = Wide::none();
+    let mut label = Outputs::none();
     for j in 0..n {
         if cells[row + j] != 0 {
             label = label.mark(OutputPort(j));
@@ -151,7 +148,8 @@ pub fn subtract(
     }
 }
 
-// The cell of a pair is less by the hold, and its output leaves the label where nothing is left.
+// The cell of a pair is less by the hold, and its output leaves the label where nothing is left. Nobody can foresee whether that is so,
+// and thus the label is written either way.
 pub fn take(
     cells: &mut [u32],
     n: usize,
@@ -167,16 +165,6 @@ pub fn take(
     let at = cell_at(n, i, j);
     let left = cells[at] - hold;
     cells[at] = left;
-    if left == 0 {
-        let k = i.0;
-        let row = Wide {
-            low: Label(lows[k]),
-            high: Label(highs[k]),
-        };
-        let less = row.without(j);
-        let low = less.low;
-        let high = less.high;
-        lows[k] = low.0;
-        highs[k] = high.0;
-    }
+    let row = row_of(lows, highs, i);
+    put_row(lows, highs, i, row.without_if(j, left == 0));
 }

@@ -1,12 +1,12 @@
 -- A wave is marked before its holders are asked, so that fewer outputs are left to try: the search ends, with one handed on or with a closed set.
 use mathlib.Core.Path.{subst, _∙_}
-use Prim.Native.Nat.{ℕ, _+_, _*_, _<_}
+use Prim.Native.Nat.{ℕ, _+_, _*_}
 use borrow.Author.Needs.{needs}
 use native.Mathlib.Omega.{arith}
 use lib.ListN.{length}
 use Rattle.labels.specs.Label.{absent}
 use Rattle.labels.specs.Wide.{outputsOf}
-use Rattle.labels.specs.declared.Found.{Found}
+use Rattle.labels.specs.declared.FoundOutput.{FoundOutput}
 use Rattle.matching.specs.declared.Asked.{Asked}
 use Rattle.matching.specs.Tables.{triedOf, Allowed}
 use Rattle.matching.specs.Search.{Leads, AskPost}
@@ -19,8 +19,8 @@ use Rattle.matching.proofs.+ask_inputs+ask_outputs.Lts-ask_inputs as as
 use Rattle.matching.proofs.ask_outputs.Reads as ask-outputs
 use Rattle.matching.proofs.ask_outputs.Kinds as ask-outputs-kinds
 use Rattle.matching.proofs.+ask_inputs+ask_outputs.Lts-ask_outputs as ask-outputs-lts
-use Rattle.labels.proofs.Wide.but.Reads as but-reads
-use Rattle.labels.proofs.Wide.lowest_untried.Reads as lowest-untried-reads
+use Rattle.labels.proofs.Outputs.but.Reads as but-reads
+use Rattle.labels.proofs.Outputs.lowest_untried.Reads as lowest-untried-reads
 use Rattle.matching.proofs.Tried.next.Reads as next-reads
 use Rattle.matching.proofs.Tried.with.Reads as with-reads
 use Rattle.matching.proofs.hand_on.Reads as hand-on-reads
@@ -170,7 +170,7 @@ ask-outputs-hand-on-requires t c κs =
     let q = c .before .before .before .before .before .before .before .before .before .before .before .ask-inputs in
     let x = c .before .before .before .before .before .a2 .given in
     let m = subst (AskPost 128 (length (a .lows .now)) (Allowed (a .lows .now) (a .highs .now)) (a .by .now) (a .out .now) (triedOf (u .result)) (outputsOf (l .result .outputs)) (q .last .1 .1 .0) (q .last .1 .1 .1 .0)) (x .1) (q .ensures) in
-    let f = subst (λ (z : Found). Leads (Allowed (a .lows .now) (a .highs .now)) (a .by .now) (outputsOf (a .wave)) z (outputsOf (l .result .outputs))) (c .before .before .before .before .before .before .before .before .before .before .before .before .before .before .before .enum-told .given .1) (l .ensures) in
+    let f = subst (λ (z : FoundOutput). Leads (Allowed (a .lows .now) (a .highs .now)) (a .by .now) (outputsOf (a .wave)) z (outputsOf (l .result .outputs))) (c .before .before .before .before .before .before .before .before .before .before .before .before .before .before .before .enum-told .given .1) (l .ensures) in
     (s .pre .1 .0, m .good .outputs, m .here, wave-movable 128 (length (a .lows .now)) (Allowed (a .lows .now) (a .highs .now)) (a .by .now) (a .out .now) (outputsOf (a .held)) (triedOf (a .tried)) (s .pre .1 .1) (outputsOf (a .wave)) (s .pre .1 .2) (triedOf (u .result)) (u .ensures) (outputsOf (l .result .outputs)) f _ _ (q .last .1 .1 .0) (q .last .1 .1 .1 .0) m)
 
 ask-outputs-same-length : (t : ℕ) → ask-outputs-lts.Need-same-length (outs t) (ask-outputs-at t) ask-outputs.Post
@@ -182,7 +182,7 @@ ask-outputs-returns t c =
     let a = s .args in
     let l = c .before .before .before .leads-to in
     let x = c .before .f .given in
-    let m = subst (λ (z : Found). Leads (Allowed (a .lows .now) (a .highs .now)) (a .by .now) (outputsOf (a .wave)) z (outputsOf (l .result .outputs))) (x .1) (l .ensures) in
+    let m = subst (λ (z : FoundOutput). Leads (Allowed (a .lows .now) (a .highs .now)) (a .by .now) (outputsOf (a .wave)) z (outputsOf (l .result .outputs))) (x .1) (l .ensures) in
     wave-free 128 (length (a .lows .now)) (Allowed (a .lows .now) (a .highs .now)) (a .by .now) (a .out .now) (outputsOf (a .held)) (triedOf (a .tried)) (s .pre .1 .1) (outputsOf (a .wave)) (s .pre .1 .2) (x .0 .0 .0) (m .0) (m .1) (m .2)
 
 ask-outputs-same-length-2 : (t : ℕ) → ask-outputs-lts.Need-same-length-2 (outs t) (ask-outputs-at t) ask-outputs.Post
@@ -208,7 +208,7 @@ ask-outputs-returns-2 t c =
     let q = c .before .before .before .before .before .before .before .ask-inputs in
     let x = c .before .a .given in
     let m = subst (AskPost 128 (length (a .lows .now)) (Allowed (a .lows .now) (a .highs .now)) (a .by .now) (a .out .now) (triedOf (u .result)) (outputsOf (l .result .outputs)) (q .last .1 .1 .0) (q .last .1 .1 .1 .0)) (x .1) (q .ensures) in
-    let f = subst (λ (z : Found). Leads (Allowed (a .lows .now) (a .highs .now)) (a .by .now) (outputsOf (a .wave)) z (outputsOf (l .result .outputs))) (c .before .before .before .before .before .before .before .before .before .before .before .enum-told .given .1) (l .ensures) in
+    let f = subst (λ (z : FoundOutput). Leads (Allowed (a .lows .now) (a .highs .now)) (a .by .now) (outputsOf (a .wave)) z (outputsOf (l .result .outputs))) (c .before .before .before .before .before .before .before .before .before .before .before .enum-told .given .1) (l .ensures) in
     wave-stuck 128 (length (a .lows .now)) (Allowed (a .lows .now) (a .highs .now)) (a .by .now) (a .out .now) (outputsOf (a .held)) (triedOf (a .tried)) (s .pre .1 .1) (outputsOf (a .wave)) (s .pre .1 .2) (triedOf (u .result)) (u .ensures) (outputsOf (l .result .outputs)) f (q .last .1 .1 .0) (q .last .1 .1 .1 .0) _ m
 
 ask-outputs-same-length-4 : (t : ℕ) → ask-outputs-lts.Need-same-length-4 (outs t) (ask-outputs-at t) ask-outputs.Post
@@ -237,7 +237,7 @@ ask-outputs-returns-3 t c =
     let h = c .before .before .before .before .hand-on in
     let x = c .before .before .before .before .before .before .before .before .before .before .a2 .given in
     let m = subst (AskPost 128 (length (a .lows .now)) (Allowed (a .lows .now) (a .highs .now)) (a .by .now) (a .out .now) (triedOf (u .result)) (outputsOf (l .result .outputs)) (q .last .1 .1 .0) (q .last .1 .1 .1 .0)) (x .1) (q .ensures) in
-    let f = subst (λ (z : Found). Leads (Allowed (a .lows .now) (a .highs .now)) (a .by .now) (outputsOf (a .wave)) z (outputsOf (l .result .outputs))) (c .before .before .before .before .before .before .before .before .before .before .before .before .before .before .before .before .before .before .before .before .enum-told .given .1) (l .ensures) in
+    let f = subst (λ (z : FoundOutput). Leads (Allowed (a .lows .now) (a .highs .now)) (a .by .now) (outputsOf (a .wave)) z (outputsOf (l .result .outputs))) (c .before .before .before .before .before .before .before .before .before .before .before .before .before .before .before .before .before .before .before .before .enum-told .given .1) (l .ensures) in
     wave-handed 128 (length (a .lows .now)) (Allowed (a .lows .now) (a .highs .now)) (a .by .now) (a .out .now) (outputsOf (a .held)) (triedOf (a .tried)) (s .pre .1 .1) (outputsOf (a .wave)) (s .pre .1 .2) (triedOf (u .result)) (u .ensures) (outputsOf (l .result .outputs)) f _ _ (q .last .1 .1 .0) (q .last .1 .1 .1 .0) m (h .result .0) (h .last .1 .1 .0) (h .last .1 .1 .1 .0) (s .pre .1 .0 .few) (h .ensures)
 
 pub +ask-inputs+ask-outputs-spec : {M : Type 1} → statement M

@@ -4,12 +4,12 @@ use Prim.Native.Nat.{ℕ, _-_}
 use native.Mathlib.Omega.{arith}
 use borrow.Author.Tests.{eqb-true, eqb-false}
 use lib.ListN.{getD}
-use Rattle.labels.specs.Label.{digit, In, Sub, absent}
-use Rattle.labels.specs.Wide.{outputsOf}
+use Rattle.labels.specs.declared.FoundOutput.{FoundOutput}
+use Rattle.labels.specs.Label.{digit, In, Sub, Lowest, LowestAt, absent}
+use Rattle.labels.specs.Wide.{outputsOf, outputFound}
 use Rattle.labels.proofs.Digits.{fewer}
 use Rattle.matching.specs.Tables.{Allowed}
 use Rattle.matching.specs.Search.{Mover}
-use Rattle.matching.proofs.Search.{lowest-at, none-left}
 use Rattle.matching.proofs.Waves.{holder-of, holder-port, not-mover}
 use borrow.Author.Needs.{needs}
 use Rattle.matching.proofs.mover.Statement.{statement}
@@ -25,11 +25,8 @@ abbrev μ-loop : tie.MeasureT-loop
 loop-holds : tie.Need-loop-holds Inv-loop μ-loop
 loop-holds c = (λ k x. x, λ j m. m .0)
 
-none-requires : tie.Need-none-requires Inv-loop μ-loop
-none-requires c κs = search needs
-
-lowest-untried-requires : tie.Need-lowest-untried-requires Inv-loop μ-loop
-lowest-untried-requires c κs = search needs
+lowest-requires : tie.Need-lowest-requires Inv-loop μ-loop
+lowest-requires c κs = search needs
 
 enum-known-f : tie.Need-enum-known-f Inv-loop μ-loop
 enum-known-f c = search needs
@@ -39,59 +36,46 @@ enum-told c = search needs
 
 returns : tie.Need-returns Inv-loop μ-loop
 returns c =
-    let s = c .before .before .before .before .before .before .before .before in
-    let l = c .before .before .before .before .loop in
-    let f = c .before .before .lowest-untried in
-    let m = s .pre .2 .some in
-    let n = c .before .before .before .none in
-    absurd (n .ensures (m .0) (none-left 128 (outputsOf (l .rest)) (outputsOf (n .result)) (f .result) (f .ensures) (c .enum-told .given .1) (m .0) (l .inv .1 (m .0) (m .1))))
+    let m = c .before .before .before .before .before .before .before .pre .2 .some in
+    let l = c .before .before .before .loop in
+    absurd (subst (λ (f : FoundOutput). Lowest 128 (outputsOf (l .rest)) (outputFound f)) (c .enum-told .given .1) (c .before .before .lowest .ensures) (m .0) (l .inv .1 (m .0) (m .1)))
+
+-- the lowest of the rest, which is one of the wave
+low : (c : tie.After-f Inv-loop μ-loop) → LowestAt 128 (outputsOf (c .before .before .before .loop .rest)) (c .f .given .0 .0 .0)
+low c = subst (λ (f : FoundOutput). Lowest 128 (outputsOf (c .before .before .before .loop .rest)) (outputFound f)) (c .f .given .1) (c .before .before .lowest .ensures)
+
+asked : (c : tie.After-f Inv-loop μ-loop) → In (outputsOf (c .before .before .before .before .before .before .before .args .wave)) (c .f .given .0 .0 .0)
+asked c = c .before .before .before .loop .inv .0 (c .f .given .0 .0 .0) (low c .here)
 
 shared-slice-read-v : tie.Need-shared-slice-read-v Inv-loop μ-loop
-shared-slice-read-v c =
-    let s = c .before .before .before .before .before .before .before .before .before .before in
-    let l = c .before .before .before .before .before .before .loop in
-    let f = c .before .before .before .before .lowest-untried in
-    let x = c .before .before .f .given in
-    omega (arith, s .pre .2 .ports .holders, lowest-at 128 (outputsOf (l .rest)) (outputsOf (c .before .before .before .before .before .none .result)) (f .result) (x .0 .0) (f .ensures) (x .1) .small)
+shared-slice-read-v c = omega (arith, c .before .before .before .before .before .before .before .before .before .pre .2 .ports .holders, low (c .before .before) .small)
 
 cast-v : tie.Need-cast-v Inv-loop μ-loop
 cast-v c = omega (arith, c .shared-slice-known4 .given (c .before .before .f .given .0 .0 .0))
 
-sub-t15 : tie.Need-sub-t15 Inv-loop μ-loop
-sub-t15 c =
-    let s = c .before .before .before .before .before .before .before .before .before .before in
-    let l = c .before .before .before .before .before .before .loop in
-    let f = c .before .before .before .before .lowest-untried in
-    let x = c .before .before .f .given in
-    let low = lowest-at 128 (outputsOf (l .rest)) (outputsOf (c .before .before .before .before .before .none .result)) (f .result) (x .0 .0) (f .ensures) (x .1) in
-    omega (arith, s .pre .2 .held (x .0 .0 .0) (l .inv .0 (x .0 .0 .0) (low .here)) .1)
+sub-t14 : tie.Need-sub-t14 Inv-loop μ-loop
+sub-t14 c = omega (arith, c .before .before .before .before .before .before .before .before .before .pre .2 .held (c .before .before .f .given .0 .0 .0) (asked (c .before .before)) .1)
 
 row-of-requires : tie.Need-row-of-requires Inv-loop μ-loop
 row-of-requires c κs =
-    let s = c .before .before .before .before .before .before .before .before .before .before in
+    let s = c .before .before .before .before .before .before .before .before .before in
     let a = s .args in
-    let l = c .before .before .before .before .before .before .loop in
-    let f = c .before .before .before .before .lowest-untried in
-    let x = c .before .before .f .given in
-    let low = lowest-at 128 (outputsOf (l .rest)) (outputsOf (c .before .before .before .before .before .none .result)) (f .result) (x .0 .0) (f .ensures) (x .1) in
-    (s .pre .0, holder-port 128 _ (Allowed (a .lows .now) (a .highs .now)) (a .by .now) (outputsOf (a .wave)) (a .wanted .0) (s .pre .2) (x .0 .0 .0) (l .inv .0 (x .0 .0 .0) (low .here)))
+    let h = holder-port 128 _ (Allowed (a .lows .now) (a .highs .now)) (a .by .now) (outputsOf (a .wave)) (a .wanted .0) (s .pre .2) _ (asked (c .before .before)) in
+    (h, omega (arith, h, s .pre .0 .same))
 
 has-requires : tie.Need-has-requires Inv-loop μ-loop
-has-requires c κs = c .before .before .before .before .before .before .before .before .before .before .before .pre .1
+has-requires c κs = c .before .before .before .before .before .before .before .before .before .before .pre .1
 
 returns-2 : tie.Need-returns-2 Inv-loop μ-loop
 returns-2 c =
-    let s = c .before .before .before .before .before .before .before .before .before .before .before .before .before in
+    let s = c .before .before .before .before .before .before .before .before .before .before .before .before in
     let a = s .args in
-    let l = c .before .before .before .before .before .before .before .before .before .loop in
-    let f = c .before .before .before .before .before .before .before .lowest-untried in
-    let x = c .before .before .before .before .before .f .given in
-    let low = lowest-at 128 (outputsOf (l .rest)) (outputsOf (c .before .before .before .before .before .before .before .before .none .result)) (f .result) (x .0 .0) (f .ensures) (x .1) in
+    let f = c .before .before .before .before .before in
     let r = c .before .before .row-of in (
-      l .inv .0 (x .0 .0 .0) (low .here),
+      asked f,
       (
-        getD (a .by .now) (x .0 .0 .0) 0 - 1,
-        holder-of 128 _ (Allowed (a .lows .now) (a .highs .now)) (a .by .now) (outputsOf (a .wave)) (a .wanted .0) (s .pre .2) (x .0 .0 .0) (l .inv .0 (x .0 .0 .0) (low .here)),
+        getD (a .by .now) (f .f .given .0 .0 .0) 0 - 1,
+        holder-of 128 _ (Allowed (a .lows .now) (a .highs .now)) (a .by .now) (outputsOf (a .wave)) (a .wanted .0) (s .pre .2) _ (asked f),
         subst (λ (q : ℕ). In q (a .wanted .0)) (r .ensures) (eqb-true (digit (outputsOf (r .result)) (a .wanted .0)) 1 (sym (c .before .has .ensures) ∙ c .if1 .taken)),
       ),
     )
@@ -100,30 +84,20 @@ without-lowest-requires : tie.Need-without-lowest-requires Inv-loop μ-loop
 without-lowest-requires c κs = search needs
 
 loop-less : tie.Need-loop-less Inv-loop μ-loop
-loop-less c =
-    let l = c .before .before .before .before .before .before .before .before .before .before .loop in
-    let n = c .before .before .before .before .before .before .before .before .before .none in
-    let f = c .before .before .before .before .before .before .before .before .lowest-untried in
-    let x = c .before .before .before .before .before .before .f .given in
-    let w = c .without-lowest in
-    let low = lowest-at 128 (outputsOf (l .rest)) (outputsOf (n .result)) (f .result) (x .0 .0) (f .ensures) (x .1) in
-    fewer 128 (outputsOf (l .rest)) (x .0 .0 .0) (outputsOf (w .result)) (low .small) (low .here) (w .ensures .cleared (x .0 .0 .0) (low .here) (λ k q h. n .ensures k (low .past k q h)))
+loop-less c = let l = low (c .before .before .before .before .before .before) in fewer 128 _ _ _ (l .small) (l .here) (c .without-lowest .ensures .cleared _ (l .here) (l .past))
 
 loop-again : tie.Need-loop-again Inv-loop μ-loop
 loop-again c =
-    let s = c .before .before .before .before .before .before .before .before .before .before .before .before .before .before in
+    let s = c .before .before .before .before .before .before .before .before .before .before .before .before .before in
     let a = s .args in
-    let l = c .before .before .before .before .before .before .before .before .before .before .loop in
-    let n = c .before .before .before .before .before .before .before .before .before .none in
-    let f = c .before .before .before .before .before .before .before .before .lowest-untried in
-    let x = c .before .before .before .before .before .before .f .given in
-    let w = c .without-lowest in
-    let low = lowest-at 128 (outputsOf (l .rest)) (outputsOf (n .result)) (f .result) (x .0 .0) (f .ensures) (x .1) in
-    let cl = w .ensures .cleared (x .0 .0 .0) (low .here) (λ k q h. n .ensures k (low .past k q h)) in
+    let f = c .before .before .before .before .before .before in
+    let i = c .before .before .before .before .before .before .before .before .before .loop .inv in
+    let l = low f in
+    let cl = c .without-lowest .ensures .cleared _ (l .here) (l .past) in
     let r = c .before .before .before .row-of in
-    let e = not-mover 128 _ (Allowed (a .lows .now) (a .highs .now)) (a .by .now) (outputsOf (a .wave)) (a .wanted .0) (s .pre .2) (x .0 .0 .0) (l .inv .0 (x .0 .0 .0) (low .here))
+    let e = not-mover 128 _ (Allowed (a .lows .now) (a .highs .now)) (a .by .now) (outputsOf (a .wave)) (a .wanted .0) (s .pre .2) (f .f .given .0 .0 .0) (asked f)
     (λ h. eqb-false (digit (outputsOf (r .result)) (a .wanted .0)) 1 (sym (c .before .before .has .ensures) ∙ c .before .if1 .left) (subst (λ (q : ℕ). In q (a .wanted .0)) (sym (r .ensures)) h)) in
-    (λ k y. l .inv .0 k (cl .less k y), λ j y. cl .kept j (l .inv .1 j y) (λ q. e j q y))
+    (λ k y. i .0 k (cl .less k y), λ j y. cl .kept j (i .1 j y) (λ q. e j q y))
 
 pub mover-spec : {M : Type 1} → statement M
 mover-spec =
@@ -132,14 +106,13 @@ mover-spec =
     Inv-loop
     μ-loop
     loop-holds
-    none-requires
-    lowest-untried-requires
+    lowest-requires
     enum-known-f
     enum-told
     returns
     shared-slice-read-v
     cast-v
-    sub-t15
+    sub-t14
     row-of-requires
     has-requires
     returns-2

@@ -1,4 +1,5 @@
 -- An input that holds nothing asks; one that is stuck shows that no full setting keeps what is fixed.
+use native.Mathlib.Omega.{arith}
 use mathlib.Core.Path.{sym, ap, subst, _∙_}
 use Prim.Native.Nat.{ℕ}
 use native.Mathlib.Nat.{lt-of-lt-of-le}
@@ -30,7 +31,7 @@ returns c =
     seat-holds 128 (length (a .lows .now)) (Allowed (a .lows .now) (a .highs .now)) (a .by .now) (a .out .now) (triedOf (a .fixed)) (outputsOf (a .held)) (a .i .0) (s .pre .1) (s .pre .2) (c .before .holds .ensures .held (c .if1 .taken))
 
 row-of-requires : tie.Need-row-of-requires
-row-of-requires c κs = let s = c .before .before .before .before .before .before .before .before .before .before in (s .pre .0, s .pre .1)
+row-of-requires c κs = let s = c .before .before .before .before .before .before .before .before .before .before in (s .pre .1, omega (arith, s .pre .1, s .pre .0 .same))
 
 ask-inputs-requires : tie.Need-ask-inputs-requires
 ask-inputs-requires c κs =

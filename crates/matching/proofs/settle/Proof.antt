@@ -21,7 +21,7 @@ abbrev μ-loop : tie.MeasureT-loop
 μ-loop lows highs by₀ out₀ i row fixed own₀ dead₀ alone₀ by out own dead alone = own .0 + absent 128 (triedOf dead)
 
 row-of-requires : tie.Need-row-of-requires Inv-loop μ-loop
-row-of-requires c κs = let s = c .before .before .before .before in (s .pre .0, s .pre .1)
+row-of-requires c κs = let s = c .before .before .before .before in (s .pre .1, omega (arith, s .pre .1, s .pre .0 .same))
 
 output-of-requires : tie.Need-output-of-requires Inv-loop μ-loop
 output-of-requires c κs = let s = c .before .before .before .before .before .before .before in has-place 128 (length (s .args .lows .now)) (s .args .i .0) (s .args .out .now) (s .pre .0 .few) (s .pre .1) (s .pre .2 .good .outputs)

@@ -3,8 +3,9 @@ use mathlib.Core.Path.{_≡_, sym, ap, _∙_, subst}
 use mathlib.Core.List.{List}
 use Prim.Native.Nat.{ℕ, _-_, _≤_}
 use native.Mathlib.Omega.{arith}
-use lib.ListN.{set}
+use lib.ListN.{getD, set}
 use borrow.Author.Tests.{not-false, eqb-true}
+use Rattle.labels.specs.Label.{In}
 use Rattle.matching.specs.Tables.{Allowed}
 use Rattle.work.proofs.Cells.{getD-any}
 use Rattle.peel.proofs.Release.{Looked, looked-start, looked-keep, looked-free, looked-all}
@@ -30,38 +31,30 @@ shared-slice-read-t12 c = let p = c .before .before .before .before .before .bef
 cast-t13 : tie.Need-cast-t13 Inv-loop μ-loop
 cast-t13 c = omega (arith, c .shared-slice-known4 .given (c .before .before .loop .i - 1))
 
-mul-t13 : tie.Need-mul-t13 Inv-loop μ-loop
-mul-t13 c = omega (arith, c .before .before .before .before .before .before .before .pre .few)
-
-shared-slice-read-t15 : tie.Need-shared-slice-read-t15 Inv-loop μ-loop
-shared-slice-read-t15 c = omega (arith, c .before .before .before .before .before .before .before .before .pre .low)
-
-mul-t17 : tie.Need-mul-t17 Inv-loop μ-loop
-mul-t17 c = omega (arith, c .before .before .before .before .before .before .before .before .pre .few)
-
-shared-slice-read-t19 : tie.Need-shared-slice-read-t19 Inv-loop μ-loop
-shared-slice-read-t19 c = omega (arith, c .before .before .before .before .before .before .before .before .before .pre .high)
+row-of-requires : tie.Need-row-of-requires Inv-loop μ-loop
+row-of-requires c κs = let p = c .before .before .before .before .before .before .before .pre in (omega (arith, p .low), omega (arith, p .high))
 
 has-requires : tie.Need-has-requires Inv-loop μ-loop
 has-requires c κs =
-    let p = c .before .before .before .before .before .before .before .before .before .pre in
-    let i = c .before .before .before .before .loop .i - 1 in
-    omega (arith, getD-any (c .before .before .before .before .before .before .before .before .before .args .out .now) i 0 255 (omega (arith, p .outputs, p .few)), p .inside i (omega arith), p .few)
+    let p = c .before .before .before .before .before .before .before .before .pre in
+    let i = c .before .before .before .loop .i - 1 in
+    omega (arith, getD-any (c .before .before .before .before .before .before .before .before .args .out .now) i 0 255 (omega (arith, p .outputs, p .few)), p .inside i (omega arith), p .few)
 
 release-requires : tie.Need-release-requires Inv-loop μ-loop
 release-requires c κs =
-    let p = c .before .before .before .before .before .before .before .before .before .before .before .before .pre in
-    let i = c .before .before .before .before .before .before .before .loop .i - 1 in
-    omega (arith, getD-any (c .before .before .before .before .before .before .before .before .before .before .before .before .args .out .now) i 0 255 (omega (arith, p .outputs, p .few)), p .inside i (omega arith), p .few, c .before .before .before .before .before .before .before .loop .inv .1 .size)
+    let p = c .before .before .before .before .before .before .before .before .before .before .before .pre in
+    let l = c .before .before .before .before .before .before .loop in
+    let i = l .i - 1 in
+    omega (arith, getD-any (c .before .before .before .before .before .before .before .before .before .before .before .args .out .now) i 0 255 (omega (arith, p .outputs, p .few)), p .inside i (omega arith), p .few, l .inv .1 .size)
 
 loop-less : tie.Need-loop-less Inv-loop μ-loop
 loop-less c = omega arith
 
 loop-again : tie.Need-loop-again Inv-loop μ-loop
 loop-again c =
-    let a = c .before .before .before .before .before .before .before .before .before .before .before .before .before .before .before .args in
-    let p = c .before .before .before .before .before .before .before .before .before .before .before .before .before .before .before .pre in
-    let l = c .before .before .before .before .before .before .before .before .before .before .loop in
+    let a = c .before .before .before .before .before .before .before .before .before .before .before .before .before .before .args in
+    let p = c .before .before .before .before .before .before .before .before .before .before .before .before .before .before .pre in
+    let l = c .before .before .before .before .before .before .before .before .before .loop in
     let i = l .i - 1 in
     let e = getD-any (a .out .now) i 0 255 (omega (arith, p .outputs, p .few)) in (
       omega arith,
@@ -73,13 +66,13 @@ loop-less-2 c = omega arith
 
 loop-again-2 : tie.Need-loop-again-2 Inv-loop μ-loop
 loop-again-2 c =
-    let a = c .before .before .before .before .before .before .before .before .before .before .before .args in
-    let p = c .before .before .before .before .before .before .before .before .before .before .before .pre in
-    let l = c .before .before .before .before .before .before .loop in
+    let a = c .before .before .before .before .before .before .before .before .before .before .args in
+    let p = c .before .before .before .before .before .before .before .before .before .before .pre in
+    let l = c .before .before .before .before .before .loop in
     let i = l .i - 1 in
     let e = getD-any (a .out .now) i 0 255 (omega (arith, p .outputs, p .few)) in
     let h = eqb-true _ _ (sym (c .before .has .ensures) ∙ not-false _ (c .if1 .left)) in
-    (omega arith, looked-keep _ _ _ _ _ p (l .by) (l .kept) (l .i) i (omega arith) (omega arith) (l .inv .1) (subst (Allowed (a .lows .now) (a .highs .now) i) e h))
+    (omega arith, looked-keep _ _ _ _ _ p (l .by) (l .kept) (l .i) i (omega arith) (omega arith) (l .inv .1) (subst (Allowed (a .lows .now) (a .highs .now) i) e (subst (λ (x : ℕ). In x (getD (a .out .now) i 0)) (c .before .before .row-of .ensures) h)))
 
 same-length : tie.Need-same-length Inv-loop μ-loop
 same-length c = c .before .loop .inv .1 .size ∙ sym (c .before .before .before .before .before .before .pre .holders)
@@ -101,10 +94,7 @@ release-emptied-spec =
     sub-i
     shared-slice-read-t12
     cast-t13
-    mul-t13
-    shared-slice-read-t15
-    mul-t17
-    shared-slice-read-t19
+    row-of-requires
     has-requires
     release-requires
     loop-less

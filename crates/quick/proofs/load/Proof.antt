@@ -17,8 +17,8 @@ label-rows-requires c κs =
     let k = c .before .before .before .before .before .copy in
     (sized-as (s .args .n) (s .args .work .now) (k .last .1 .0) (k .kept .1 .0) (s .pre .1), s .pre .2, s .pre .3)
 
-all-inputs-requires : tie.Need-all-inputs-requires
-all-inputs-requires c κs = c .before .before .before .before .before .before .before .before .before .before .before .before .before .before .before .before .pre .0 .few
+first-requires : tie.Need-first-requires
+first-requires c κs = c .before .before .before .before .before .before .before .before .before .before .before .before .before .before .before .before .pre .0 .few
 
 asked-slots-requires : tie.Need-asked-slots-requires
 asked-slots-requires c κs =
@@ -41,7 +41,7 @@ returns c =
     let r = c .before .before .before .before .before .before .label-rows in
     let a = s .args in
     loaded (a .n) (a .cells .now) (drop (length (a .cells .now)) (a .work .now)) (s .pre .0) (k .last .1 .0) (r .last .1 .1 .0) (r .last .1 .1 .1 .0) _
-    (k .ensures) (sized-as (a .n) (a .work .now) (k .last .1 .0) (k .kept .1 .0) (s .pre .1)) (r .ensures) (c .asked-slots .ensures) (c .before .all-inputs .ensures .0) (c .before .all-inputs .ensures .1)
+    (k .ensures) (sized-as (a .n) (a .work .now) (k .last .1 .0) (k .kept .1 .0) (s .pre .1)) (r .ensures) (c .asked-slots .ensures) (c .before .first .ensures)
 
 pub load-spec : {M : Type 1} → statement M
 load-spec =
@@ -49,7 +49,7 @@ load-spec =
     (tie.spec
     copy-requires
     label-rows-requires
-    all-inputs-requires
+    first-requires
     asked-slots-requires
     same-length
     same-length-2

@@ -1,87 +1,34 @@
--- The lowest output of the input's label that is not taken is what the rule gives it, and one slot of that pair is taken off.
-use mathlib.Core.Path.{refl, subst}
+-- The lowest output that the input's label has in common with the free ones is what the rule gives it, and one slot of that pair is taken off.
+use mathlib.Core.Path.{refl, sym, subst}
 use Prim.Native.Nat.{_<_}
 use native.Mathlib.Omega.{arith}
 use Rattle.switch.specs.Demand.{cell}
-use Rattle.labels.specs.declared.Found.{Found}
+use Rattle.labels.specs.declared.FoundOutput.{FoundOutput}
 use Rattle.labels.specs.Label.{Lowest, LowestAt}
-use Rattle.labels.specs.Wide.{outputsOf}
-use Rattle.work.specs.Labelled.{labelOf}
+use Rattle.labels.specs.Wide.{outputsOf, outputFound}
+use Rattle.work.specs.Labelled.{RowOf}
 use Rattle.slot.proofs.Turns.{turn-none, turn-at, some-left, turned-none, turned-at}
 use borrow.Author.Needs.{needs}
 use Rattle.slot.proofs.visit.Statement.{statement}
 use Rattle.slot.proofs.visit.Tie as tie
 
-mul-t14 : tie.Need-mul-t14
-mul-t14 c = search needs
+row-of-requires : tie.Need-row-of-requires
+row-of-requires c κs = search needs
 
-slice-read-t16 : tie.Need-slice-read-t16
-slice-read-t16 c = search needs
+common-requires : tie.Need-common-requires
+common-requires c κs = search needs
 
-mul-t18 : tie.Need-mul-t18
-mul-t18 c = search needs
+lowest-requires : tie.Need-lowest-requires
+lowest-requires c κs = search needs
 
-slice-read-t20 : tie.Need-slice-read-t20
-slice-read-t20 c = search needs
-
-lowest-free-requires : tie.Need-lowest-free-requires
-lowest-free-requires c κs =
-    let s = c .before .before .before .before .before .before .before .before .before in
-    λ k h. omega (arith, s .pre .0 .labels .row (s .args .i .0) (s .pre .1) .only k h .0, s .pre .2)
-
-enum-known-j : tie.Need-enum-known-j
-enum-known-j c = search needs
+enum-known-f : tie.Need-enum-known-f
+enum-known-f c = search needs
 
 enum-told : tie.Need-enum-told
 enum-told c = search needs
 
 still-asking-requires : tie.Need-still-asking-requires
-still-asking-requires c κs =
-    let s = c .before .before .before .before .before .before .before .before .before .before .before .before in
-    (omega (arith, s .pre .1, s .pre .0 .sized .few), λ k h. omega (arith, s .pre .0 .labels .row (s .args .i .0) (s .pre .1) .only k h .0, s .pre .2))
-
-returns : tie.Need-returns
-returns c =
-    let s = c .before .before .before .before .before .before .before .before .before .before .before .before .before in
-    let a = s .args in
-    turned-none (a .n) (a .i .0) (a .work .now) (a .lows .now) (a .highs .now) (a .out .now) (a .turn) (s .pre .0)
-    (turn-none (a .n) (a .work .now) (a .i .0) (labelOf (a .lows .now) (a .highs .now) (a .i .0)) (outputsOf (a .turn .taken)) (s .pre .0 .labels .row (a .i .0) (s .pre .1))
-    (subst (λ (f : Found). Lowest 128 (labelOf (a .lows .now) (a .highs .now) (a .i .0)) (outputsOf (a .turn .taken)) f) (c .before .enum-told .given .1) (c .before .before .before .lowest-free .ensures)))
-    (s .pre .3) _ refl refl (c .still-asking .ensures)
-
--- an output was found
-abbrev start : tie.After-j → tie.Start
-start c = c .before .before .before .before .before .before .before .before .before .before .before .before
-
-lowest : (c : tie.After-j)
-    → LowestAt 128 (labelOf (start c .args .lows .now) (start c .args .highs .now) (start c .args .i .0)) (outputsOf (start c .args .turn .taken)) (c .j .given .0 .0 .0)
-lowest c =
-    let a = start c .args in
-    subst (λ (f : Found). Lowest 128 (labelOf (a .lows .now) (a .highs .now) (a .i .0)) (outputsOf (a .turn .taken)) f) (c .j .given .1) (c .before .before .lowest-free .ensures)
-
--- it is one of N, with slots left for the pair
-left : (c : tie.After-j) → (c .j .given .0 .0 .0 < start c .args .n) × (0 < cell (start c .args .n) (start c .args .work .now) (start c .args .i .0) (c .j .given .0 .0 .0))
-left c = start c .pre .0 .labels .row (start c .args .i .0) (start c .pre .1) .only (c .j .given .0 .0 .0) (lowest c .here)
-
-cast-out : tie.Need-cast-out
-cast-out c = omega (arith, lowest (c .before .before) .small)
-
-slice-write-out : tie.Need-slice-write-out
-slice-write-out c = search needs
-
-serve-requires : tie.Need-serve-requires
-serve-requires c κs =
-    let b = c .before .before .before .before .before in
-    record { sized = start b .pre .0 .sized; labels = start b .pre .0 .labels; input = start b .pre .1; output = left b .0; enough = left b .1 }
-
-mark-requires : tie.Need-mark-requires
-mark-requires c κs = lowest (c .before .before .before .before .before .before .before .before .before .before .before .before) .small
-
-sub-t16 : tie.Need-sub-t16
-sub-t16 c =
-    let b = c .before .before .before .before .before .before .before .before .before .before .before .before .before .before in
-    let a = start b .args in
-    omega (arith, start b .pre .0 .all, some-left (a .n) (a .work .now) (a .i .0) (b .j .given .0 .0 .0) (start b .pre .1) (left b .0) (left b .1))
+still-asking-requires c κs = search needs
 
 same-length : tie.Need-same-length
 same-length c = search needs
@@ -89,42 +36,96 @@ same-length c = search needs
 same-length-2 : tie.Need-same-length-2
 same-length-2 c = search needs
 
+-- the label that was read is the input's
+abbrev begin : tie.After-row-of → tie.Start
+begin c = c .before .before .before .before .before .before .before .before .before .before
+
+label : (c : tie.After-row-of) → RowOf (begin c .args .n) (begin c .args .work .now) (begin c .args .i .0) (outputsOf (c .row-of .result))
+label c = subst (RowOf _ _ _) (sym (c .row-of .ensures)) (begin c .pre .0 .labels .row _ (begin c .pre .1))
+
+returns : tie.Need-returns
+returns c =
+    let r = c .before .before .before .before .before in
+    let s = begin r in
+    let a = s .args in
+    let m = c .before .before .before .before .common in
+    turned-none (a .n) (a .i .0) (a .work .now) (a .lows .now) (a .highs .now) (a .out .now) (a .turn) (s .pre .0)
+    (turn-none _ _ _ _ _ _ (label r) (m .ensures) (subst (λ (f : FoundOutput). Lowest 128 (outputsOf (m .result)) (outputFound f)) (c .before .enum-told .given .1) (c .before .before .before .lowest .ensures)))
+    (s .pre .3) _ refl refl _ (label r) (c .still-asking .ensures)
+
+-- an output was found: it is one of N, with slots left for the pair
+abbrev start : tie.After-f → tie.Start
+start c = begin (c .before .before .before .before)
+
+low : (c : tie.After-f) → LowestAt 128 (outputsOf (c .before .before .before .common .result)) (c .f .given .0 .0 .0)
+low c = subst (λ (f : FoundOutput). Lowest 128 (outputsOf (c .before .before .before .common .result)) (outputFound f)) (c .f .given .1) (c .before .before .lowest .ensures)
+
+left : (c : tie.After-f) → (c .f .given .0 .0 .0 < start c .args .n) × (0 < cell (start c .args .n) (start c .args .work .now) (start c .args .i .0) (c .f .given .0 .0 .0))
+left c = label (c .before .before .before .before) .only _ (c .before .before .before .common .ensures .left _ (low c .here))
+
+cast-out : tie.Need-cast-out
+cast-out c = omega (arith, low (c .before .before) .small)
+
+slice-write-out : tie.Need-slice-write-out
+slice-write-out c = search needs
+
+take-requires : tie.Need-take-requires
+take-requires c κs =
+    let f = c .before .before .before .before .before in
+    let p = start f .pre in
+    record { sized = p .0 .sized; labels = p .0 .labels; input = p .1; output = left f .0; enough = left f .1 }
+
+without-requires : tie.Need-without-requires
+without-requires c κs = low (c .before .before .before .before .before .before .before .before .before .before .before .before) .small
+
+sub-t32 : tie.Need-sub-t32
+sub-t32 c =
+    let f = c .before .before .before .before .before .before .before .before .before .before .before .before .before .before in
+    let s = start f in
+    omega (arith, s .pre .0 .all, some-left (s .args .n) (s .args .work .now) (s .args .i .0) (f .f .given .0 .0 .0) (s .pre .1) (left f .0) (left f .1))
+
 same-length-3 : tie.Need-same-length-3
 same-length-3 c = search needs
 
 same-length-4 : tie.Need-same-length-4
 same-length-4 c = search needs
 
+same-length-5 : tie.Need-same-length-5
+same-length-5 c = search needs
+
+same-length-6 : tie.Need-same-length-6
+same-length-6 c = search needs
+
 returns-2 : tie.Need-returns-2
 returns-2 c =
-    let b = c .before .before .before .before .before .before .before .before .before .before .before .before .before .before in
-    let a = start b .args in
-    let t = c .before .before .before .before .before .before .before .before .serve in
-    let j = b .j .given .0 .0 .0 in
-    turned-at (a .n) (a .i .0) (a .work .now) (a .lows .now) (a .highs .now) (a .out .now) (a .turn) (start b .pre .0) j (start b .pre .1) (left b .0) (left b .1)
-    (turn-at (a .n) (a .work .now) (a .i .0) (labelOf (a .lows .now) (a .highs .now) (a .i .0)) (outputsOf (a .turn .taken)) (start b .pre .0 .labels .row (a .i .0) (start b .pre .1)) j (lowest b))
-    (t .last .0) (t .last .1 .1 .0) (t .last .1 .1 .1 .0) _ (t .ensures) (c .before .mark .ensures) refl refl
+    let f = c .before .before .before .before .before .before .before .before .before .before .before .before .before .before in
+    let s = start f in
+    let a = s .args in
+    let t = c .before .before .before .before .before .before .before .before .take in
+    turned-at (a .n) (a .i .0) (a .work .now) (a .lows .now) (a .highs .now) (a .out .now) (a .turn) (s .pre .0) (f .f .given .0 .0 .0) (s .pre .1) (left f .0) (left f .1)
+    (turn-at _ _ _ _ _ _ (label (f .before .before .before .before)) (f .before .before .before .common .ensures) _ (low f))
+    (t .last .0) (t .last .1 .1 .0) (t .last .1 .1 .1 .0) _ (t .ensures) (c .before .without .ensures) refl refl
 
 pub visit-spec : {M : Type 1} → statement M
 visit-spec =
     tie.close
     (tie.spec
-    mul-t14
-    slice-read-t16
-    mul-t18
-    slice-read-t20
-    lowest-free-requires
-    enum-known-j
+    row-of-requires
+    common-requires
+    lowest-requires
+    enum-known-f
     enum-told
     still-asking-requires
+    same-length
+    same-length-2
     returns
     cast-out
     slice-write-out
-    serve-requires
-    mark-requires
-    sub-t16
-    same-length
-    same-length-2
+    take-requires
+    without-requires
+    sub-t32
     same-length-3
     same-length-4
+    same-length-5
+    same-length-6
     returns-2)

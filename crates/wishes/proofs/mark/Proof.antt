@@ -4,32 +4,14 @@ use borrow.Author.Needs.{needs}
 use Rattle.wishes.proofs.mark.Statement.{statement}
 use Rattle.wishes.proofs.mark.Tie as tie
 
-mul-t8 : tie.Need-mul-t8
-mul-t8 c = search needs
-
-slice-read-t10 : tie.Need-slice-read-t10
-slice-read-t10 c = search needs
-
-mul-t12 : tie.Need-mul-t12
-mul-t12 c = search needs
-
-slice-read-t14 : tie.Need-slice-read-t14
-slice-read-t14 c = search needs
+row-of-requires : tie.Need-row-of-requires
+row-of-requires c κs = search needs
 
 mark-requires : tie.Need-mark-requires
 mark-requires c κs = search needs
 
-mul-lows : tie.Need-mul-lows
-mul-lows c = search needs
-
-slice-write-lows : tie.Need-slice-write-lows
-slice-write-lows c = search needs
-
-mul-highs : tie.Need-mul-highs
-mul-highs c = search needs
-
-slice-write-highs : tie.Need-slice-write-highs
-slice-write-highs c = search needs
+put-row-requires : tie.Need-put-row-requires
+put-row-requires c κs = search needs
 
 same-length : tie.Need-same-length
 same-length c = search needs
@@ -38,21 +20,11 @@ same-length-2 : tie.Need-same-length-2
 same-length-2 c = search needs
 
 returns : tie.Need-returns
-returns c = let p = c .before .before .before .before .before .pre in marks _ _ _ _ _ _ (p .1) (p .2) (c .mark .ensures)
+returns c =
+    let p = c .before .before .before .before in
+    marks _ _ _ _ _ _ _ _ (p .before .before .before .before .row-of .ensures) (p .before .mark .ensures) (p .put-row .ensures)
 
 pub mark-spec : {M : Type 1} → statement M
 mark-spec =
     tie.close
-    (tie.spec
-    mul-t8
-    slice-read-t10
-    mul-t12
-    slice-read-t14
-    mark-requires
-    mul-lows
-    slice-write-lows
-    mul-highs
-    slice-write-highs
-    same-length
-    same-length-2
-    returns)
+    (tie.spec row-of-requires mark-requires put-row-requires same-length same-length-2 returns)

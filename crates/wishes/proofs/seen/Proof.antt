@@ -1,29 +1,21 @@
 -- The pair was marked where its output is in the set of its input.
+use mathlib.Core.Path.{ap, _∙_}
+use Prim.Native.Nat.{ℕ}
+use Rattle.labels.specs.Label.{isIn}
 use Rattle.wishes.specs.Seen.{seenPair}
 use borrow.Author.Needs.{needs}
 use Rattle.wishes.proofs.seen.Statement.{statement}
 use Rattle.wishes.proofs.seen.Tie as tie
 
-mul-t7 : tie.Need-mul-t7
-mul-t7 c = search needs
-
-shared-slice-read-t9 : tie.Need-shared-slice-read-t9
-shared-slice-read-t9 c = search needs
-
-mul-t11 : tie.Need-mul-t11
-mul-t11 c = search needs
-
-shared-slice-read-t13 : tie.Need-shared-slice-read-t13
-shared-slice-read-t13 c = search needs
+row-of-requires : tie.Need-row-of-requires
+row-of-requires c κs = search needs
 
 has-requires : tie.Need-has-requires
 has-requires c κs = search needs
 
 returns : tie.Need-returns
 unfolding seenPair
-returns c = c .has .ensures
+returns c = c .has .ensures ∙ ap (λ (x : ℕ). isIn x (c .before .before .before .before .args .j .0)) (c .before .row-of .ensures)
 
 pub seen-spec : {M : Type 1} → statement M
-seen-spec =
-    tie.close
-    (tie.spec mul-t7 shared-slice-read-t9 mul-t11 shared-slice-read-t13 has-requires returns)
+seen-spec = tie.close (tie.spec row-of-requires has-requires returns)

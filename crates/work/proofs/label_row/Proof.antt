@@ -3,7 +3,7 @@ use mathlib.Core.Path.{_≡_, refl, sym, subst}
 use mathlib.Core.Logic.{⊎-elim}
 use Prim.Native.Nat.{_+_, _-_, _*_, _≤_}
 use native.Mathlib.Omega.{arith}
-use Rattle.labels.specs.declared.Wide.{Wide}
+use Rattle.labels.specs.declared.Outputs.{Outputs}
 use Rattle.labels.specs.Wide.{outputsOf}
 use Rattle.work.proofs.Cells.{index-in}
 use Rattle.work.proofs.Labels.{Part, part-none, part-mark, part-skip, part-row}
@@ -51,8 +51,8 @@ loop-again c =
     let row = a .i .0 * a .n in (
       omega arith,
       ⊎-elim
-          (λ x. subst (λ (q : Wide). Part (a .cells .now) row (outputsOf q) (l .j + 1)) (sym (x .2)) (part-mark (a .cells .now) row (outputsOf (l .label)) (l .j) (outputsOf (x .1 .result)) (x .0 .taken) (x .1 .ensures) (l .inv .1)))
-          (λ x. subst (λ (q : Wide). Part (a .cells .now) row (outputsOf q) (l .j + 1)) (sym (x .1)) (part-skip (a .cells .now) row (outputsOf (l .label)) (l .j) (x .0 .left) (l .inv .1)))
+          (λ x. subst (λ (q : Outputs). Part (a .cells .now) row (outputsOf q) (l .j + 1)) (sym (x .2)) (part-mark (a .cells .now) row (outputsOf (l .label)) (l .j) (outputsOf (x .1 .result)) (x .0 .taken) (x .1 .ensures) (l .inv .1)))
+          (λ x. subst (λ (q : Outputs). Part (a .cells .now) row (outputsOf q) (l .j + 1)) (sym (x .1)) (part-skip (a .cells .now) row (outputsOf (l .label)) (l .j) (x .0 .left) (l .inv .1)))
           (c .if1 .came),
     )
 

@@ -19,30 +19,19 @@ loop-holds c = (omega arith, record { low = c .before .before .before .pre .1; h
 label-row-requires : tie.Need-label-row-requires Inv-loop μ-loop
 label-row-requires c κs = search needs
 
-mul-lows : tie.Need-mul-lows Inv-loop μ-loop
-mul-lows c = search needs
-
-slice-write-lows : tie.Need-slice-write-lows Inv-loop μ-loop
-slice-write-lows c = omega (arith, c .before .before .before .before .loop .inv .1 .low)
-
-mul-highs : tie.Need-mul-highs Inv-loop μ-loop
-mul-highs c = search needs
-
-slice-write-highs : tie.Need-slice-write-highs Inv-loop μ-loop
-slice-write-highs c = omega (arith, c .before .before .before .before .loop .inv .1 .high)
+put-row-requires : tie.Need-put-row-requires Inv-loop μ-loop
+put-row-requires c κs = let g = c .before .before .before .before .loop .inv .1 in (omega (arith, g .low), omega (arith, g .high))
 
 add-i : tie.Need-add-i Inv-loop μ-loop
 add-i c = search needs
 
 loop-less : tie.Need-loop-less Inv-loop μ-loop
-loop-less c = omega arith
+loop-less c = omega (arith, c .before .before .before .before .before .before .before .before .loop-test .taken)
 
 loop-again : tie.Need-loop-again Inv-loop μ-loop
 loop-again c =
-    let a = c .before .before .before .before .before .before .before .before .args in
-    let l = c .before .before .before .before .loop in
-    let r = c .before .before .label-row in
-    (omega arith, begun-next (a .n) (a .cells .now) (l .lows) (l .highs) (l .i) (r .result .low .0) (r .result .high .0) (c .before .before .before .loop-test .taken) (l .inv .1) (r .ensures))
+    let p = c .before .before .before .before in
+    (omega (arith, c .before .before .before .before .before .before .before .before .loop-test .taken), begun-next _ _ _ _ _ _ _ _ (c .before .before .before .before .before .before .before .before .before .loop .inv .1) (p .before .label-row .ensures) (p .put-row .ensures))
 
 same-length : tie.Need-same-length Inv-loop μ-loop
 same-length c = c .before .loop .inv .1 .low ∙ sym (c .before .before .before .before .before .pre .1)
@@ -61,10 +50,7 @@ label-rows-spec =
     μ-loop
     loop-holds
     label-row-requires
-    mul-lows
-    slice-write-lows
-    mul-highs
-    slice-write-highs
+    put-row-requires
     add-i
     loop-less
     loop-again

@@ -9,13 +9,13 @@ use Rattle.labels.proofs.Label.below.Tie as tie
 shl-first : tie.Need-shl-first
 shl-first c = search needs
 
-rem-t5 : tie.Need-rem-t5
-rem-t5 c = let j = c .before .args .j .0 in omega (arith, one-shifted j (c .before .pre), pow-pos j)
+rem-t4 : tie.Need-rem-t4
+rem-t4 c = let j = c .before .args .j in omega (arith, one-shifted j (c .before .pre), pow-pos j)
 
 returns : tie.Need-returns
 returns c =
     let a = c .before .args in
-    rw (one-shifted (a .j .0) (c .before .pre)) (below (a .self .0) (a .j .0))
+    rw (one-shifted (a .j) (c .before .pre)) (below (a .self .0) (a .j))
 
 pub below-spec : {M : Type 1} → statement M
-below-spec = tie.close (tie.spec shl-first rem-t5 returns)
+below-spec = tie.close (tie.spec shl-first rem-t4 returns)

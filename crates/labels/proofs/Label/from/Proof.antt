@@ -10,16 +10,16 @@ use Rattle.labels.proofs.Label.from.Tie as tie
 shl-first : tie.Need-shl-first
 shl-first c = search needs
 
-rem-t5 : tie.Need-rem-t5
-rem-t5 c = let j = c .before .args .j .0 in omega (arith, one-shifted j (c .before .pre), pow-pos j)
+rem-t4 : tie.Need-rem-t4
+rem-t4 c = let j = c .before .args .j in omega (arith, one-shifted j (c .before .pre), pow-pos j)
 
-sub-t6 : tie.Need-sub-t6
-sub-t6 c = mod-le _ _
+sub-t5 : tie.Need-sub-t5
+sub-t5 c = mod-le _ _
 
 returns : tie.Need-returns
 returns c =
     let a = c .before .before .args in
-    rw (one-shifted (a .j .0) (c .before .before .pre)) (from-on (a .self .0) (a .j .0))
+    rw (one-shifted (a .j) (c .before .before .pre)) (from-on (a .self .0) (a .j))
 
 pub from-spec : {M : Type 1} → statement M
-from-spec = tie.close (tie.spec shl-first rem-t5 sub-t6 returns)
+from-spec = tie.close (tie.spec shl-first rem-t4 sub-t5 returns)

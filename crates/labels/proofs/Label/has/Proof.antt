@@ -11,7 +11,7 @@ shr-result : tie.Need-shr-result
 shr-result c = search needs
 
 returns : tie.Need-returns
-returns c = ap (λ (x : ℕ). eqb x 1) (has-digit (c .before .args .self .0) (c .before .args .j .0))
+returns c = ap (λ (x : ℕ). eqb x 1) (has-digit (c .before .args .self .0) (c .before .args .j))
 
 pub has-spec : {M : Type 1} → statement M
 has-spec = tie.close (tie.spec shr-result returns)

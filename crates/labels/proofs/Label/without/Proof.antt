@@ -4,13 +4,13 @@ use borrow.Author.Needs.{needs}
 use Rattle.labels.proofs.Label.without.Statement.{statement}
 use Rattle.labels.proofs.Label.without.Tie as tie
 
-shl-t5 : tie.Need-shl-t5
-shl-t5 c = search needs
+shl-t4 : tie.Need-shl-t4
+shl-t4 c = search needs
 
 returns : tie.Need-returns
 returns c =
     let a = c .before .before .args in
-    rw (one-shifted (a .j .0) (c .before .before .pre)) (cleared (a .self .0) (a .j .0))
+    rw (one-shifted (a .j) (c .before .before .pre)) (cleared (a .self .0) (a .j))
 
 pub without-spec : {M : Type 1} → statement M
-without-spec = tie.close (tie.spec shl-t5 returns)
+without-spec = tie.close (tie.spec shl-t4 returns)

@@ -7,13 +7,13 @@ use Rattle.labels.proofs.Label.without_if.Tie as tie
 cast-one : tie.Need-cast-one
 cast-one c = search needs
 
-shl-t7 : tie.Need-shl-t7
-shl-t7 c = search needs
+shl-t6 : tie.Need-shl-t6
+shl-t6 c = search needs
 
 returns : tie.Need-returns
 returns c =
     let s = c .before .before in
-    cleared-if (s .args .gone) (s .args .self .0) (s .args .j .0) (s .pre)
+    cleared-if (s .args .gone) (s .args .self .0) (s .args .j) (s .pre)
 
 pub without-if-spec : {M : Type 1} → statement M
-without-if-spec = tie.close (tie.spec cast-one shl-t7 returns)
+without-if-spec = tie.close (tie.spec cast-one shl-t6 returns)

@@ -1,4 +1,4 @@
--- The word that output j stands in is cut there: the high one stays above the low one, and there is nothing of the low one below the high one.
+-- The word that j stands in is cut there: the high one stays above the low one, and there is nothing of the low one below the high one.
 use mathlib.Core.Path.{_≡_, subst}
 use Prim.Native.Nat.{ℕ, _+_, _-_}
 use native.Mathlib.Omega.{arith}
@@ -15,7 +15,7 @@ from-requires c κs = search needs
 returns : tie.Need-returns
 returns c =
     let a = c .before .before .before .before .args in
-    from-low (a .self .high .0) (a .self .low .0) (c .from .result .0) (a .j .0) (omega arith) (omega arith) (omega arith) (c .from .ensures)
+    from-low (a .self .high .0) (a .self .low .0) (c .from .result .0) (a .j) (omega arith) (omega arith) (omega arith) (c .from .ensures)
 
 none-requires : tie.Need-none-requires
 none-requires c κs = search needs
@@ -26,9 +26,9 @@ from-requires-2 c κs = search needs
 returns-2 : tie.Need-returns-2
 returns-2 c =
     let a = c .before .before .before .before .before .args in
-    let e : 64 + (a .j .0 - 64) ≡ a .j .0 = omega arith in
+    let e : 64 + (a .j - 64) ≡ a .j = omega arith in
     subst (λ (k : ℕ). From (two (a .self .high .0) (a .self .low .0)) k (two (c .from2 .result .0) (c .before .none .result .0))) e
-    (from-high (a .self .high .0) (a .self .low .0) (c .from2 .result .0) (c .before .none .result .0) (a .j .0 - 64) (omega arith) (omega arith) (c .before .none .ensures) (c .from2 .ensures))
+    (from-high (a .self .high .0) (a .self .low .0) (c .from2 .result .0) (c .before .none .result .0) (a .j - 64) (omega arith) (omega arith) (c .before .none .ensures) (c .from2 .ensures))
 
 pub from-spec : {M : Type 1} → statement M
 from-spec = tie.close (tie.spec from-requires returns none-requires from-requires-2 returns-2)

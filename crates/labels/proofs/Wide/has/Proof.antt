@@ -1,4 +1,4 @@
--- The word that output j stands in does it, and the other stays.
+-- The word that j stands in does it, and the other stays.
 use native.Mathlib.Omega.{arith}
 use Rattle.labels.proofs.Words.{low, high}
 use mathlib.Core.Path.{_≡_, sym, ap, _∙_}
@@ -16,7 +16,7 @@ has-requires c κs = search needs
 returns : tie.Need-returns
 returns c =
     let a = c .before .before .before .args in
-    c .has .ensures ∙ sym (ap (λ (x : ℕ). eqb x 1) (low (a .self .high .0) (a .self .low .0) (a .j .0) (omega arith)))
+    c .has .ensures ∙ sym (ap (λ (x : ℕ). eqb x 1) (low (a .self .high .0) (a .self .low .0) (a .j) (omega arith)))
 
 has-requires-2 : tie.Need-has-requires-2
 has-requires-2 c κs = search needs
@@ -24,9 +24,9 @@ has-requires-2 c κs = search needs
 returns-2 : tie.Need-returns-2
 returns-2 c =
     let a = c .before .before .before .args in
-    let e : 64 + (a .j .0 - 64) ≡ a .j .0 = omega arith in
+    let e : 64 + (a .j - 64) ≡ a .j = omega arith in
     c .has2 .ensures
-    ∙ sym (ap (λ (x : ℕ). eqb x 1) (ap (digit (two (a .self .high .0) (a .self .low .0))) (sym e) ∙ high (a .self .high .0) (a .self .low .0) (a .j .0 - 64) (omega arith)))
+    ∙ sym (ap (λ (x : ℕ). eqb x 1) (ap (digit (two (a .self .high .0) (a .self .low .0))) (sym e) ∙ high (a .self .high .0) (a .self .low .0) (a .j - 64) (omega arith)))
 
 pub has-spec : {M : Type 1} → statement M
 has-spec = tie.close (tie.spec has-requires returns has-requires-2 returns-2)

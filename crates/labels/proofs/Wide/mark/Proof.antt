@@ -1,4 +1,4 @@
--- The word that output j stands in does it, and the other stays.
+-- The word that j stands in does it, and the other stays.
 use native.Mathlib.Omega.{arith}
 use Rattle.labels.proofs.Words.{marked-low, marked-high}
 use mathlib.Core.Path.{_≡_, subst}
@@ -15,7 +15,7 @@ mark-requires c κs = search needs
 returns : tie.Need-returns
 returns c =
     let a = c .before .before .before .before .args in
-    marked-low (a .self .high .0) (a .self .low .0) (c .mark .result .0) (a .j .0) (omega arith) (omega arith) (omega arith) (c .mark .ensures)
+    marked-low (a .self .high .0) (a .self .low .0) (c .mark .result .0) (a .j) (omega arith) (omega arith) (omega arith) (c .mark .ensures)
 
 mark-requires-2 : tie.Need-mark-requires-2
 mark-requires-2 c κs = search needs
@@ -23,9 +23,9 @@ mark-requires-2 c κs = search needs
 returns-2 : tie.Need-returns-2
 returns-2 c =
     let a = c .before .before .before .before .args in
-    let e : 64 + (a .j .0 - 64) ≡ a .j .0 = omega arith in
+    let e : 64 + (a .j - 64) ≡ a .j = omega arith in
     subst (λ (k : ℕ). Marked (two (a .self .high .0) (a .self .low .0)) k (two (c .mark2 .result .0) (a .self .low .0))) e
-    (marked-high (a .self .high .0) (c .mark2 .result .0) (a .self .low .0) (a .j .0 - 64) (omega arith) (c .mark2 .ensures))
+    (marked-high (a .self .high .0) (c .mark2 .result .0) (a .self .low .0) (a .j - 64) (omega arith) (c .mark2 .ensures))
 
 pub mark-spec : {M : Type 1} → statement M
 mark-spec = tie.close (tie.spec mark-requires returns mark-requires-2 returns-2)

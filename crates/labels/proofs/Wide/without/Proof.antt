@@ -1,4 +1,4 @@
--- The word that output j stands in does it, and the other stays.
+-- The word that j stands in does it, and the other stays.
 use native.Mathlib.Omega.{arith}
 use Rattle.labels.proofs.Words.{cleared-low, cleared-high}
 use mathlib.Core.Path.{_≡_, subst}
@@ -15,7 +15,7 @@ without-requires c κs = search needs
 returns : tie.Need-returns
 returns c =
     let a = c .before .before .before .before .args in
-    cleared-low (a .self .high .0) (a .self .low .0) (c .without .result .0) (a .j .0) (omega arith) (omega arith) (omega arith) (c .without .ensures)
+    cleared-low (a .self .high .0) (a .self .low .0) (c .without .result .0) (a .j) (omega arith) (omega arith) (omega arith) (c .without .ensures)
 
 without-requires-2 : tie.Need-without-requires-2
 without-requires-2 c κs = search needs
@@ -23,9 +23,9 @@ without-requires-2 c κs = search needs
 returns-2 : tie.Need-returns-2
 returns-2 c =
     let a = c .before .before .before .before .args in
-    let e : 64 + (a .j .0 - 64) ≡ a .j .0 = omega arith in
+    let e : 64 + (a .j - 64) ≡ a .j = omega arith in
     subst (λ (k : ℕ). Cleared (two (a .self .high .0) (a .self .low .0)) k (two (c .without2 .result .0) (a .self .low .0))) e
-    (cleared-high (a .self .high .0) (c .without2 .result .0) (a .self .low .0) (a .j .0 - 64) (omega arith) (c .without2 .ensures))
+    (cleared-high (a .self .high .0) (c .without2 .result .0) (a .self .low .0) (a .j - 64) (omega arith) (c .without2 .ensures))
 
 pub without-spec : {M : Type 1} → statement M
 without-spec = tie.close (tie.spec without-requires returns without-requires-2 returns-2)

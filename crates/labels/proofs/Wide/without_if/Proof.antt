@@ -1,4 +1,4 @@
--- The word that output j stands in does it, and the other stays.
+-- The word that j stands in does it, and the other stays.
 use mathlib.Core.Path.{_≡_, ap, subst}
 use Prim.Native.Nat.{ℕ, _+_, _-_}
 use native.Mathlib.Omega.{arith}
@@ -16,7 +16,7 @@ returns : tie.Need-returns
 returns c =
     let a = c .before .before .before .before .args in
     record {
-      cleared = λ g. cleared-low (a .self .high .0) (a .self .low .0) (c .without-if .result .0) (a .j .0) (omega arith) (omega arith) (omega arith) (c .without-if .ensures .cleared g);
+      cleared = λ g. cleared-low (a .self .high .0) (a .self .low .0) (c .without-if .result .0) (a .j) (omega arith) (omega arith) (omega arith) (c .without-if .ensures .cleared g);
       same = λ g. ap (two (a .self .high .0)) (c .without-if .ensures .same g);
     }
 
@@ -26,10 +26,10 @@ without-if-requires-2 c κs = search needs
 returns-2 : tie.Need-returns-2
 returns-2 c =
     let a = c .before .before .before .before .args in
-    let e : 64 + (a .j .0 - 64) ≡ a .j .0 = omega arith in
+    let e : 64 + (a .j - 64) ≡ a .j = omega arith in
     record {
       cleared = λ g. subst (λ (k : ℕ). Cleared (two (a .self .high .0) (a .self .low .0)) k (two (c .without-if2 .result .0) (a .self .low .0))) e
-          (cleared-high (a .self .high .0) (c .without-if2 .result .0) (a .self .low .0) (a .j .0 - 64) (omega arith) (c .without-if2 .ensures .cleared g));
+          (cleared-high (a .self .high .0) (c .without-if2 .result .0) (a .self .low .0) (a .j - 64) (omega arith) (c .without-if2 .ensures .cleared g));
       same = λ g. ap (λ (x : ℕ). two x (a .self .low .0)) (c .without-if2 .ensures .same g);
     }
 
