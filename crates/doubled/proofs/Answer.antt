@@ -3,7 +3,6 @@ use mathlib.Core.Path.{_≡_, sym, ap, _∙_}
 use mathlib.Core.List.{List, []}
 use Prim.Native.Nat.{ℕ, _+_, _*_, _-_, _≤_, _<_}
 use native.Mathlib.Omega.{arith}
-use native.Mathlib.Nat.{div-mul-le-self, mul-le-mul-right}
 use lib.ListN.{length, getD}
 use Rattle.switch.specs.declared.Refusal.the-variants.{Room}
 use Rattle.switch.specs.declared.Outcome.the-variants.{Done, Refused}
@@ -27,13 +26,15 @@ use Rattle.records.proofs.Laid.{laid-none}
 use Rattle.records.proofs.Bytes.{bytes-none}
 use Rattle.planner.specs.Planned.{Planned, planned}
 use Rattle.planner.proofs.Planned.{planned-short, planned-done, written-outcome, written-bytes}
-use Rattle.rotations.specs.declared.Rule.{Rule}
-use Rattle.rotations.specs.Second.{holdsBy, doubledRule, Measures}
+use Rattle.turns.specs.declared.Rule.{Rule}
+use Rattle.turns.specs.declared.Turning.the-variants.{Forward}
+use Rattle.turns.specs.Second.{holdsBy, doubledRule, parts, Divided, Measures}
 use Rattle.peel.specs.Standing.{Cells}
 use Rattle.exact.specs.Laying.{Place}
-use Rattle.doubled.specs.Parts.{parts, Divided, Needs}
-use Rattle.doubled.proofs.Both.{parts-records, parts-total}
-use Rattle.doubled.proofs.Divided.{asked, sized, within, quotient-cells}
+use Rattle.doubled.specs.Parts.{Needs}
+use Rattle.turns.proofs.Divided.{asked, sized, within, first-total}
+use Rattle.turns.proofs.Both.{both-records, both-total, both-room}
+use Rattle.doubled.proofs.Divided.{quotient-cells}
 
 -- a plan of r records, total t and x empty slots that is laid is the answer
 laid-answer : (W e N T r t x : ℕ) (d : List ℕ) (p : List Record) (plan plan' : List ℕ) → checkDemand W N d ≡ Fine T → length p ≤ whole W plan
@@ -47,65 +48,65 @@ laid-answer W e N T r t x d p plan plan' fine fits a b f c =
 
 -- T is 0
 pub empty-answer : (r : Rule) (W e N : ℕ) (d plan : List ℕ) → checkDemand W N d ≡ Fine 0
-    → (Done (planCounts 0 0 0) ≡ planned W e N d (doubledRule r W N d) plan .outcome) × (plan ≡ planned W e N d (doubledRule r W N d) plan .bytes)
-empty-answer r W e N d plan fine = laid-answer W e N 0 0 0 0 d (doubledRule r W N d) plan plan fine (omega (arith, ap length none)) (sym (ap length none)) (unfold total in sym (ap total none))
+    → (Done (planCounts 0 0 0) ≡ planned W e N d (doubledRule r Forward W N d) plan .outcome) × (plan ≡ planned W e N d (doubledRule r Forward W N d) plan .bytes)
+empty-answer r W e N d plan fine = laid-answer W e N 0 0 0 0 d (doubledRule r Forward W N d) plan plan fine (omega (arith, ap length none)) (sym (ap length none)) (unfold total in sym (ap total none))
     (sym (ap (emptySlots N (cell N d)) none ∙ empty-none N (cell N d) [] (λ i j _ _. unfold grant in omega arith)))
     (sym (laid-none plan 0) ∙ ap (laid plan 0) (sym (ap (bytes e N) none ∙ bytes-none e N)))
   where
-    none : doubledRule r W N d ≡ []
-    none = by-empty W N (rotate N) (holdsBy r N d) d (sym (fine-asked W N 0 d fine .longest-is))
+    none : doubledRule r Forward W N d ≡ []
+    none = by-empty W N (rotate N) (holdsBy r Forward N d) d (sym (fine-asked W N 0 d fine .longest-is))
 
 module _ (W N T u : ℕ) (d q H : List ℕ) (v : Divided W N T u d q) (e : ℕ) (plan : List ℕ) (turns sum : ℕ) (m : Measures N H turns sum) where
-  records : length (parts W N u q H) ≡ length (exactPlan W N q) + turns
-  records = omega (arith, parts-records W N u q H, m .count W (rotate N))
+  records : length (parts Forward W N u q H) ≡ length (exactPlan W N q) + turns
+  records = omega (arith, both-records Forward W N u (exactPlan W N q) H, m .count W (rotate N))
 
   module _ (need : ℕ) (s : Needs (whole W plan) need (length (exactPlan W N q) + turns)) where
     -- code 5, with the records needed
     pub short-answer : whole W plan < need
-        → (Refused (Room need) ≡ planned W e N d (parts W N u q H) plan .outcome) × (plan ≡ planned W e N d (parts W N u q H) plan .bytes)
+        → (Refused (Room need) ≡ planned W e N d (parts Forward W N u q H) plan .outcome) × (plan ≡ planned W e N d (parts Forward W N u q H) plan .bytes)
     short-answer l =
-        let n : need ≡ length (parts W N u q H) = omega (arith, s .short l, records) in
-        let r = sym (planned-short W e N d (parts W N u q H) plan T (v .fine) (omega (arith, n))) in
+        let n : need ≡ length (parts Forward W N u q H) = omega (arith, s .short l, records) in
+        let r = sym (planned-short W e N d (parts Forward W N u q H) plan T (v .fine) (omega (arith, n))) in
         (ap (λ (k : ℕ). Refused (Room k)) n ∙ ap (λ (x : Planned). x .outcome) r, ap (λ (x : Planned). x .bytes) r)
 
     -- there is room, and the quotients are as they were
     module _ (l : need ≤ whole W plan) (S : ℕ) (longest-is : S ≡ longest N (cell N q)) (q' : List ℕ) (same : q' ≡ q) where
-      fits : length (parts W N u q H) ≤ whole W plan
+      fits : length (parts Forward W N u q H) ≤ whole W plan
       fits = omega (arith, s .fits l, records)
 
-      pub ready : Cells N S q' × Place N S u W 0 (parts W N u q' H) plan
-      ready = rw same (quotient-cells W N T u d q v S longest-is, place)
+      pub ready : Cells N S q' × Place N S u W 0 (parts Forward W N u q' H) plan
+      ready = rw same (quotient-cells v longest-is, place)
         where
-          place : Place N S u W 0 (parts W N u q H) plan
+          place : Place N S u W 0 (parts Forward W N u q H) plan
           place = record {
-            wide = asked W N T u d q v .few;
+            wide = asked v .few;
             narrow = v .narrow;
-            fits = omega (arith, within W N T u d q v S longest-is, asked W N T u d q v .small);
-            room = omega (arith, div-mul-le-self (length plan) (W + 4), mul-le-mul-right (W + 4) fits);
+            fits = omega (arith, within v longest-is, asked v .small);
+            room = omega (arith, both-room Forward W N u (exactPlan W N q) H plan fits);
           }
 
       -- what both come to
-      pub both-total : S * u + sum ≡ total (parts W N u q H)
-      both-total = omega (arith, parts-total W N S u q H (quotient-cells W N T u d q v S longest-is) (asked W N T u d q v .few), m .held W (rotate N))
+      pub counted-total : S * u + sum ≡ total (parts Forward W N u q H)
+      counted-total = omega (arith, both-total Forward W N u (exactPlan W N q) H, ap (λ (k : ℕ). k * u) (first-total v longest-is), m .held W (rotate N))
 
       -- T is no more than that, and twice T is
-      pub both-counted : Doubled N d (parts W N u q H) → Short N d × (longest N (cell N d) ≤ S * u + sum) × (S * u + sum ≤ 131070)
+      pub both-counted : Doubled N d (parts Forward W N u q H) → Short N d × (longest N (cell N d) ≤ S * u + sum) × (S * u + sum ≤ 131070)
       both-counted k =
-          let a = asked W N T u d q v in (
+          let a = asked v in (
             record { sized = record { few = omega (arith, a .few, v .narrow); room = omega (arith, a .size) }; lines = omega (arith, a .longest-is, a .small) },
-            omega (arith, both-total, least-total N (cell N d) (parts W N u q H) (k .plan) (k .covers)),
-            omega (arith, both-total, k .short, a .longest-is, a .small),
+            omega (arith, counted-total, least-total N (cell N d) (parts Forward W N u q H) (k .plan) (k .covers)),
+            omega (arith, counted-total, k .short, a .longest-is, a .small),
           )
 
       -- both parts are laid, and x slots of them are empty
-      pub both-answer : Doubled N d (parts W N u q H) → (r : ℕ) (plan' : List ℕ) → r ≡ length (exactPlan W N q') → plan' ≡ laid plan 0 (bytes e N (parts W N u q' H))
+      pub both-answer : Doubled N d (parts Forward W N u q H) → (r : ℕ) (plan' : List ℕ) → r ≡ length (exactPlan W N q') → plan' ≡ laid plan 0 (bytes e N (parts Forward W N u q' H))
           → (x : ℕ) → x ≡ N * (S * u + sum) - allSlots N (cell N d)
-          → (Done (demandCounts (r + turns) T (S * u + sum) x) ≡ planned W e N d (parts W N u q H) plan .outcome) × (plan' ≡ planned W e N d (parts W N u q H) plan .bytes)
-      both-answer k r plan' count put x f = laid-answer W e N T (r + turns) (S * u + sum) x d (parts W N u q H) plan plan' (v .fine) fits
+          → (Done (demandCounts (r + turns) T (S * u + sum) x) ≡ planned W e N d (parts Forward W N u q H) plan .outcome) × (plan' ≡ planned W e N d (parts Forward W N u q H) plan .bytes)
+      both-answer k r plan' count put x f = laid-answer W e N T (r + turns) (S * u + sum) x d (parts Forward W N u q H) plan plan' (v .fine) fits
           (omega (arith, count ∙ ap (λ (x : List ℕ). length (exactPlan W N x)) same, records))
-          both-total
-          (omega (arith, f, ap (λ (t : ℕ). N * t) both-total, full-empty N (cell N d) full (k .covers)))
-          (put ∙ ap (λ (x : List ℕ). laid plan 0 (bytes e N (parts W N u x H))) same)
+          counted-total
+          (omega (arith, f, ap (λ (t : ℕ). N * t) counted-total, full-empty N (cell N d) full (k .covers)))
+          (put ∙ ap (λ (x : List ℕ). laid plan 0 (bytes e N (parts Forward W N u x H))) same)
         where
-          full : AllFull N (parts W N u q H)
-          full = parts-full W N (asked W N T u d q v .some) (asked W N T u d q v .few) q (sized W N T u d q v .room) (rotate N) (rotate-joins N (asked W N T u d q v .some)) u (λ i. getD H i 0)
+          full : AllFull N (parts Forward W N u q H)
+          full = parts-full W N (asked v .some) (asked v .few) q (sized v .room) (rotate N) (rotate-joins N (asked v .some)) u (λ i. getD H i 0)

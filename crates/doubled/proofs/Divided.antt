@@ -1,67 +1,49 @@
--- The quotients' lines times u are at most T, so they are cells that the exact planner takes; and its plan of them is the doubled plan's first part.
-use mathlib.Core.Path.{_≡_, sym, ap, _∙_}
-use mathlib.Core.List.{List, _++_, map}
-use Prim.Native.Nat.{ℕ, _*_, _≤_}
+-- The quotients are cells that the exact planner takes, and its plan of them leaves room for the rotations behind it.
+use mathlib.Core.Path.{_≡_}
+use mathlib.Core.List.{List, map}
+use Prim.Native.Nat.{ℕ, _+_, _*_, _≤_}
 use native.Mathlib.Omega.{arith}
-use native.Mathlib.Nat.{div-mul-le-self, mul-le-mul-right, le-mul-of-pos-right}
 use lib.ListN.{length}
-use borrow.Author.Tests.{ne-eqb}
 use Rattle.switch.specs.Demand.{cell, longest}
-use Rattle.switch.specs.Plan.{Record}
-use Rattle.demand.specs.Check.{Asked}
-use Rattle.demand.specs.Lines.{Sized}
-use Rattle.demand.proofs.Check.{fine-asked}
-use Rattle.rules.specs.Exact.{tab, exactPlan}
-use Rattle.rules.specs.Doubled.{unit, divide, stretch, rotate, turns, doubledBy}
-use Rattle.rules.proofs.Doubled.{length-divide, longest-divide}
+use Rattle.rules.specs.Exact.{exactPlan}
+use Rattle.rules.specs.Doubled.{stretch}
+use Rattle.rules.proofs.Exact.{exact-peels, exact-records}
+use Rattle.records.specs.Bytes.{bytes, laid, Each, OfWidth}
 use Rattle.peel.specs.Standing.{Cells}
-use Rattle.rotations.specs.declared.Rule.{Rule}
-use Rattle.rotations.specs.Second.{holdsBy, doubledRule, Holding}
-use Rattle.rotations.proofs.Holds.{table-turns}
-use Rattle.doubled.specs.Parts.{parts, Divided}
-use Rattle.doubled.proofs.Dividing.{unit-some, unit-small}
+use Rattle.exact.specs.Laying.{Place}
+use Rattle.turns.specs.declared.Turning.the-variants.{Forward}
+use Rattle.turns.specs.Second.{second, parts, Divided}
+use Rattle.turns.proofs.Divided.{asked, holding, sized, small}
+use Rattle.turns.proofs.Both.{peels-width, first-room, second-room, second-laid}
 
-module _ (W N T u : ℕ) (d q : List ℕ) (v : Divided W N T u d q) where
-  pub asked : Asked W N T d
-  asked = fine-asked W N T d (v .fine)
+pub quotient-cells : {W N T u : ℕ} {d q : List ℕ} → Divided W N T u d q → {S : ℕ} → S ≡ longest N (cell N q) → Cells N S q
+quotient-cells v longest-is = record {
+  some = asked v .some;
+  few = holding v .few;
+  room = sized v .room;
+  longest-is = longest-is;
+  small = small v longest-is;
+}
 
-  -- u is at least 1, and the holds below it fit two bytes
-  pub holding : Holding N u d
-  holding = record {
-    some = asked .some;
-    few = omega (arith, asked .few, v .narrow);
-    room = omega (arith, asked .size);
-    least = omega (arith, v .unit-is, unit-some N T (asked .some) (v .some));
-    most = omega (arith, v .unit-is, asked .small, unit-small N T (asked .some) (v .some));
-  }
+-- the first part has no more records than the quotients' longest line
+pub first-few : (W N S : ℕ) (q : List ℕ) → Cells N S q → N ≤ W → length (exactPlan W N q) ≤ S
+first-few W N S q c wide = omega (arith, exact-records W N (c .some) wide q (c .room), c .longest-is)
 
-  pub sized : Sized N q
-  sized = record { few = holding .few; room = omega (arith, asked .size, ap length (v .quotients-are), length-divide u d) }
+-- a place for both parts
+module _ (W N S u : ℕ) (q H : List ℕ) (c : Cells N S q) (plan : List ℕ) (p : Place N S u W 0 (parts Forward W N u q H) plan) where
+  room : length (parts Forward W N u q H) * (W + 4) ≤ length plan
+  room = omega (arith, p .room)
 
-  -- the plan by a rule is the two parts, its rotations held for what the rule says
-  pub rule-parts : (r : Rule) (H : List ℕ) → H ≡ tab N 0 (holdsBy r N d u) → doubledRule r W N d ≡ parts W N u q H
-  rule-parts r H e = unfold doubledBy in
-      rw (ne-eqb (longest N (cell N d)) 0 (omega (arith, asked .longest-is, v .some)))
-      (ap (λ (x : ℕ). map (stretch x) (exactPlan W N (divide x d)) ++ turns W (rotate N) (holdsBy r N d x) N 0) (ap (unit N) (sym (asked .longest-is)) ∙ sym (v .unit-is))
-      ∙ ap (λ (p : List Record). map (stretch u) (exactPlan W N (divide u d)) ++ p) (table-turns W N (holdsBy r N d u) H e)
-      ∙ ap (λ (x : List ℕ). parts W N u x H) (sym (v .quotients-are)))
+  pub first-place : Place N S u W 0 (exactPlan W N q) plan
+  first-place = record { wide = p .wide; narrow = p .narrow; fits = p .fits; room = omega (arith, first-room Forward W N u (exactPlan W N q) H plan room) }
 
-  module _ (S : ℕ) (longest-is : S ≡ longest N (cell N q)) where
-    -- the quotients' T, times u, is at most T
-    pub within : S * u ≤ T
-    within = omega (
-      arith,
-      ap (λ (k : ℕ). k * u) (longest-is ∙ ap (λ (l : List ℕ). longest N (cell N l)) (v .quotients-are)),
-      mul-le-mul-right u (longest-divide N u d (holding .least)),
-      div-mul-le-self (longest N (cell N d)) u,
-      asked .longest-is,
-    )
+  -- the first part is laid, and r is how many records it has
+  module _ (e : ℕ) {plan₁ : List ℕ} (put : plan₁ ≡ laid plan 0 (bytes e N (map (stretch u) (exactPlan W N q)))) {r : ℕ} (count : r ≡ length (exactPlan W N q)) where
+    widths : Each (OfWidth W) (exactPlan W N q)
+    widths = peels-width (exact-peels W N (c .some) (p .wide) q (c .room))
 
-    pub quotient-cells : Cells N S q
-    quotient-cells = record {
-      some = asked .some;
-      few = holding .few;
-      room = sized .room;
-      longest-is = longest-is;
-      small = omega (arith, within, asked .small, le-mul-of-pos-right S (holding .least));
-    }
+    pub behind-room : r * (W + 4) + length (second Forward W N H) * (W + 4) ≤ length plan₁
+    behind-room = second-room Forward W N u (exactPlan W N q) H plan room widths e put count
+
+    pub behind-laid : laid plan₁ (r * (W + 4)) (bytes e N (second Forward W N H)) ≡ laid plan 0 (bytes e N (parts Forward W N u q H))
+    behind-laid = second-laid Forward W N u (exactPlan W N q) H plan room widths e put count

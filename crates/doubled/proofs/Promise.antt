@@ -10,9 +10,10 @@ use Rattle.rules.specs.Doubled.{doubledPlan, tightPlan, Doubled}
 use Rattle.rules.proofs.Rotate.{doubled}
 use Rattle.rules.proofs.Tight.{tight-doubled}
 use Rattle.planner.specs.Planned.{planned}
-use Rattle.rotations.specs.declared.Rule.{Rule}
-use Rattle.rotations.specs.declared.Rule.the-variants.{Tight, Every}
-use Rattle.rotations.specs.Second.{doubledRule}
+use Rattle.turns.specs.declared.Rule.{Rule}
+use Rattle.turns.specs.declared.Rule.the-variants.{Tight, Every}
+use Rattle.turns.specs.declared.Turning.the-variants.{Forward}
+use Rattle.turns.specs.Second.{doubledRule}
 
 -- any two outcomes, and any two buffers afterwards, that satisfy either contract are equal
 module _ (W e N : ℕ) (d : List ℕ) (p : List Record) (buf : List ℕ) where
@@ -23,7 +24,7 @@ module _ (W e N : ℕ) (d : List ℕ) (p : List Record) (buf : List ℕ) where
   same-bytes l m x y = determined l m _ x y
 
 -- both bounds and the cover, by either rule: each has holds from the largest remainder to u - 1, which is what `doubled-any` asks
-pub either-rule : (r : Rule) (W N : ℕ) → 0 < N → N ≤ W → (d : List ℕ) → N * N ≤ length d → Doubled N d (doubledRule r W N d)
+pub either-rule : (r : Rule) (W N : ℕ) → 0 < N → N ≤ W → (d : List ℕ) → N * N ≤ length d → Doubled N d (doubledRule r Forward W N d)
 unfolding tightPlan doubledPlan
 either-rule Tight W N pos top d s = tight-doubled W N pos top d s
 either-rule Every W N pos top d s = doubled W N pos top d s

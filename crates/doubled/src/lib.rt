@@ -1,8 +1,8 @@
 // The doubled planner: the exact plan of the cells divided by u, each hold then multiplied by u, and the rotations for what is left over,
 // held by the tight rule or, for callers that ask for it by name, every one for u - 1. It promises the whole answer and every byte of the
 // lent plan, for any N and any cells: the refusals in document 01's order, all known before the first byte is written, and else the plan.
-// The lent demand is only read. The settings of the first part are `exact`'s, the rotations and their rules are `rotations`', and what a
-// demand is refused for is `demand`'s: this crate divides, counts what both parts need, and adds up.
+// The lent demand is only read. The settings of the first part are `exact`'s; u, the quotients, the rotations and their rules are `turns`';
+// and what a demand is refused for is `demand`'s: this crate counts what both parts need, and adds up.
 use demand::Checked;
 use demand::check_demand;
 use demand::empty_slots;
@@ -10,24 +10,26 @@ use demand::longest_line;
 use records::EDITION;
 use records::HEAD;
 use records::OUTPUTS;
-use rotations::Rule;
 use switch::Counts;
 use switch::Outcome;
 use switch::PORTS;
 use switch::Refusal;
+use turns::Rule;
+use turns::Turning;
 ghost use mathlib.Core.Path.{_≡_};
-ghost use Prim.Native.Nat.{ℕ, _+_, _/_, _<_, _≤_};
+ghost use Prim.Native.Nat.{ℕ, _+_, _<_, _≤_};
 ghost use lib.ListN.{length};
 ghost use Rattle.demand.specs.Check.{checkDemand};
 ghost use Rattle.demand.specs.declared.Checked.the-variants.{Fine};
 ghost use Rattle.rules.specs.Exact.{exactPlan};
-ghost use Rattle.rules.specs.Doubled.{unit, divide, doubledPlan, tightPlan, Doubled};
+ghost use Rattle.rules.specs.Doubled.{divide, doubledPlan, tightPlan, Doubled};
 ghost use Rattle.planner.specs.Planned.{planned};
 ghost use Rattle.records.specs.Bytes.{bytes, laid};
 ghost use Rattle.peel.specs.Standing.{Cells};
 ghost use Rattle.exact.specs.Laying.{Place};
-ghost use Rattle.rotations.specs.Second.{doubledRule, Turning};
-ghost use Rattle.doubled.specs.Parts.{parts, Divided, Needs};
+ghost use Rattle.turns.specs.declared.Turning.the-variants.{Forward};
+ghost use Rattle.turns.specs.Second.{doubledRule, parts, Divided, Table};
+ghost use Rattle.doubled.specs.Parts.{Needs};
 
 // The cells of the largest switch of this edition.
 const CELLS: usize = 4096;
@@ -48,7 +50,7 @@ pub fn doubled_plan_every_rotation(n: usize, cells: &[u32], plan: &mut [u8]) -> 
 
 // The doubled plan by either rule.
 fn plan_by(rule: Rule, n: usize, cells: &[u32], plan: &mut [u8]) -> Outcome
-    ensures { λ r. ⌜ (r ≡ planned 64 0 n (now (cells .entry)) (doubledRule rule 64 n (now (cells .entry))) (now (plan .entry)) .outcome) × (now (plan .exit) ≡ planned 64 0 n (now (cells .entry)) (doubledRule rule 64 n (now (cells .entry))) (now (plan .entry)) .bytes) ⌝ }
+    ensures { λ r. ⌜ (r ≡ planned 64 0 n (now (cells .entry)) (doubledRule rule Forward 64 n (now (cells .entry))) (now (plan .entry)) .outcome) × (now (plan .exit) ≡ planned 64 0 n (now (cells .entry)) (doubledRule rule Forward 64 n (now (cells .entry))) (now (plan .entry)) .bytes) ⌝ }
 {
     match check_demand(n, PORTS, cells) {
         Checked::Faulty(r) => Outcome::Refused(r),
@@ -84,7 +86,7 @@ fn plan_fine(
     plan: &mut [u8],
 ) -> Outcome
     requires { ⌜ (checkDemand width n (now cells) ≡ Fine longest) × (width ≤ 128) × (length (now work) ≡ length (now cells)) × (length (now holds) ≡ n) ⌝ }
-    ensures { λ r. ⌜ (r ≡ planned width edition n (now (cells .entry)) (doubledRule rule width n (now (cells .entry))) (now (plan .entry)) .outcome) × (now (plan .exit) ≡ planned width edition n (now (cells .entry)) (doubledRule rule width n (now (cells .entry))) (now (plan .entry)) .bytes) ⌝ }
+    ensures { λ r. ⌜ (r ≡ planned width edition n (now (cells .entry)) (doubledRule rule Forward width n (now (cells .entry))) (now (plan .entry)) .outcome) × (now (plan .exit) ≡ planned width edition n (now (cells .entry)) (doubledRule rule Forward width n (now (cells .entry))) (now (plan .entry)) .bytes) ⌝ }
 {
     if longest == 0 {
         return Outcome::Done(Counts {
@@ -95,37 +97,8 @@ fn plan_fine(
             empty: 0,
         });
     }
-    let unit = unit_of(n, longest);
-    quotients(cells, work, unit);
-    rotations::fill_holds(rule, n, cells, unit, holds);
+    let unit = turns::split(rule, Turning::Forward, n, longest, cells, work, holds);
     plan_parts(n, longest, unit, cells, work, holds, width, edition, plan)
-}
-
-// u is T / N rounded up.
-fn unit_of(n: usize, longest: u64) -> u32
-    requires { ⌜ (0 < n) × (n ≤ 128) × (longest ≤ 65535) ⌝ }
-    ensures { λ r. ⌜ r ≡ unit n longest ⌝ }
-{
-    let ports = n as u64;
-    ((longest + (ports - 1)) / ports) as u32
-}
-
-// The cells divided by u, rounded down.
-fn quotients(cells: &[u32], work: &mut [u32], unit: u32)
-    requires { ⌜ (length (now work) ≡ length (now cells)) × (0 < unit) ⌝ }
-    ensures { λ _. ⌜ now (work .exit) ≡ divide unit (now (cells .entry)) ⌝ }
-{
-    for k in 0..cells.len() {
-        work[k] = quotient(cells[k], unit);
-    }
-}
-
-// A cell divided by u, rounded down.
-fn quotient(cell: u32, unit: u32) -> u32
-    requires { ⌜ 0 < unit ⌝ }
-    ensures { λ r. ⌜ r ≡ cell / unit ⌝ }
-{
-    cell / unit
 }
 
 // The plan of quotients and of holds that meet the remainders: both parts, once it is known that there is room for both.
@@ -140,11 +113,11 @@ fn plan_parts(
     edition: u8,
     plan: &mut [u8],
 ) -> Outcome
-    requires { ⌜ Divided width n longest unit (now cells) (now work) × Turning n (now holds) × Doubled n (now cells) (parts width n unit (now work) (now holds)) ⌝ }
-    ensures { λ r. ⌜ (r ≡ planned width edition n (now (cells .entry)) (parts width n unit (now (work .entry)) (now (holds .entry))) (now (plan .entry)) .outcome) × (now (plan .exit) ≡ planned width edition n (now (cells .entry)) (parts width n unit (now (work .entry)) (now (holds .entry))) (now (plan .entry)) .bytes) ⌝ }
+    requires { ⌜ Divided width n longest unit (now cells) (now work) × Table n (now holds) × Doubled n (now cells) (parts Forward width n unit (now work) (now holds)) ⌝ }
+    ensures { λ r. ⌜ (r ≡ planned width edition n (now (cells .entry)) (parts Forward width n unit (now (work .entry)) (now (holds .entry))) (now (plan .entry)) .outcome) × (now (plan .exit) ≡ planned width edition n (now (cells .entry)) (parts Forward width n unit (now (work .entry)) (now (holds .entry))) (now (plan .entry)) .bytes) ⌝ }
 {
     let first = longest_line(work, n);
-    let second = rotations::measure(n, holds);
+    let second = turns::measure(n, holds);
     let turns = second.records;
     let room = plan.len() / (width + HEAD);
     let need = needed(cells, work, n, unit, first, turns, room);
@@ -181,7 +154,7 @@ fn needed(
         return most;
     }
     let need = exact::count(work, n, first) + turns;
-    quotients(cells, work, unit);
+    turns::quotients(cells, work, unit);
     need
 }
 
@@ -196,10 +169,18 @@ fn lay_parts(
     edition: u8,
     plan: &mut [u8],
 ) -> usize
-    requires { ⌜ Cells n first (now work) × Turning n (now holds) × Place n first unit width 0 (parts width n unit (now work) (now holds)) (now plan) ⌝ }
-    ensures { λ r. ⌜ (r ≡ length (exactPlan width n (now (work .entry)))) × (now (plan .exit) ≡ laid (now (plan .entry)) 0 (bytes edition n (parts width n unit (now (work .entry)) (now (holds .entry))))) ⌝ }
+    requires { ⌜ Cells n first (now work) × Table n (now holds) × Place n first unit width 0 (parts Forward width n unit (now work) (now holds)) (now plan) ⌝ }
+    ensures { λ r. ⌜ (r ≡ length (exactPlan width n (now (work .entry)))) × (now (plan .exit) ≡ laid (now (plan .entry)) 0 (bytes edition n (parts Forward width n unit (now (work .entry)) (now (holds .entry))))) ⌝ }
 {
     let records = exact::lay(work, n, first, unit, width, edition, plan, 0);
-    rotations::lay(n, holds, width, edition, plan, records * (width + HEAD));
+    turns::lay(
+        Turning::Forward,
+        n,
+        holds,
+        width,
+        edition,
+        plan,
+        records * (width + HEAD),
+    );
     records
 }

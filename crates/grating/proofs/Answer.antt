@@ -14,13 +14,12 @@ use Rattle.switch.specs.Plan.{Record, total}
 use Rattle.demand.specs.Check.{checkDemand}
 use Rattle.demand.specs.declared.Checked.the-variants.{Fine, Faulty}
 use Rattle.demand.proofs.Check.{fine-asked}
-use Rattle.rules.specs.Doubled.{tight}
+use Rattle.rules.specs.Doubled.{opposite, tight}
 use Rattle.rules.proofs.Tight.{by-empty}
 use Rattle.records.specs.Bytes.{whole, bytes, laid}
 use Rattle.records.proofs.Laid.{laid-none}
 use Rattle.records.proofs.Bytes.{bytes-none}
 use Rattle.planner.specs.Planned.{Planned, refuses}
-use Rattle.antirotations.specs.Opposite.{opposite}
 use Rattle.grating.specs.Grating.{gratingPlan, roomed, gratingPlanned}
 
 -- an outcome and a buffer that are those of the definition

@@ -3,22 +3,22 @@ use mathlib.Core.Path.{_≡_, refl, sym, ap, ap₂, _∙_, subst}
 use mathlib.Core.List.{List, [], _∷_, _++_, map, append-assoc}
 use Prim.Native.Nat.{ℕ, zero, suc, _+_, _*_, _-_, _≤_, _<_}
 use native.Mathlib.Omega.{arith}
-use native.Mathlib.Nat.{suc-mul}
+use native.Mathlib.Nat.{suc-mul, mul-le-mul-right}
 use native.Mathlib.Decide.{ℕ-discrete}
 use native.Mathlib.Numerals.{add-one}
-use lib.ListN.{length, take, drop, length-drop, length-map}
+use lib.ListN.{length, take, drop, length-drop}
 use lib.Seq.{take-all}
 use Rattle.switch.specs.Plan.{Record, total}
 use Rattle.rules.specs.Doubled.{stretch}
 use Rattle.records.specs.Record.{hold, outputs, decoded}
-use Rattle.switch.specs.Sound.{Each, none, more, OfWidth}
-use Rattle.records.specs.Bytes.{encode, recordAt, whole, planFrom, bytes, laid}
-use Rattle.records.proofs.Bytes.{encode-size, bytes-size}
+use Rattle.records.specs.Bytes.{encode, recordAt, whole, planFrom, bytes, laid, Each, none, more, OfWidth}
+use Rattle.records.proofs.Bytes.{encode-size}
 use Rattle.records.proofs.Part.{whole-fits, record-fits, record-size}
 use Rattle.records.proofs.Round.{decoded-encode, first-record, next-plan}
 use Rattle.records.proofs.Written.{Written, written-none, written-all, written-room, written-next}
 use Rattle.plans.proofs.Plans.{length-plan}
-use Rattle.grating.specs.Parts.{stretched}
+use Rattle.turns.proofs.Both.{stretched-size}
+use Rattle.grating.specs.Parts.{stretched, First}
 
 -- ---- a plan at the start of a buffer
 
@@ -49,7 +49,8 @@ module _ (W : ℕ) (first : List ℕ) where
   hold-small zero j k a b = absurd (let f : ⊥ = omega arith in f)
   hold-small (suc m) j k a b = go (ℕ-discrete j k) (λ l. hold-small m (suc j) k l (let h : k < suc j + m = omega arith in h))
     where
-      go : Dec (j ≡ k) → (suc j ≤ k → hold (recordAt W first k) ≤ total (planFrom W first (suc j) m)) → hold (recordAt W first k) ≤ hold (recordAt W first j) + total (planFrom W first (suc j) m)
+      go : Dec (j ≡ k) → (suc j ≤ k → hold (recordAt W first k) ≤ total (planFrom W first (suc j) m))
+          → hold (recordAt W first k) ≤ hold (recordAt W first j) + total (planFrom W first (suc j) m)
       go (yes e) r = rw (← e) (omega arith)
       go (no e) r = omega (arith, r (omega (arith, e)))
 
@@ -81,41 +82,48 @@ module _ (W : ℕ) (first : List ℕ) where
     abbrev pub Laying : ℕ → ℕ → List ℕ → List ℕ → ℕ → Type 0
     Laying e N plan₀ plan k = Written e N (stretched W u first m) plan₀ 0 (rest k) plan k (k * (W + 4))
 
-    module _ (room : m ≤ whole W first) where
-      -- a record has W outputs
-      pub longer-size : (k : ℕ) → k < m → length (longer k .outputs) ≡ W
-      longer-size k l = length-drop 4 (recordAt W first k) ∙ omega (arith, record-size W first k (record-fits W first k (whole W first) (omega arith) (whole-fits W first)))
+-- records at the start of a buffer that has room for them
+module _ {W u : ℕ} {first : List ℕ} {m sum : ℕ} (f : First W u first m sum) where
+  pub record-long : (k : ℕ) → k < m → length (recordAt W first k) ≡ W + 4
+  record-long k l = record-size W first k (record-fits W first k (whole W first) (omega (arith, f .room)) (whole-fits W first))
 
-      widths : (n k : ℕ) → k + n ≤ m → Each (OfWidth W) (map (stretch u) (planFrom W first k n))
-      unfolding planFrom stretch
-      widths zero k l = none
-      widths (suc n) k l = more (longer-size k (omega arith)) (widths n (suc k) (let h : suc k + n ≤ m = omega arith in h))
+  longer-size : (k : ℕ) → k < m → length (longer W first u m k .outputs) ≡ W
+  longer-size k l = length-drop 4 (recordAt W first k) ∙ omega (arith, record-long k l)
 
-      pub stretched-widths : Each (OfWidth W) (stretched W u first m)
-      stretched-widths = widths m 0 (omega arith)
+  pub longer-small : (k : ℕ) → k < m → hold (recordAt W first k) * u ≤ 65535
+  longer-small k l = omega (arith, f .small, mul-le-mul-right u (let h : hold (recordAt W first k) ≤ sum = omega (arith, f .sum-is, hold-small W first m 0 k (omega arith) (omega arith)) in h))
 
-      pub stretched-bytes : (e N : ℕ) → length (bytes e N (stretched W u first m)) ≡ m * (W + 4)
-      stretched-bytes e N = bytes-size e N W stretched-widths ∙ ap (λ (n : ℕ). n * (W + 4)) (length-map (planFrom W first 0 m) (stretch u) ∙ length-plan W first 0 m)
+  widths : (n k : ℕ) → k + n ≤ m → Each (OfWidth W) (planFrom W first k n)
+  unfolding planFrom
+  widths zero k l = none
+  widths (suc n) k l = more (longer-size k (omega arith)) (widths n (suc k) (let h : suc k + n ≤ m = omega arith in h))
 
-      -- ---- laid
+  pub first-widths : Each (OfWidth W) (planFrom W first 0 m)
+  first-widths = widths m 0 (omega arith)
 
-      module _ (e N : ℕ) (plan₀ : List ℕ) where
-        pub laying-none : m * (W + 4) ≤ length plan₀ → Laying e N plan₀ plan₀ 0
-        laying-none l =
-            subst (λ (x : ℕ). Written e N (stretched W u first m) plan₀ 0 (rest 0) plan₀ 0 x) (let z : 0 ≡ 0 * (W + 4) = omega arith in z)
-            (subst (λ (p : List Record). Written e N (stretched W u first m) plan₀ 0 p plan₀ 0 0) (sym rest-all)
-            (written-none e N (stretched W u first m) plan₀ 0 (omega (arith, stretched-bytes e N))))
+  -- ---- laid
 
-        module _ (plan : List ℕ) (k : ℕ) (s : Laying e N plan₀ plan k) where
-          pub laying-all : m ≤ k → plan ≡ laid plan₀ 0 (bytes e N (stretched W u first m))
-          laying-all l = written-all e N (stretched W u first m) plan₀ 0 (rest k) plan k (k * (W + 4)) s (rest-none k l) .1
+  module _ (e N : ℕ) (plan₀ : List ℕ) where
+    pub laying-none : m * (W + 4) ≤ length plan₀ → Laying W first u m e N plan₀ plan₀ 0
+    laying-none l =
+        subst (λ (x : ℕ). Written e N (stretched W u first m) plan₀ 0 (rest W first u m 0) plan₀ 0 x) (let z : 0 ≡ 0 * (W + 4) = omega arith in z)
+        (subst (λ (p : List Record). Written e N (stretched W u first m) plan₀ 0 p plan₀ 0 0) (sym (rest-all W first u m))
+        (written-none e N (stretched W u first m) plan₀ 0 (omega (arith, stretched-size e N W u first-widths, ap (λ (n : ℕ). n * (W + 4)) (length-plan W first 0 m)))))
 
-          module _ (l : k < m) where
-            pub laying-room : k * (W + 4) + (length (longer k .outputs) + 4) ≤ length plan
-            laying-room = written-room e N (stretched W u first m) plan₀ 0 (rest k) plan k (k * (W + 4)) s (longer k) (rest (k + 1)) (rest-more k l)
+    module _ {plan : List ℕ} {k : ℕ} (s : Laying W first u m e N plan₀ plan k) where
+      pub laying-all : m ≤ k → plan ≡ laid plan₀ 0 (bytes e N (stretched W u first m))
+      laying-all l = written-all e N (stretched W u first m) plan₀ 0 (rest W first u m k) plan k (k * (W + 4)) s (rest-none W first u m k l) .1
 
-            pub laying-next : (plan' : List ℕ) → plan' ≡ laid plan (k * (W + 4)) (encode e (longer k .hold) N (longer k .outputs)) → Laying e N plan₀ plan' (k + 1)
-            laying-next plan' put =
-                subst (λ (x : ℕ). Written e N (stretched W u first m) plan₀ 0 (rest (k + 1)) plan' (k + 1) x)
-                (let z : k * (W + 4) + (length (longer k .outputs) + 4) ≡ (k + 1) * (W + 4) = omega (arith, longer-size k l, suc-mul k (W + 4), ap (λ (n : ℕ). n * (W + 4)) (add-one k)) in z)
-                (written-next e N (stretched W u first m) plan₀ 0 (rest k) plan k (k * (W + 4)) s (longer k) (rest (k + 1)) (rest-more k l) plan' put)
+      module _ (l : k < m) where
+        more-left : rest W first u m k ≡ longer W first u m k ∷ rest W first u m (k + 1)
+        more-left = rest-more W first u m k l
+
+        pub laying-room : k * (W + 4) + (length (longer W first u m k .outputs) + 4) ≤ length plan
+        laying-room = written-room e N (stretched W u first m) plan₀ 0 (rest W first u m k) plan k (k * (W + 4)) s _ _ more-left
+
+        pub laying-next : {plan' : List ℕ} → plan' ≡ laid plan (k * (W + 4)) (encode e (longer W first u m k .hold) N (longer W first u m k .outputs))
+            → Laying W first u m e N plan₀ plan' (k + 1)
+        laying-next {plan'} put =
+            subst (λ (x : ℕ). Written e N (stretched W u first m) plan₀ 0 (rest W first u m (k + 1)) plan' (k + 1) x)
+            (let z : k * (W + 4) + (length (longer W first u m k .outputs) + 4) ≡ (k + 1) * (W + 4) = omega (arith, longer-size k l, suc-mul k (W + 4), ap (λ (n : ℕ). n * (W + 4)) (add-one k)) in z)
+            (written-next e N (stretched W u first m) plan₀ 0 (rest W first u m k) plan k (k * (W + 4)) s _ _ more-left plan' put)

@@ -1,4 +1,4 @@
 pub mod First
-pub mod Both
+pub mod Made
 pub mod Divided
 pub mod Answer

@@ -11,10 +11,9 @@ use Rattle.switch.specs.Demand.{cell, longest}
 use Rattle.switch.specs.Plan.{Record, total}
 use Rattle.demand.specs.Check.{checkDemand}
 use Rattle.rules.specs.Exact.{exactPlan}
-use Rattle.rules.specs.Doubled.{unit, divide, stretch, turns, tight, doubledBy}
+use Rattle.rules.specs.Doubled.{unit, divide, stretch, opposite, turns, tight, doubledBy}
 use Rattle.records.specs.Bytes.{whole, bytes, laid}
 use Rattle.planner.specs.Planned.{Planned, refuses, afterCheck}
-use Rattle.antirotations.specs.Opposite.{opposite}
 
 -- the doubled plan whose second part is the anti-rotations, each held for the largest remainder among its pairs and left out when that is 0
 unfoldable pub gratingPlan : ℕ → ℕ → List ℕ → List Record

@@ -2,8 +2,6 @@
 // nothing but what the planner promises: its first part is what the public exact call writes for the divided demand. It promises its whole
 // answer and every byte of the lent plan, for any N and any cells; all refusals are known before the first byte is written. What a plan
 // does to the wavelengths is told by the crate wavelengths.
-use antirotations::find_holds;
-use antirotations::lay;
 use demand::Checked;
 use demand::check_demand;
 use exact::exact_plan;
@@ -14,26 +12,25 @@ use records::OUTPUTS;
 use records::RECORD;
 use records::hold_of;
 use records::put_record;
-use rotations::measure;
 use switch::Counts;
 use switch::Outcome;
 use switch::PORTS;
 use switch::Refusal;
 use switch::numbers_of;
+use turns::Rule;
+use turns::Turning;
 ghost use mathlib.Core.Path.{_≡_};
-ghost use mathlib.Core.List.{_++_};
-ghost use Prim.Native.Nat.{_+_, _*_, _<_, _≤_};
+ghost use Prim.Native.Nat.{_*_, _≤_};
 ghost use lib.ListN.{length};
 ghost use Rattle.switch.specs.declared.Outcome.the-variants.{Done};
 ghost use Rattle.switch.specs.Answer.{planCounts};
 ghost use Rattle.demand.specs.declared.Checked.the-variants.{Fine};
 ghost use Rattle.demand.specs.Check.{checkDemand};
-ghost use Rattle.rules.specs.Doubled.{unit, divide};
 ghost use Rattle.switch.specs.Plan.{total};
 ghost use Rattle.records.specs.Bytes.{planFrom, bytes, laid};
-ghost use Rattle.antirotations.specs.Opposite.{antiRotations};
-ghost use Rattle.grating.specs.Grating.{gratingPlan, roomed, gratingPlanned};
-ghost use Rattle.grating.specs.Parts.{stretched, First, Parted};
+ghost use Rattle.turns.specs.Second.{Table};
+ghost use Rattle.grating.specs.Grating.{roomed, gratingPlanned};
+ghost use Rattle.grating.specs.Parts.{stretched, madeParts, First};
 
 // The cells of a switch of 64 ports.
 const CELLS: usize = 4096;
@@ -49,73 +46,44 @@ pub fn grating_doubled(n: usize, cells: &[u32], plan: &mut [u8]) -> Outcome
         Checked::Faulty(r) => Outcome::Refused(r),
         Checked::Fine(longest) => {
             let mut work = [0u32; CELLS];
+            let mut holds = [0u16; PORTS];
             let size = cells.len();
-            plan_fine(n, longest, cells, &mut work[..size], plan)
+            plan_fine(n, longest, cells, &mut work[..size], &mut holds[..n], plan)
         }
     }
 }
 
 // The same for a demand that nothing but the room can refuse. If T is 0, the plan is empty, and there is no u to divide by.
-fn plan_fine(n: usize, longest: u64, cells: &[u32], work: &mut [u32], plan: &mut [u8]) -> Outcome
-    requires { ⌜ (checkDemand 64 n (now cells) ≡ Fine longest) × (length (now work) ≡ length (now cells)) ⌝ }
+fn plan_fine(
+    n: usize,
+    longest: u64,
+    cells: &[u32],
+    work: &mut [u32],
+    holds: &mut [u16],
+    plan: &mut [u8],
+) -> Outcome
+    requires { ⌜ (checkDemand 64 n (now cells) ≡ Fine longest) × (length (now work) ≡ length (now cells)) × (length (now holds) ≡ n) ⌝ }
     ensures { λ r. ⌜ (r ≡ gratingPlanned 64 0 n (now (cells .entry)) (now (plan .entry)) .outcome) × (now (plan .exit) ≡ gratingPlanned 64 0 n (now (cells .entry)) (now (plan .entry)) .bytes) ⌝ }
 {
     if longest == 0 {
         return done(0, 0);
     }
-    let unit = unit_of(n, longest);
-    quotients(cells, work, unit);
+    let unit = turns::split(
+        Rule::Tight,
+        Turning::Backward,
+        n,
+        longest,
+        cells,
+        work,
+        holds,
+    );
     let mut first = [0u8; FIRST];
     let made = numbers_of(exact_plan(n, work, &mut first));
-    plan_parts(
-        n,
-        cells,
-        unit,
-        &first,
-        made.counts.records,
-        made.counts.total,
-        plan,
-    )
+    lay_parts(n, unit, &first, made.counts.records, made.counts.total, holds, plan)
 }
 
-// u is T / N rounded up.
-fn unit_of(n: usize, longest: u64) -> u32
-    requires { ⌜ (0 < n) × (n ≤ 64) × (longest ≤ 65535) ⌝ }
-    ensures { λ r. ⌜ r ≡ unit n longest ⌝ }
-{
-    let ports = n as u64;
-    ((longest + (ports - 1)) / ports) as u32
-}
-
-// The cells divided by u, rounded down.
-fn quotients(cells: &[u32], work: &mut [u32], unit: u32)
-    requires { ⌜ (length (now work) ≡ length (now cells)) × (0 < unit) ⌝ }
-    ensures { λ _. ⌜ now (work .exit) ≡ divide unit (now (cells .entry)) ⌝ }
-{
-    for k in 0..cells.len() {
-        work[k] = cells[k] / unit;
-    }
-}
-
-// The same for a first part that is made: so many records at the start of `first`, with the sum of their holds.
-fn plan_parts(
-    n: usize,
-    cells: &[u32],
-    unit: u32,
-    first: &[u8],
-    records: usize,
-    total: u64,
-    plan: &mut [u8],
-) -> Outcome
-    requires { ⌜ Parted 64 n (now cells) unit (now first) records total ⌝ }
-    ensures { λ r. ⌜ (r ≡ roomed 64 0 n (gratingPlan 64 n (now (cells .entry))) (now (plan .entry)) .outcome) × (now (plan .exit) ≡ roomed 64 0 n (gratingPlan 64 n (now (cells .entry))) (now (plan .entry)) .bytes) ⌝ }
-{
-    let mut holds = [0u16; PORTS];
-    find_holds(n, cells, unit, &mut holds);
-    lay_parts(n, unit, first, records, total, &holds, plan)
-}
-
-// Both parts, once it is known that there is room for both.
+// Both parts, once it is known that there is room for both: so many records at the start of `first`, with the sum of their holds, and the
+// anti-rotations.
 fn lay_parts(
     n: usize,
     unit: u32,
@@ -125,16 +93,24 @@ fn lay_parts(
     holds: &[u16],
     plan: &mut [u8],
 ) -> Outcome
-    requires { ⌜ (0 < n) × (n ≤ 64) × (n ≤ length (now holds)) × First 64 unit (now first) records total ⌝ }
-    ensures { λ r. ⌜ (r ≡ roomed 64 0 n (stretched 64 unit (now (first .entry)) records ++ antiRotations 64 n (now (holds .entry))) (now (plan .entry)) .outcome) × (now (plan .exit) ≡ roomed 64 0 n (stretched 64 unit (now (first .entry)) records ++ antiRotations 64 n (now (holds .entry))) (now (plan .entry)) .bytes) ⌝ }
+    requires { ⌜ Table n (now holds) × (n ≤ 64) × First 64 unit (now first) records total ⌝ }
+    ensures { λ r. ⌜ (r ≡ roomed 64 0 n (madeParts 64 n unit (now (first .entry)) records (now (holds .entry))) (now (plan .entry)) .outcome) × (now (plan .exit) ≡ roomed 64 0 n (madeParts 64 n unit (now (first .entry)) records (now (holds .entry))) (now (plan .entry)) .bytes) ⌝ }
 {
-    let second = measure(n, holds);
+    let second = turns::measure(n, holds);
     let need = records + second.records;
     if plan.len() / RECORD < need {
         return Outcome::Refused(Refusal::Room(need));
     }
     lay_first(n, unit, first, records, plan);
-    lay(n, holds, plan, records * RECORD);
+    turns::lay(
+        Turning::Backward,
+        n,
+        holds,
+        OUTPUTS,
+        EDITION,
+        plan,
+        records * RECORD,
+    );
     done(need, total * unit as u64 + second.total)
 }
 

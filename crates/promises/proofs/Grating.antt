@@ -28,7 +28,8 @@ use Rattle.demand.specs.declared.Checked.the-variants.{Fine, Faulty}
 use Rattle.demand.proofs.Check.{fine, fine-asked}
 use Rattle.switch.proofs.Check.{some-ports}
 use Rattle.rules.specs.Exact.{exactPlan}
-use Rattle.rules.specs.Doubled.{unit, divide, stretch, turns, tight, doubledBy, Doubled}
+use Rattle.rules.specs.Doubled.{unit, divide, stretch, opposite, turns, tight, doubledBy, Doubled}
+use Rattle.rules.proofs.Opposite.{opposite-joins, opposite-idle}
 use Rattle.rules.proofs.Tight.{doubled-tight}
 use Rattle.switch.specs.Sound.{Sound, Each, none, more}
 use Rattle.records.specs.Bytes.{bytes, laid, whole, planOf}
@@ -47,10 +48,10 @@ use Rattle.wavelengths.specs.Shared.{sharing, mostShared, gratingReport}
 use Rattle.wavelengths.specs.Report.{reported}
 use Rattle.wavelengths.proofs.Report.{report-done}
 use Rattle.wavelengths.proofs.Promise.{laid-at}
-use Rattle.antirotations.specs.Opposite.{opposite, allowed, Spread}
-use Rattle.antirotations.proofs.Opposite.{opposite-joins, opposite-idle, second-spread}
 use Rattle.grating.specs.Grating.{gratingPlan, firstPart, secondPart, gratingPlanned}
 use Rattle.grating.proofs.Answer.{Both, short-answer, faulty-answer, fine-answer, done}
+use Rattle.promises.specs.Spread.{allowed, Spread}
+use Rattle.promises.proofs.Spread.{second-spread}
 use Rattle.promises.specs.Calls.{CheckPlan, GratingReport, GratingDoubled}
 use Rattle.promises.specs.Grating.{GratingGiven}
 use Rattle.promises.proofs.Outcomes.{never, same-counts}

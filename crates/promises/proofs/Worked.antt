@@ -11,9 +11,8 @@ use Rattle.rules.specs.Fill.{fill, fillTo, fillCell, lack}
 use Rattle.rules.specs.Search.{put, pick, free, complete, firstSetting}
 use Rattle.rules.specs.Peel.{peel}
 use Rattle.rules.specs.Exact.{tab, least, recordOf, peels, exactFrom, exactPlan}
-use Rattle.rules.specs.Doubled.{unit, divide, stretch, rotate, held, turns, doubledBy, tight, tightPlan}
+use Rattle.rules.specs.Doubled.{unit, divide, stretch, rotate, opposite, held, turns, doubledBy, tight, tightPlan}
 use Rattle.wavelengths.specs.Shared.{wavelength, uses, sharing, mostShared, gratingReport}
-use Rattle.antirotations.specs.Opposite.{opposite}
 use Rattle.grating.specs.Grating.{gratingPlan}
 use Rattle.promises.specs.Papers.{rec}
 

@@ -11,10 +11,9 @@ use Rattle.switch.specs.Plan.{Record, total}
 use Rattle.switch.specs.Empty.{emptySlots}
 use Rattle.demand.specs.Check.{Asked}
 use Rattle.rules.specs.Doubled.{Doubled}
-use Rattle.switch.specs.Sound.{Each}
-use Rattle.records.specs.Bytes.{whole, planOf}
-use Rattle.antirotations.specs.Opposite.{allowed, Spread}
+use Rattle.records.specs.Bytes.{whole, planOf, Each}
 use Rattle.grating.specs.Grating.{gratingPlan, firstPart, secondPart}
+use Rattle.promises.specs.Spread.{allowed, Spread}
 use Rattle.promises.specs.Calls.{CheckPlan, GratingReport}
 
 -- what the plan p is worth for the demand d

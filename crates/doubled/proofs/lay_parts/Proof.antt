@@ -1,28 +1,30 @@
 -- The first part has the records that the exact planner says, so the rotations go right behind it.
 use mathlib.Core.Path.{_∙_}
 use native.Mathlib.Omega.{arith}
-use Rattle.doubled.proofs.Both.{first-place, second-room, second-laid}
+use Rattle.doubled.proofs.Divided.{first-place, behind-room, behind-laid}
 use borrow.Author.Needs.{needs}
 use Rattle.doubled.proofs.lay_parts.Statement.{statement}
 use Rattle.doubled.proofs.lay_parts.Tie as tie
 
 lay-requires : tie.Need-lay-requires
-lay-requires c κs = let p = c .before .before .before .before .before .pre in (p .0, first-place _ _ _ _ _ (c .before .before .before .before .before .args .holds .now) (p .0) (p .2 .wide) _ (p .2))
+lay-requires c κs =
+    let s = c .before .before .before .before .before in
+    (s .pre .0, first-place _ _ _ _ _ (s .args .holds .now) (s .pre .0) _ (s .pre .2))
 
 add-lay : tie.Need-add-lay
 add-lay c = search needs
 
 mul-lay : tie.Need-mul-lay
 mul-lay c =
-    let p = c .before .before .before .before .before .before .before .before .before .before .before .pre in
+    let s = c .before .before .before .before .before .before .before .before .before .before .before in
     let l = c .before .before .before .before .before .lay .ensures in
-    omega (arith, second-room _ _ _ _ _ (c .before .before .before .before .before .before .before .before .before .before .before .args .holds .now) (p .0) (p .2 .wide) _ (p .2) _ _ (l .1) _ (l .0))
+    omega (arith, behind-room _ _ _ _ _ (s .args .holds .now) (s .pre .0) _ (s .pre .2) (s .args .edition) (l .1) (l .0))
 
 lay-requires-2 : tie.Need-lay-requires-2
 lay-requires-2 c κs =
-    let p = c .before .before .before .before .before .before .before .before .before .before .before .pre in
+    let s = c .before .before .before .before .before .before .before .before .before .before .before in
     let l = c .before .before .before .before .before .lay .ensures in
-    (p .1, p .2 .wide, p .2 .narrow, second-room _ _ _ _ _ (c .before .before .before .before .before .before .before .before .before .before .before .args .holds .now) (p .0) (p .2 .wide) _ (p .2) _ _ (l .1) _ (l .0))
+    (s .pre .1, s .pre .2 .wide, s .pre .2 .narrow, behind-room _ _ _ _ _ (s .args .holds .now) (s .pre .0) _ (s .pre .2) (s .args .edition) (l .1) (l .0))
 
 same-length : tie.Need-same-length
 same-length c = search needs
@@ -32,9 +34,9 @@ same-length-2 c = search needs
 
 returns : tie.Need-returns
 returns c =
-    let p = c .before .before .before .before .before .before .before .before .before .before .before .before .before .before .pre in
+    let s = c .before .before .before .before .before .before .before .before .before .before .before .before .before .before in
     let l = c .before .before .before .before .before .before .before .before .lay .ensures in
-    (l .0, c .before .before .lay2 .ensures ∙ second-laid _ _ _ _ _ (c .before .before .before .before .before .before .before .before .before .before .before .before .before .before .args .holds .now) (p .0) (p .2 .wide) _ (p .2) _ _ (l .1) _ (l .0))
+    (l .0, c .before .before .lay2 .ensures ∙ behind-laid _ _ _ _ _ (s .args .holds .now) (s .pre .0) _ (s .pre .2) (s .args .edition) (l .1) (l .0))
 
 pub lay-parts-spec : {M : Type 1} → statement M
 lay-parts-spec =

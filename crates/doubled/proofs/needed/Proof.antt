@@ -4,7 +4,7 @@ use Prim.Native.Nat.{ℕ, _+_}
 use native.Mathlib.Omega.{arith}
 use Rattle.rules.proofs.Doubled.{length-divide}
 use lib.ListN.{length}
-use Rattle.doubled.proofs.Both.{first-few}
+use Rattle.doubled.proofs.Divided.{first-few}
 use Rattle.doubled.proofs.Room.{needs-surely, needs-counted}
 use borrow.Author.Needs.{needs}
 use Rattle.doubled.proofs.needed.Statement.{statement}

@@ -11,7 +11,8 @@ use Rattle.demand.specs.declared.Checked.the-variants.{Fine}
 use Rattle.demand.proofs.Check.{fine-asked}
 use Rattle.planner.specs.Planned.{Planned}
 use Rattle.planner.proofs.Planned.{planned-faulty}
-use Rattle.rotations.specs.Second.{doubledRule}
+use Rattle.turns.specs.declared.Turning.the-variants.{Forward}
+use Rattle.turns.specs.Second.{doubledRule}
 use borrow.Author.Needs.{needs}
 use Rattle.doubled.proofs.plan_by.Statement.{statement}
 use Rattle.doubled.proofs.plan_by.Tie as tie
@@ -53,7 +54,7 @@ plan-fine-requires c κs =
 returns : tie.Need-returns
 returns c =
     let a = c .before .before .before .before .before .before .args in
-    let q = planned-faulty 64 0 (a .n) (a .cells .now) (doubledRule (a .rule) 64 (a .n) (a .cells .now)) (a .plan .now) _ (sym (c .before .before .before .check-demand .ensures) ∙ c .before .r .given .1) in
+    let q = planned-faulty 64 0 (a .n) (a .cells .now) (doubledRule (a .rule) Forward 64 (a .n) (a .cells .now)) (a .plan .now) _ (sym (c .before .before .before .check-demand .ensures) ∙ c .before .r .given .1) in
     (ap (λ (x : Planned). x .outcome) (sym q), ap (λ (x : Planned). x .bytes) (sym q))
 
 same-length : tie.Need-same-length

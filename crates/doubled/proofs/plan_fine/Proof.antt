@@ -1,55 +1,36 @@
 -- Nothing asked for is the empty plan; else there is a u of at least 1 to divide by, and the rotations' holds by the rule make its second part.
-use mathlib.Core.Path.{_≡_, ap, _∙_, subst}
-use mathlib.Core.List.{List}
-use Prim.Native.Nat.{ℕ, _≤_, _<_}
-use native.Mathlib.Omega.{arith}
+use mathlib.Core.Path.{ap, _∙_, subst}
 use lib.ListN.{length}
 use Rattle.rules.proofs.Peels.{length-tab}
-use Rattle.rules.specs.Doubled.{unit, divide, Doubled}
+use Rattle.rules.specs.Doubled.{Doubled}
 use Rattle.demand.specs.declared.Checked.the-variants.{Fine}
-use Rattle.demand.proofs.Check.{fine-asked}
-use Rattle.demand.specs.Check.{checkDemand}
-use Rattle.doubled.specs.Parts.{Divided}
-use Rattle.doubled.proofs.Dividing.{unit-some}
-use Rattle.doubled.proofs.Divided.{asked, holding, rule-parts}
+use Rattle.turns.specs.declared.Turning.the-variants.{Forward}
+use Rattle.turns.proofs.Divided.{fine-asks, divided, asked, holding, rule-parts}
 use Rattle.doubled.proofs.Promise.{either-rule}
 use Rattle.doubled.proofs.Answer.{empty-answer}
 use borrow.Author.Needs.{needs}
 use Rattle.doubled.proofs.plan_fine.Statement.{statement}
 use Rattle.doubled.proofs.plan_fine.Tie as tie
 
-divided : (W N T u : ℕ) (d q : List ℕ) → checkDemand W N d ≡ Fine T → W ≤ 128 → (T ≡ 0 → ⊥) → u ≡ unit N T → q ≡ divide u d → Divided W N T u d q
-divided W N T u d q fine narrow some u-is q-is = record { fine = fine; narrow = narrow; some = omega (arith, some); unit-is = u-is; quotients-are = q-is }
-
 returns : tie.Need-returns
-returns c = let p = c .before .before .before .before .before .pre in empty-answer (c .before .before .before .before .before .args .rule) _ _ _ _ _ (p .0 ∙ ap Fine (c .if1 .taken))
+returns c = let s = c .before .before .before .before .before in empty-answer (s .args .rule) _ _ _ _ _ (s .pre .0 ∙ ap Fine (c .if1 .taken))
 
-unit-of-requires : tie.Need-unit-of-requires
-unit-of-requires c κs =
-    let p = c .before .before .before .before .before .pre in
-    let a = fine-asked _ _ _ _ (p .0) in
-    (a .some, omega (arith, a .few, p .1), a .small)
-
-quotients-requires : tie.Need-quotients-requires
-quotients-requires c κs =
+split-requires : tie.Need-split-requires
+split-requires c κs =
     let p = c .before .before .before .before .before .before .before .pre in
-    let a = fine-asked _ _ _ _ (p .0) in
-    let l : 0 < c .before .before .before .before .before .before .before .args .longest = omega (arith, c .before .before .if1 .left) in
-    (p .2, omega (arith, c .before .unit-of .ensures, unit-some _ _ (a .some) l))
-
-fill-holds-requires : tie.Need-fill-holds-requires
-fill-holds-requires c κs =
-    let p = c .before .before .before .before .before .before .before .before .before .before .before .pre in
-    (holding _ _ _ _ _ _ (divided _ _ _ _ _ _ (p .0) (p .1) (c .before .before .before .before .before .before .if1 .left) (c .before .before .before .before .before .unit-of .ensures) (c .before .before .before .quotients .ensures)), p .3)
+    (fine-asks (p .0) (p .1) (c .before .before .if1 .left), p .2, p .3)
 
 plan-parts-requires : tie.Need-plan-parts-requires
 plan-parts-requires c κs =
-    let p = c .before .before .before .before .before .before .before .before .before .before .before .before .before .before .before .before .before .pre in
-    let v = divided _ _ _ _ _ _ (p .0) (p .1) (c .before .before .before .before .before .before .before .before .before .before .before .before .if1 .left) (c .before .before .before .before .before .before .before .before .before .before .before .unit-of .ensures) (c .before .before .before .before .before .before .before .before .before .quotients .ensures) in
-    let h = holding _ _ _ _ _ _ v in
-    let s = c .before .before .before .before .before .before .before .before .before .before .before .before .before .before .before .before .before in
-    let e = c .before .before .before .before .before .fill-holds .ensures in
-    (v, record { some = h .some; few = h .few; size = ap length e ∙ length-tab _ _ _ }, subst (Doubled (s .args .n) (s .args .cells .now)) (rule-parts _ _ _ _ _ _ v (s .args .rule) _ e) (either-rule (s .args .rule) (s .args .width) (s .args .n) (asked _ _ _ _ _ _ v .some) (asked _ _ _ _ _ _ v .few) (s .args .cells .now) (h .room)))
+    let s = c .before .before .before .before .before .before .before .before .before .before .before .before .before .before .before in
+    let a = s .args in
+    let h = c .before .before .before .before .before .before .before .split .ensures in
+    let v = divided (s .pre .0) (s .pre .1) (c .before .before .before .before .before .before .before .before .before .before .if1 .left) h in
+    let k = either-rule (a .rule) (a .width) (a .n) (asked v .some) (asked v .few) (a .cells .now) (holding v .room) in (
+      v,
+      record { some = asked v .some; few = holding v .few; size = ap length (h .holds-are) ∙ length-tab _ _ _ },
+      subst (Doubled (a .n) (a .cells .now)) (rule-parts v (a .rule) Forward _ (h .holds-are)) k,
+    )
 
 same-length : tie.Need-same-length
 same-length c = search needs
@@ -62,20 +43,12 @@ same-length-3 c = search needs
 
 returns-2 : tie.Need-returns-2
 returns-2 c =
-    let p = c .before .before .before .before .before .before .before .before .before .before .before .before .before .before .before .before .before .before .before .before .before .before .pre in
-    let v = divided _ _ _ _ _ _ (p .0) (p .1) (c .before .before .before .before .before .before .before .before .before .before .before .before .before .before .before .before .before .if1 .left) (c .before .before .before .before .before .before .before .before .before .before .before .before .before .before .before .before .unit-of .ensures) (c .before .before .before .before .before .before .before .before .before .before .before .before .before .before .quotients .ensures) in
-    rw (rule-parts _ _ _ _ _ _ v (c .before .before .before .before .before .before .before .before .before .before .before .before .before .before .before .before .before .before .before .before .before .before .args .rule) _ (c .before .before .before .before .before .before .before .before .before .before .fill-holds .ensures)) (c .before .before .before .before .plan-parts .ensures)
+    let s = c .before .before .before .before .before .before .before .before .before .before .before .before .before .before .before .before .before .before .before .before in
+    let h = c .before .before .before .before .before .before .before .before .before .before .before .before .split .ensures in
+    let v = divided (s .pre .0) (s .pre .1) (c .before .before .before .before .before .before .before .before .before .before .before .before .before .before .before .if1 .left) h in
+    rw (rule-parts v (s .args .rule) Forward _ (h .holds-are)) (c .before .before .before .before .plan-parts .ensures)
 
 pub plan-fine-spec : {M : Type 1} → statement M
 plan-fine-spec =
     tie.close
-    (tie.spec
-    returns
-    unit-of-requires
-    quotients-requires
-    fill-holds-requires
-    plan-parts-requires
-    same-length
-    same-length-2
-    same-length-3
-    returns-2)
+    (tie.spec returns split-requires plan-parts-requires same-length same-length-2 same-length-3 returns-2)

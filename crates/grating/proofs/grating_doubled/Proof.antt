@@ -18,9 +18,9 @@ use Rattle.grating.proofs.grating_doubled.Tie as tie
 few-cells : (N T : ℕ) (d : List ℕ) → checkDemand 64 N d ≡ Fine T → length d ≤ 4096
 few-cells N T d e = let a = fine-asked 64 N T d e in omega (arith, a .size, mul-le-mul (a .few) (a .few))
 
--- a place for as many quotients
-part : (k : ℕ) → k ≤ 4096 → k ≡ length {A = ℕ} (take k (replicate 4096 0))
-part k l = sym (length-take-le k (replicate 4096 0) (omega (arith, length-replicate {A = ℕ} 4096 0)))
+-- the front of a table of zeros
+part : (all k : ℕ) → k ≤ all → k ≡ length {A = ℕ} (take k (replicate all 0))
+part all k l = sym (length-take-le k (replicate all 0) (omega (arith, length-replicate {A = ℕ} all 0)))
 
 check-demand-requires : tie.Need-check-demand-requires
 check-demand-requires c κs = search needs
@@ -35,12 +35,18 @@ array-borrow-prefix-work : tie.Need-array-borrow-prefix-work
 array-borrow-prefix-work c = few-cells _ _ _ (sym (c .before .before .before .check-demand .ensures) ∙ c .before .longest .given .1)
 
 slice-aggregate-plan-fine : tie.Need-slice-aggregate-plan-fine
-slice-aggregate-plan-fine c = part _ (few-cells _ _ _ (sym (c .before .before .before .before .check-demand .ensures) ∙ c .before .before .longest .given .1))
+slice-aggregate-plan-fine c = part 4096 _ (few-cells _ _ _ (sym (c .before .before .before .before .check-demand .ensures) ∙ c .before .before .longest .given .1))
+
+array-borrow-prefix-holds : tie.Need-array-borrow-prefix-holds
+array-borrow-prefix-holds c = fine-asked 64 _ _ _ (sym (c .before .before .before .before .check-demand .ensures) ∙ c .before .before .longest .given .1) .few
+
+slice-aggregate-plan-fine-2 : tie.Need-slice-aggregate-plan-fine-2
+slice-aggregate-plan-fine-2 c = part 64 _ (fine-asked 64 _ _ _ (sym (c .before .before .before .before .before .check-demand .ensures) ∙ c .before .before .before .longest .given .1) .few)
 
 plan-fine-requires : tie.Need-plan-fine-requires
 plan-fine-requires c κs =
-    let e = sym (c .before .before .before .before .before .check-demand .ensures) ∙ c .before .before .before .longest .given .1 in
-    (e, sym (part _ (few-cells _ _ _ e)))
+    let e = sym (c .before .before .before .before .before .before .check-demand .ensures) ∙ c .before .before .before .before .longest .given .1 in
+    (e, sym (part 4096 _ (few-cells _ _ _ e)), sym (part 64 _ (fine-asked 64 _ _ _ e .few)))
 
 returns : tie.Need-returns
 returns c =
@@ -62,6 +68,8 @@ grating-doubled-spec =
     enum-known-longest
     array-borrow-prefix-work
     slice-aggregate-plan-fine
+    array-borrow-prefix-holds
+    slice-aggregate-plan-fine-2
     plan-fine-requires
     returns
     same-length

@@ -1,21 +1,30 @@
 -- Each turn lays one record behind those before it, its hold multiplied by u.
 use mathlib.Core.Path.{_≡_, ap, ap₂, _∙_}
 use mathlib.Core.List.{List}
-use Prim.Native.Nat.{ℕ, _*_, _-_, _≤_}
+use Prim.Native.Nat.{ℕ, _*_, _-_, _≤_, _<_}
 use native.Mathlib.Omega.{arith}
-use native.Mathlib.Nat.{mul-le-mul-right}
-use lib.ListN.{length}
+use lib.ListN.{length, take, drop}
 use Rattle.records.specs.Record.{hold, outputs}
-use Rattle.records.specs.Bytes.{laid, encode}
-use Rattle.wavelengths.proofs.Report.{read-size}
-use Rattle.grating.proofs.First.{hold-small, part-outputs, longer, Laying, laying-none, laying-room, laying-next, laying-all}
+use Rattle.records.specs.Bytes.{recordAt, laid, encode}
+use Rattle.grating.specs.Parts.{First}
+use Rattle.grating.proofs.First.{part-outputs, record-long, longer-small, Laying, laying-none, laying-room, laying-next, laying-all}
 use borrow.Author.Needs.{needs}
 use Rattle.grating.proofs.lay_first.Statement.{statement}
 use Rattle.grating.proofs.lay_first.Tie as tie
 
--- a record's hold, u times as long, fits two bytes
-longer-small : (u h sum : ℕ) → h ≤ sum → sum * u ≤ 65535 → h * u ≤ 65535
-longer-small u h sum l s = omega (arith, mul-le-mul-right u l)
+-- the record that is read, and the hold that is multiplied
+module _ {u : ℕ} {first : List ℕ} {m sum : ℕ} (f : First 64 u first m sum) (k : ℕ) (l : k < m) {rec : List ℕ} (is : rec ≡ recordAt 64 first k) where
+  long : length rec ≡ 68
+  long = ap length is ∙ record-long f k l
+
+  outs : take (length rec - 4) (drop 4 rec) ≡ outputs (recordAt 64 first k)
+  outs = part-outputs rec ∙ ap outputs is
+
+  longer-is : {w h : ℕ} → w ≡ h → h ≡ hold rec → w * u ≡ hold (recordAt 64 first k) * u
+  longer-is a b = ap (λ (x : ℕ). x * u) (a ∙ b ∙ ap hold is)
+
+  fits : {w h : ℕ} → w ≡ h → h ≡ hold rec → w * u ≤ 65535
+  fits a b = omega (arith, longer-is a b, longer-small f k l)
 
 abbrev Inv-loop : tie.InvT-loop
 Inv-loop n unit first records plan₀ k₀ plan k = (k ≤ records) × Laying 64 first unit records 0 n plan₀ plan k
@@ -24,43 +33,45 @@ abbrev μ-loop : tie.MeasureT-loop
 μ-loop n unit first records plan₀ k₀ plan k = records - k
 
 loop-holds : tie.Need-loop-holds Inv-loop μ-loop
-loop-holds c =
-    let a = c .before .before .args in
-    (omega arith, laying-none 64 (a .first .now) (a .unit) (a .records) (c .before .before .pre .1 .room) 0 (a .n) (a .plan .now) (c .before .before .pre .2))
+loop-holds c = let s = c .before .before in (omega arith, laying-none (s .pre .1) 0 (s .args .n) (s .args .plan .now) (s .pre .2))
 
 record-at-requires : tie.Need-record-at-requires Inv-loop μ-loop
 record-at-requires c κs = (omega arith, omega (arith, c .before .before .before .before .pre .1 .room))
 
 hold-of-requires : tie.Need-hold-of-requires Inv-loop μ-loop
-hold-of-requires c κs = omega (arith, ap length (c .record-at .ensures), read-size 64 (c .before .before .before .before .before .args .first .now) (c .before .before .loop .k) (omega (arith, c .before .before .before .before .before .pre .1 .room)))
+hold-of-requires c κs = omega (arith, long (c .before .before .before .before .before .pre .1) _ (c .before .loop-test .taken) (c .record-at .ensures))
 
 wide-requires : tie.Need-wide-requires Inv-loop μ-loop
 wide-requires c κs = search needs
 
 mul-hold : tie.Need-mul-hold Inv-loop μ-loop
-mul-hold c = omega (arith, longer-small (c .before .before .before .before .before .before .before .args .unit) (c .wide .result) _ (omega (arith, c .wide .ensures, c .before .hold-of .ensures, ap hold (c .before .before .record-at .ensures), hold-small 64 (c .before .before .before .before .before .before .before .args .first .now) (c .before .before .before .before .before .before .before .args .records) 0 (c .before .before .before .before .loop .k) (omega arith) (omega arith))) (c .before .before .before .before .before .before .before .pre .1 .small))
+mul-hold c =
+    omega (arith, fits (c .before .before .before .before .before .before .before .pre .1) _ (c .before .before .before .loop-test .taken) (c .before .before .record-at .ensures) (c .wide .ensures) (c .before .hold-of .ensures))
 
 mul-put-record : tie.Need-mul-put-record Inv-loop μ-loop
 mul-put-record c = omega (arith, c .before .before .before .before .before .before .before .before .pre .1 .few)
 
 cast-put-record : tie.Need-cast-put-record Inv-loop μ-loop
-cast-put-record c = omega (arith, longer-small (c .before .before .before .before .before .before .before .before .args .unit) (c .before .wide .result) _ (omega (arith, c .before .wide .ensures, c .before .before .hold-of .ensures, ap hold (c .before .before .before .record-at .ensures), hold-small 64 (c .before .before .before .before .before .before .before .before .args .first .now) (c .before .before .before .before .before .before .before .before .args .records) 0 (c .before .before .before .before .before .loop .k) (omega arith) (omega arith))) (c .before .before .before .before .before .before .before .before .pre .1 .small))
+cast-put-record c =
+    omega (arith, fits (c .before .before .before .before .before .before .before .before .pre .1) _ (c .before .before .before .before .loop-test .taken) (c .before .before .before .record-at .ensures) (c .before .wide .ensures) (c .before .before .hold-of .ensures))
 
 sub-put-record : tie.Need-sub-put-record Inv-loop μ-loop
-sub-put-record c = omega (arith, ap length (c .before .before .before .record-at .ensures), read-size 64 (c .before .before .before .before .before .before .before .before .args .first .now) (c .before .before .before .before .before .loop .k) (omega (arith, c .before .before .before .before .before .before .before .before .pre .1 .room)))
+sub-put-record c = omega (arith, long (c .before .before .before .before .before .before .before .before .pre .1) _ (c .before .before .before .before .loop-test .taken) (c .before .before .before .record-at .ensures))
 
 part-put-record-start : tie.Need-part-put-record-start Inv-loop μ-loop
-part-put-record-start c = omega (arith, ap length (c .before .before .before .record-at .ensures), read-size 64 (c .before .before .before .before .before .before .before .before .args .first .now) (c .before .before .before .before .before .loop .k) (omega (arith, c .before .before .before .before .before .before .before .before .pre .1 .room)))
+part-put-record-start c = omega (arith, long (c .before .before .before .before .before .before .before .before .pre .1) _ (c .before .before .before .before .loop-test .taken) (c .before .before .before .record-at .ensures))
 
 part-put-record-end : tie.Need-part-put-record-end Inv-loop μ-loop
 part-put-record-end c = search needs
 
 put-record-requires : tie.Need-put-record-requires Inv-loop μ-loop
 put-record-requires c κs =
-    let a = c .before .before .before .before .before .before .before .before .before .args in
+    let s = c .before .before .before .before .before .before .before .before .before in
+    let f = s .pre .1 in
     let l = c .before .before .before .before .before .before .loop in
-    let o = part-outputs (c .before .before .before .before .record-at .result .now) ∙ ap outputs (c .before .before .before .before .record-at .ensures) in
-    (omega (arith, c .before .before .before .before .before .before .before .before .before .pre .0), omega (arith, ap length o, laying-room 64 (a .first .now) (a .unit) (a .records) (c .before .before .before .before .before .before .before .before .before .pre .1 .room) 0 (a .n) (a .plan .now) (l .plan) (l .k) (l .inv .1) (omega arith)))
+    let t = c .before .before .before .before .before .loop-test .taken in
+    let o = outs f (l .k) t (c .before .before .before .before .record-at .ensures) in
+    (omega (arith, s .pre .0), omega (arith, ap length o, laying-room f 0 (s .args .n) (s .args .plan .now) (l .inv .1) t))
 
 add-k : tie.Need-add-k Inv-loop μ-loop
 add-k c = search needs
@@ -70,23 +81,20 @@ loop-less c = search needs
 
 loop-again : tie.Need-loop-again Inv-loop μ-loop
 loop-again c =
-    let a = c .before .before .before .before .before .before .before .before .before .before .before .before .args in
+    let s = c .before .before .before .before .before .before .before .before .before .before .before .before in
+    let f = s .pre .1 in
     let l = c .before .before .before .before .before .before .before .before .before .loop in
+    let t = c .before .before .before .before .before .before .before .before .loop-test .taken in
     let is = c .before .before .before .before .before .before .before .record-at .ensures in
-    let h : c .before .before .before .before .before .wide .result * a .unit ≡ longer 64 (a .first .now) (a .unit) (a .records) (l .k) .hold =
-    ap (λ (x : ℕ). x * a .unit) (c .before .before .before .before .before .wide .ensures ∙ c .before .before .before .before .before .before .hold-of .ensures ∙ ap hold is) in
-    let o = part-outputs (c .before .before .before .before .before .before .before .record-at .result .now) ∙ ap outputs is in
-    let put = c .before .before .put-record .ensures ∙ ap₂ (λ (x : ℕ) (s : List ℕ). laid (l .plan) (l .k * 68) (encode 0 x (a .n) s)) h o in
-    (omega arith, laying-next 64 (a .first .now) (a .unit) (a .records) (c .before .before .before .before .before .before .before .before .before .before .before .before .pre .1 .room) 0 (a .n) (a .plan .now) (l .plan) (l .k) (l .inv .1) (omega arith) _ put)
+    let h = longer-is f (l .k) t is (c .before .before .before .before .before .wide .ensures) (c .before .before .before .before .before .before .hold-of .ensures) in
+    let put = c .before .before .put-record .ensures ∙ ap₂ (λ (x : ℕ) (o : List ℕ). laid (l .plan) (l .k * 68) (encode 0 x (s .args .n) o)) h (outs f (l .k) t is) in
+    (omega arith, laying-next f 0 (s .args .n) (s .args .plan .now) (l .inv .1) t put)
 
 same-length : tie.Need-same-length Inv-loop μ-loop
 same-length c = c .before .loop .inv .1 .size
 
 returns : tie.Need-returns Inv-loop μ-loop
-returns c =
-    let a = c .before .before .before .before .args in
-    let l = c .before .loop in
-    laying-all 64 (a .first .now) (a .unit) (a .records) (c .before .before .before .before .pre .1 .room) 0 (a .n) (a .plan .now) (l .plan) (l .k) (l .inv .1) (omega arith)
+returns c = let s = c .before .before .before .before in laying-all (s .pre .1) 0 (s .args .n) (s .args .plan .now) (c .before .loop .inv .1) (omega arith)
 
 pub lay-first-spec : {M : Type 1} → statement M
 lay-first-spec =

@@ -1,15 +1,18 @@
 -- Nothing asked for is the empty plan; else there is a u of at least 1 to divide by, and the exact call on the quotients makes the first part.
 use mathlib.Core.Path.{ap, _∙_}
-use Prim.Native.Nat.{ℕ, _/_, _≤_, _<_}
+use mathlib.Core.List.{List}
+use Prim.Native.Nat.{ℕ, _/_, _≤_}
 use native.Mathlib.Omega.{arith}
-use lib.ListN.{replicate, length-replicate}
-use Rattle.switch.specs.declared.Numbers.{Numbers}
+use lib.ListN.{length, replicate, length-replicate}
 use Rattle.demand.specs.declared.Checked.the-variants.{Fine}
-use Rattle.demand.proofs.Check.{fine-asked}
+use Rattle.switch.specs.declared.Numbers.{Numbers}
+use Rattle.switch.specs.Plan.{Record}
+use Rattle.rules.proofs.Peels.{length-tab}
 use Rattle.records.specs.Bytes.{whole}
 use Rattle.planner.specs.Planned.{Planned}
-use Rattle.doubled.proofs.Dividing.{unit-some}
-use Rattle.grating.proofs.Divided.{parted}
+use Rattle.turns.proofs.Divided.{fine-asks, divided, asked, holding}
+use Rattle.grating.specs.Grating.{roomed}
+use Rattle.grating.proofs.Divided.{first-part, whole-plan}
 use Rattle.grating.proofs.Answer.{empty-answer, fine-answer}
 use borrow.Author.Needs.{needs}
 use Rattle.grating.proofs.plan_fine.Statement.{statement}
@@ -24,18 +27,14 @@ done-requires c κs = search needs
 
 returns : tie.Need-returns
 returns c =
-    let a = c .before .before .before .before .before .args in
-    let e = empty-answer 64 0 (a .n) (a .cells .now) (a .plan .now) (c .before .before .before .before .before .pre .0 ∙ ap Fine (c .before .if1 .taken)) in
+    let s = c .before .before .before .before .before .before in
+    let e = empty-answer 64 0 (s .args .n) (s .args .cells .now) (s .args .plan .now) (s .pre .0 ∙ ap Fine (c .before .if1 .taken)) in
     (c .done .ensures ∙ e .0, e .1)
 
-unit-of-requires : tie.Need-unit-of-requires
-unit-of-requires c κs = let f = fine-asked _ _ _ _ (c .before .before .before .before .pre .0) in (f .some, f .few, f .small)
-
-quotients-requires : tie.Need-quotients-requires
-quotients-requires c κs =
-    let p = c .before .before .before .before .before .before .pre in
-    let some : 0 < c .before .before .before .before .before .before .args .longest = omega (arith, c .before .before .if1 .left) in
-    (p .1, omega (arith, c .before .unit-of .ensures, unit-some _ _ (fine-asked _ _ _ _ (p .0) .some) some))
+split-requires : tie.Need-split-requires
+split-requires c κs =
+    let p = c .before .before .before .before .before .before .before .pre in
+    (fine-asks (p .0) (omega arith) (c .before .before .if1 .left), p .1, p .2)
 
 slice-aggregate-exact-plan : tie.Need-slice-aggregate-exact-plan
 slice-aggregate-exact-plan c = search needs
@@ -46,14 +45,18 @@ exact-plan-requires c κs = search needs
 numbers-of-requires : tie.Need-numbers-of-requires
 numbers-of-requires c κs = search needs
 
-slice-aggregate-plan-parts : tie.Need-slice-aggregate-plan-parts
-slice-aggregate-plan-parts c = search needs
+slice-aggregate-lay-parts : tie.Need-slice-aggregate-lay-parts
+slice-aggregate-lay-parts c = search needs
 
-plan-parts-requires : tie.Need-plan-parts-requires
-plan-parts-requires c κs =
-    let a = c .before .before .before .before .before .before .before .before .before .before .before .before .before .before .before .before .args in
-    let x = c .before .before .before .before .exact-plan in
-    parted 64 (a .n) (a .longest) _ (a .cells .now) _ (c .before .before .before .before .before .before .before .before .before .before .before .before .before .before .before .before .pre .0) (omega (arith, c .before .before .before .before .before .before .before .before .before .before .before .before .if1 .left)) (c .before .before .before .before .before .before .before .before .before .before .before .unit-of .ensures) (c .before .before .before .before .before .before .before .before .before .quotients .ensures) 0 _ first-room _ _ _ (x .ensures .0) (x .ensures .1) (ap (λ (x : Numbers). x .counts) (c .before .before .numbers-of .ensures)) (x .kept .1 .1 .0)
+lay-parts-requires : tie.Need-lay-parts-requires
+lay-parts-requires c κs =
+    let h = c .before .before .before .before .before .before .before .before .before .before .before .before .split .ensures in
+    let v = divided (c .before .before .before .before .before .before .before .before .before .before .before .before .before .before .before .before .before .before .before .before .pre .0) (omega arith) (c .before .before .before .before .before .before .before .before .before .before .before .before .before .before .before .if1 .left) h in
+    let x = c .before .before .before .before .before .exact-plan in (
+      record { some = asked v .some; few = holding v .few; size = ap length (h .holds-are) ∙ length-tab _ _ _ },
+      asked v .few,
+      first-part v 0 _ first-room (x .ensures .0) (x .ensures .1) (ap (λ (n : Numbers). n .counts) (c .before .before .before .numbers-of .ensures)) (x .kept .1 .1 .0),
+    )
 
 same-length : tie.Need-same-length
 same-length c = search needs
@@ -61,11 +64,19 @@ same-length c = search needs
 same-length-2 : tie.Need-same-length-2
 same-length-2 c = search needs
 
+same-length-3 : tie.Need-same-length-3
+same-length-3 c = search needs
+
 returns-2 : tie.Need-returns-2
 returns-2 c =
-    let a = c .before .before .before .before .before .before .before .before .before .before .before .before .before .before .before .before .before .before .before .args in
-    let e = fine-answer 64 0 (a .n) (a .cells .now) (a .plan .now) (a .longest) (c .before .before .before .before .before .before .before .before .before .before .before .before .before .before .before .before .before .before .before .pre .0) in
-    let l = c .before .before .plan-parts .ensures in
+    let s = c .before .before .before .before .before .before .before .before .before .before .before .before .before .before .before .before .before .before .before .before .before .before .before in
+    let a = s .args in
+    let h = c .before .before .before .before .before .before .before .before .before .before .before .before .before .before .before .split .ensures in
+    let v = divided (s .pre .0) (omega arith) (c .before .before .before .before .before .before .before .before .before .before .before .before .before .before .before .before .before .before .if1 .left) h in
+    let x = c .before .before .before .before .before .before .before .before .exact-plan .ensures in
+    let p = whole-plan v 0 _ first-room (x .0) (x .1) (ap (λ (n : Numbers). n .counts) (c .before .before .before .before .before .before .numbers-of .ensures)) _ (h .holds-are) in
+    let e = ap (λ (q : List Record). roomed 64 0 (a .n) q (a .plan .now)) p ∙ fine-answer 64 0 (a .n) (a .cells .now) (a .plan .now) (a .longest) (s .pre .0) in
+    let l = c .before .before .lay-parts .ensures in
     (l .0 ∙ ap (λ (x : Planned). x .outcome) e, l .1 ∙ ap (λ (x : Planned). x .bytes) e)
 
 pub plan-fine-spec : {M : Type 1} → statement M
@@ -74,13 +85,13 @@ plan-fine-spec =
     (tie.spec
     done-requires
     returns
-    unit-of-requires
-    quotients-requires
+    split-requires
     slice-aggregate-exact-plan
     exact-plan-requires
     numbers-of-requires
-    slice-aggregate-plan-parts
-    plan-parts-requires
+    slice-aggregate-lay-parts
+    lay-parts-requires
     same-length
     same-length-2
+    same-length-3
     returns-2)

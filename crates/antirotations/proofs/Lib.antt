@@ -1,2 +1,0 @@
-pub mod Opposite
-pub mod Table

@@ -1,0 +1,40 @@
+-- The settings are laid with the outputs of one of them beside, as many as a record has.
+use mathlib.Core.Path.{_≡_, sym, ap, _∙_, subst}
+use Prim.Native.Nat.{ℕ, _+_, _≤_}
+use native.Mathlib.Omega.{arith}
+use lib.ListN.{length, getD, take, replicate, length-replicate}
+use lib.Seq.{length-take-le}
+use Rattle.records.specs.Bytes.{bytes, laid}
+use Rattle.turns.specs.Second.{turn, second}
+use Rattle.turns.proofs.Turns.{turns-room}
+use borrow.Author.Needs.{needs}
+use Rattle.turns.proofs.lay.Statement.{statement}
+use Rattle.turns.proofs.lay.Tie as tie
+
+wide : (W : ℕ) → W ≤ 128 → length {A = ℕ} (take W (replicate 128 255)) ≡ W
+wide W l = length-take-le W (replicate 128 255) (omega (arith, length-replicate {A = ℕ} 128 255))
+
+array-borrow-prefix-out : tie.Need-array-borrow-prefix-out
+array-borrow-prefix-out c = search needs
+
+slice-aggregate-lay-all : tie.Need-slice-aggregate-lay-all
+slice-aggregate-lay-all c = sym (wide _ (c .before .before .before .before .pre .2))
+
+lay-all-requires : tie.Need-lay-all-requires
+lay-all-requires c κs =
+    let a = c .before .before .before .before .args in
+    let p = c .before .before .before .before .pre in
+    (p .0, omega (arith, p .1, wide _ (p .2)), subst (λ (W : ℕ). a .from + length (bytes (a .edition) (a .n) (second (a .way) W (a .n) (a .holds .now))) ≤ length (a .plan .now)) (sym (wide _ (p .2))) (turns-room (turn (a .way) (a .n)) (λ k. getD (a .holds .now) k 0) (a .n) (a .edition) (a .n) (a .width) (a .from) (a .plan .now) (p .3)))
+
+same-length : tie.Need-same-length
+same-length c = search needs
+
+returns : tie.Need-returns
+returns c =
+    let a = c .before .before .before .before .before .before .before .before .args in
+    c .before .before .before .lay-all .ensures ∙ ap (λ (W : ℕ). laid (a .plan .now) (a .from) (bytes (a .edition) (a .n) (second (a .way) W (a .n) (a .holds .now)))) (wide _ (c .before .before .before .before .before .before .before .before .pre .2))
+
+pub lay-spec : {M : Type 1} → statement M
+lay-spec =
+    tie.close
+    (tie.spec array-borrow-prefix-out slice-aggregate-lay-all lay-all-requires same-length returns)

@@ -1,0 +1,67 @@
+-- A setting that is not held lays nothing; one that is held lays its one record.
+use mathlib.Core.Path.{sym, ap, _∙_}
+use mathlib.Core.List.{List}
+use Prim.Native.Nat.{ℕ, _<_}
+use native.Mathlib.Omega.{arith}
+use lib.ListN.{length}
+use Rattle.records.specs.Bytes.{laid, encode}
+use Rattle.records.proofs.Laid.{laid-none}
+use Rattle.turns.specs.Second.{turn}
+use Rattle.turns.proofs.Turns.{held-no-bytes, held-bytes, held-size}
+use borrow.Author.Needs.{needs}
+use Rattle.turns.proofs.lay_one.Statement.{statement}
+use Rattle.turns.proofs.lay_one.Tie as tie
+
+returns : tie.Need-returns
+returns c =
+    let a = c .before .before .before .args in
+    let z = held-no-bytes (a .edition) (a .n) (length (a .out .now)) (a .hold) (turn (a .way) (a .n) (a .k)) (c .if1 .taken) in
+    (omega (arith, ap length z), sym (laid-none (a .plan .now) (a .at)) ∙ ap (laid (a .plan .now) (a .at)) (sym z))
+
+fill-outputs-requires : tie.Need-fill-outputs-requires
+fill-outputs-requires c κs = search needs
+
+put-record-requires : tie.Need-put-record-requires
+put-record-requires c κs =
+    let a = c .before .before .before .before .before .before .before .before .before .args in
+    let p = c .before .before .before .before .before .before .before .before .before .pre in
+    let l : 0 < a .hold = omega (arith, c .before .before .before .before .before .before .if1 .left) in
+    (omega (arith, p .1), omega (arith, p .3, held-size (a .edition) (a .n) (length (a .out .now)) (a .hold) (turn (a .way) (a .n) (a .k)) l, c .before .before .before .before .fill-outputs .kept .1 .1 .1 .0))
+
+add-result : tie.Need-add-result
+add-result c = search needs
+
+add-result-2 : tie.Need-add-result-2
+add-result-2 c =
+    let a = c .before .before .before .before .before .before .before .before .before .before .before .before .args in
+    let l : 0 < a .hold = omega (arith, c .before .before .before .before .before .before .before .before .before .if1 .left) in
+    omega (arith, c .before .before .before .before .before .before .before .before .before .before .before .before .pre .3, held-size (a .edition) (a .n) (length (a .out .now)) (a .hold) (turn (a .way) (a .n) (a .k)) l, c .before .before .before .before .before .before .before .fill-outputs .kept .1 .1 .1 .0)
+
+same-length : tie.Need-same-length
+same-length c = search needs
+
+same-length-2 : tie.Need-same-length-2
+same-length-2 c = search needs
+
+returns-2 : tie.Need-returns-2
+returns-2 c =
+    let a = c .before .before .before .before .before .before .before .before .before .before .before .before .args in
+    let l : 0 < a .hold = omega (arith, c .before .before .before .before .before .before .before .before .before .if1 .left) in
+    let W = length (a .out .now) in (
+      omega (arith, held-size (a .edition) (a .n) W (a .hold) (turn (a .way) (a .n) (a .k)) l, c .before .before .before .before .before .before .before .fill-outputs .kept .1 .1 .1 .0),
+      c .before .before .put-record .ensures ∙ ap (λ (o : List ℕ). laid (a .plan .now) (a .at) (encode (a .edition) (a .hold) (a .n) o)) (c .before .before .before .before .before .before .before .fill-outputs .ensures)
+          ∙ ap (laid (a .plan .now) (a .at)) (sym (held-bytes (a .edition) (a .n) W (a .hold) (turn (a .way) (a .n) (a .k)) l)),
+    )
+
+pub lay-one-spec : {M : Type 1} → statement M
+lay-one-spec =
+    tie.close
+    (tie.spec
+    returns
+    fill-outputs-requires
+    put-record-requires
+    add-result
+    add-result-2
+    same-length
+    same-length-2
+    returns-2)
