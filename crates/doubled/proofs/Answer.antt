@@ -32,7 +32,7 @@ use Rattle.turns.specs.Second.{holdsBy, doubledRule, parts, Divided, Measures}
 use Rattle.peel.specs.Standing.{Cells}
 use Rattle.exact.specs.Laying.{Place}
 use Rattle.doubled.specs.Parts.{Needs}
-use Rattle.turns.proofs.Divided.{asked, sized, within, first-total}
+use Rattle.turns.proofs.Divided.{asked, sized, within, first-total, first-records}
 use Rattle.turns.proofs.Both.{both-records, both-total, both-room}
 use Rattle.doubled.proofs.Divided.{quotient-cells}
 
@@ -49,18 +49,19 @@ laid-answer W e N T r t x d p plan plan' fine fits a b f c =
 -- T is 0
 pub empty-answer : (r : Rule) (W e N : ℕ) (d plan : List ℕ) → checkDemand W N d ≡ Fine 0
     → (Done (planCounts 0 0 0) ≡ planned W e N d (doubledRule r Forward W N d) plan .outcome) × (plan ≡ planned W e N d (doubledRule r Forward W N d) plan .bytes)
-empty-answer r W e N d plan fine = laid-answer W e N 0 0 0 0 d (doubledRule r Forward W N d) plan plan fine (omega (arith, ap length none)) (sym (ap length none)) (unfold total in sym (ap total none))
+empty-answer r W e N d plan fine = laid-answer W e N 0 0 0 0 d (doubledRule r Forward W N d) plan plan fine
+    (omega (arith, ap length none)) (sym (ap length none)) (unfold total in sym (ap total none))
     (sym (ap (emptySlots N (cell N d)) none ∙ empty-none N (cell N d) [] (λ i j _ _. unfold grant in omega arith)))
     (sym (laid-none plan 0) ∙ ap (laid plan 0) (sym (ap (bytes e N) none ∙ bytes-none e N)))
   where
     none : doubledRule r Forward W N d ≡ []
     none = by-empty W N (rotate N) (holdsBy r Forward N d) d (sym (fine-asked W N 0 d fine .longest-is))
 
-module _ (W N T u : ℕ) (d q H : List ℕ) (v : Divided W N T u d q) (e : ℕ) (plan : List ℕ) (turns sum : ℕ) (m : Measures N H turns sum) where
+module _ {W N T u : ℕ} {d q H : List ℕ} (v : Divided W N T u d q) {turns sum : ℕ} (m : Measures N H turns sum) (e : ℕ) (plan : List ℕ) where
   records : length (parts Forward W N u q H) ≡ length (exactPlan W N q) + turns
   records = omega (arith, both-records Forward W N u (exactPlan W N q) H, m .count W (rotate N))
 
-  module _ (need : ℕ) (s : Needs (whole W plan) need (length (exactPlan W N q) + turns)) where
+  module _ {need : ℕ} (s : Needs (whole W plan) need (length (exactPlan W N q) + turns)) where
     -- code 5, with the records needed
     pub short-answer : whole W plan < need
         → (Refused (Room need) ≡ planned W e N d (parts Forward W N u q H) plan .outcome) × (plan ≡ planned W e N d (parts Forward W N u q H) plan .bytes)
@@ -70,7 +71,7 @@ module _ (W N T u : ℕ) (d q H : List ℕ) (v : Divided W N T u d q) (e : ℕ) 
         (ap (λ (k : ℕ). Refused (Room k)) n ∙ ap (λ (x : Planned). x .outcome) r, ap (λ (x : Planned). x .bytes) r)
 
     -- there is room, and the quotients are as they were
-    module _ (l : need ≤ whole W plan) (S : ℕ) (longest-is : S ≡ longest N (cell N q)) (q' : List ℕ) (same : q' ≡ q) where
+    module _ (l : need ≤ whole W plan) {S : ℕ} (longest-is : S ≡ longest N (cell N q)) {q' : List ℕ} (same : q' ≡ q) where
       fits : length (parts Forward W N u q H) ≤ whole W plan
       fits = omega (arith, s .fits l, records)
 
@@ -84,6 +85,9 @@ module _ (W N T u : ℕ) (d q H : List ℕ) (v : Divided W N T u d q) (e : ℕ) 
             fits = omega (arith, within v longest-is, asked v .small);
             room = omega (arith, both-room Forward W N u (exactPlan W N q) H plan fits);
           }
+
+      pub first-few : {r : ℕ} → r ≡ length (exactPlan W N q') → r ≤ S
+      first-few e = omega (arith, e ∙ ap (λ (x : List ℕ). length (exactPlan W N x)) same, first-records v longest-is)
 
       -- what both come to
       pub counted-total : S * u + sum ≡ total (parts Forward W N u q H)
@@ -99,10 +103,10 @@ module _ (W N T u : ℕ) (d q H : List ℕ) (v : Divided W N T u d q) (e : ℕ) 
           )
 
       -- both parts are laid, and x slots of them are empty
-      pub both-answer : Doubled N d (parts Forward W N u q H) → (r : ℕ) (plan' : List ℕ) → r ≡ length (exactPlan W N q') → plan' ≡ laid plan 0 (bytes e N (parts Forward W N u q' H))
-          → (x : ℕ) → x ≡ N * (S * u + sum) - allSlots N (cell N d)
+      pub both-answer : Doubled N d (parts Forward W N u q H) → {r : ℕ} → r ≡ length (exactPlan W N q')
+          → {plan' : List ℕ} → plan' ≡ laid plan 0 (bytes e N (parts Forward W N u q' H)) → {x : ℕ} → x ≡ N * (S * u + sum) - allSlots N (cell N d)
           → (Done (demandCounts (r + turns) T (S * u + sum) x) ≡ planned W e N d (parts Forward W N u q H) plan .outcome) × (plan' ≡ planned W e N d (parts Forward W N u q H) plan .bytes)
-      both-answer k r plan' count put x f = laid-answer W e N T (r + turns) (S * u + sum) x d (parts Forward W N u q H) plan plan' (v .fine) fits
+      both-answer k {r} count {plan'} put {x} f = laid-answer W e N T (r + turns) (S * u + sum) x d (parts Forward W N u q H) plan plan' (v .fine) fits
           (omega (arith, count ∙ ap (λ (x : List ℕ). length (exactPlan W N x)) same, records))
           counted-total
           (omega (arith, f, ap (λ (t : ℕ). N * t) counted-total, full-empty N (cell N d) full (k .covers)))

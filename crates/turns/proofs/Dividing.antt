@@ -11,7 +11,8 @@ use Rattle.records.specs.Bytes.{laid}
 use Rattle.records.proofs.Laid.{copy-start-more, copy-whole}
 
 module _ (u : ℕ) (d w : List ℕ) (size : length w ≡ length d) where
-  pub quotient-store : (p : List ℕ) (k v : ℕ) → k < length d → v ≡ getD d k 0 / u → p ≡ laid w 0 (take k (divide u d)) → set p k v ≡ laid w 0 (take (k + 1) (divide u d))
+  pub quotient-store : (p : List ℕ) (k v : ℕ) → k < length d → v ≡ getD d k 0 / u → p ≡ laid w 0 (take k (divide u d))
+      → set p k v ≡ laid w 0 (take (k + 1) (divide u d))
   quotient-store p k v l q e = ap (set p k) (q ∙ sym there) ∙ copy-start-more w (divide u d) p k (omega arith) (omega (arith, length-divide u d)) e
     where
       there : getD (divide u d) k 0 ≡ getD d k 0 / u

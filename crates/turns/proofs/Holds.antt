@@ -41,4 +41,5 @@ module _ {N u : ℕ} {d : List ℕ} (h : Holding N u d) (i j : ℕ) {at : ℕ} (
 
 -- the settings by a table that has every hold
 pub table-turns : (t : Turning) (W N : ℕ) (f : ℕ → ℕ) (H : List ℕ) → H ≡ tab N 0 f → turns W (turn t N) f N 0 ≡ second t W N H
-table-turns t W N f H e = turns-same W (turn t N) f (λ k. getD H k 0) N 0 (λ c _ l. sym (ap (λ (x : List ℕ). getD x c 0) e ∙ getD-tab N 0 f c 0 (omega arith) ∙ ap f (omega arith)))
+table-turns t W N f H e =
+    turns-same W (turn t N) f (λ k. getD H k 0) N 0 (λ c _ l. sym (ap (λ (x : List ℕ). getD x c 0) e ∙ getD-tab N 0 f c 0 (omega arith) ∙ ap f (omega arith)))

@@ -46,7 +46,8 @@ module _ (e N W h : ℕ) (o : ℕ → ℕ) where
 
 -- its outputs, stored one after the other
 module _ (W : ℕ) (o : ℕ → ℕ) (d : List ℕ) (size : length d ≡ W) where
-  pub tab-store : (p : List ℕ) (i v : ℕ) → i < W → v ≡ o i → p ≡ laid d 0 (take i (tab W 0 o)) → set p i v ≡ laid d 0 (take (i + 1) (tab W 0 o))
+  pub tab-store : (p : List ℕ) (i v : ℕ) → i < W → v ≡ o i → p ≡ laid d 0 (take i (tab W 0 o))
+      → set p i v ≡ laid d 0 (take (i + 1) (tab W 0 o))
   tab-store p i v l e q = ap (set p i) (e ∙ sym there) ∙ copy-start-more d (tab W 0 o) p i (omega arith) (omega (arith, length-tab W 0 o)) q
     where
       there : getD (tab W 0 o) i 0 ≡ o i
@@ -86,7 +87,18 @@ module _ (τ : ℕ → ℕ → ℕ) (H : ℕ → ℕ) (N : ℕ) where
       go : (m : ℕ) → m ≡ 0 → turns W τ H m k ≡ []
       go m e = unfold turns in rw e
 
-  -- ---- counted
+  pub turns-width : (W n k : ℕ) → Each (OfWidth W) (turns W τ H n k)
+  unfolding turns
+  turns-width W zero k = Each.none
+  turns-width W (suc n) k = one (H k) (turns-width W n (suc k))
+    where
+      one : (h : ℕ) {p : List Record} → Each (OfWidth W) p → Each (OfWidth W) (held W h (τ k) ++ p)
+      one zero s = unfold held in s
+      one (suc h) s = unfold held in Each.more (length-tab W 0 (τ k)) s
+
+  -- room for so many records is room for their bytes
+  pub turns-room : (e P W from : ℕ) (d : List ℕ) → from + length (turns W τ H N 0) * (W + 4) ≤ length d → from + length (bytes e P (turns W τ H N 0)) ≤ length d
+  turns-room e P W from d l = omega (arith, bytes-size e P W (turns-width W N 0))
 
   -- the settings before k have been counted, and their holds summed
   pub record Counted (k records sum : ℕ) : Type 0 where
@@ -103,72 +115,77 @@ module _ (τ : ℕ → ℕ → ℕ) (H : ℕ → ℕ) (N : ℕ) where
     held-for = λ W. omega (arith, ap total (rest-all W));
   }
 
-  module _ (k records sum : ℕ) (c : Counted k records sum) where
-    pub counted-next : (r h : ℕ) → k < N → h ≡ H k → h ≤ 65535 → ((W : ℕ) (o : ℕ → ℕ) → r ≡ length (held W h o)) → Counted (k + 1) (records + r) (sum + h)
-    counted-next r h l same small e = record {
-      few = omega (arith, c .few, one-at-most r h e);
-      small = omega (arith, c .small);
-      count = λ W. omega (arith, c .count W, e W (τ k), ap (λ x. length (held W x (τ k))) same, ap length (rest-more W k l), length-append (held W (H k) (τ k)) (rest W (k + 1)));
-      held-for = λ W. omega (arith, same, c .held-for W, ap total (rest-more W k l), total-append (held W (H k) (τ k)) (rest W (k + 1)), total-held W τ H (H k) (τ k));
-    }
-
-    pub counted-all : N ≤ k → (W : ℕ) → (records ≡ length (turns W τ H N 0)) × (sum ≡ total (turns W τ H N 0))
-    unfolding total
-    counted-all l W = (omega (arith, c .count W, ap length (rest-none W k l)), omega (arith, c .held-for W, ap total (rest-none W k l)))
-
-  -- ---- laid
-
   -- the settings before k have been laid, and there is room for those left: together they are all of them
   pub record Laying (e P W : ℕ) (d₀ : List ℕ) (from : ℕ) (d : List ℕ) (at k : ℕ) : Type 0 where
     pub size : length d ≡ length d₀
     pub room : at + length (bytes e P (rest W k)) ≤ length d
     pub whole : laid d at (bytes e P (rest W k)) ≡ laid d₀ from (bytes e P (turns W τ H N 0))
 
-  module _ (e P W : ℕ) (d₀ : List ℕ) (from : ℕ) where
-    pub laying-none : from + length (bytes e P (turns W τ H N 0)) ≤ length d₀ → Laying e P W d₀ from d₀ from 0
-    laying-none l = record {
-      size = refl;
-      room = omega (arith, ap (λ (p : List Record). length (bytes e P p)) (rest-all W));
-      whole = ap (λ (p : List Record). laid d₀ from (bytes e P p)) (rest-all W);
+  pub laying-none : {e P W : ℕ} {d : List ℕ} {from : ℕ} → from + length (bytes e P (turns W τ H N 0)) ≤ length d → Laying e P W d from d from 0
+  laying-none {e} {P} {W} {d} {from} l = record {
+    size = refl;
+    room = omega (arith, ap (λ (p : List Record). length (bytes e P p)) (rest-all W));
+    whole = ap (λ (p : List Record). laid d from (bytes e P p)) (rest-all W);
+  }
+
+-- ---- counted
+
+module _ {τ : ℕ → ℕ → ℕ} {H : ℕ → ℕ} {N k records sum : ℕ} (c : Counted τ H N k records sum) where
+  pub counted-next : {r h : ℕ} → k < N → h ≡ H k → h ≤ 65535 → ((W : ℕ) (o : ℕ → ℕ) → r ≡ length (held W h o)) → Counted τ H N (k + 1) (records + r) (sum + h)
+  counted-next {r} {h} l same small e = record {
+    few = omega (arith, c .few, one-at-most r h e);
+    small = omega (arith, c .small);
+    count = λ W. omega (
+      arith,
+      c .count W,
+      e W (τ k),
+      ap (λ x. length (held W x (τ k))) same,
+      ap length (rest-more τ H N W k l),
+      length-append (held W (H k) (τ k)) (rest τ H N W (k + 1)),
+    );
+    held-for = λ W. omega (
+      arith,
+      same,
+      c .held-for W,
+      ap total (rest-more τ H N W k l),
+      total-append (held W (H k) (τ k)) (rest τ H N W (k + 1)),
+      total-held W τ H (H k) (τ k),
+    );
+  }
+
+  pub counted-all : N ≤ k → (W : ℕ) → (records ≡ length (turns W τ H N 0)) × (sum ≡ total (turns W τ H N 0))
+  unfolding total
+  counted-all l W = (omega (arith, c .count W, ap length (rest-none τ H N W k l)), omega (arith, c .held-for W, ap total (rest-none τ H N W k l)))
+
+-- ---- laid
+
+module _ {τ : ℕ → ℕ → ℕ} {H : ℕ → ℕ} {N e P W from at k : ℕ} {d₀ d : List ℕ} (s : Laying τ H N e P W d₀ from d at k) where
+  pub laying-all : N ≤ k → d ≡ laid d₀ from (bytes e P (turns W τ H N 0))
+  laying-all l = sym (laid-none d at) ∙ ap (laid d at) (sym (ap (bytes e P) (rest-none τ H N W k l) ∙ bytes-none e P)) ∙ s .whole
+
+  -- setting k, held for h
+  module _ (l : k < N) {h : ℕ} (same : h ≡ H k) where
+    after : List Record
+    after = rest τ H N W (k + 1)
+
+    more : rest τ H N W k ≡ held W h (τ k) ++ after
+    unfolding after
+    more = rest-more τ H N W k l ∙ ap (λ (x : ℕ). held W x (τ k) ++ rest τ H N W (k + 1)) (sym same)
+
+    fits : at + length (bytes e P (held W h (τ k) ++ after)) ≤ length d
+    fits = subst (λ (p : List Record). at + length (bytes e P p) ≤ length d) more (s .room)
+
+    pub laying-room : at + length (bytes e P (held W h (τ k))) ≤ length d
+    laying-room = part-room e P d at (held W h (τ k)) after fits
+
+    pub laying-next : {d' : List ℕ} {at' : ℕ} → at' ≡ at + length (bytes e P (held W h (τ k))) → d' ≡ laid d at (bytes e P (held W h (τ k)))
+        → Laying τ H N e P W d₀ from d' at' (k + 1)
+    unfolding after
+    laying-next {d'} a q = record {
+      size = part-length e P d at (held W h (τ k)) after fits d' q ∙ s .size;
+      room = omega (arith, a, part-fits e P d at (held W h (τ k)) after fits d' q);
+      whole = ap (λ (x : ℕ). laid d' x (bytes e P after)) a
+          ∙ part-laid e P d at (held W h (τ k)) after fits d' q
+          ∙ ap (λ (p : List Record). laid d at (bytes e P p)) (sym more)
+          ∙ s .whole;
     }
-
-    module _ (d : List ℕ) (at k : ℕ) (s : Laying e P W d₀ from d at k) where
-      pub laying-all : N ≤ k → d ≡ laid d₀ from (bytes e P (turns W τ H N 0))
-      laying-all l = sym (laid-none d at) ∙ ap (laid d at) (sym (ap (bytes e P) (rest-none W k l) ∙ bytes-none e P)) ∙ s .whole
-
-      -- setting k, held for h
-      module _ (l : k < N) (h : ℕ) (same : h ≡ H k) where
-        more : rest W k ≡ held W h (τ k) ++ rest W (k + 1)
-        more = rest-more W k l ∙ ap (λ (x : ℕ). held W x (τ k) ++ rest W (k + 1)) (sym same)
-
-        fits : at + length (bytes e P (held W h (τ k) ++ rest W (k + 1))) ≤ length d
-        fits = subst (λ (p : List Record). at + length (bytes e P p) ≤ length d) more (s .room)
-
-        pub laying-room : at + length (bytes e P (held W h (τ k))) ≤ length d
-        laying-room = part-room e P d at (held W h (τ k)) (rest W (k + 1)) fits
-
-        pub laying-next : (d' : List ℕ) (at' : ℕ) → at' ≡ at + length (bytes e P (held W h (τ k))) → d' ≡ laid d at (bytes e P (held W h (τ k)))
-            → Laying e P W d₀ from d' at' (k + 1)
-        laying-next d' at' a q = record {
-          size = part-length e P d at (held W h (τ k)) (rest W (k + 1)) fits d' q ∙ s .size;
-          room = omega (arith, a, part-fits e P d at (held W h (τ k)) (rest W (k + 1)) fits d' q);
-          whole = ap (λ (x : ℕ). laid d' x (bytes e P (rest W (k + 1)))) a
-              ∙ part-laid e P d at (held W h (τ k)) (rest W (k + 1)) fits d' q
-              ∙ ap (λ (p : List Record). laid d at (bytes e P p)) (sym more)
-              ∙ s .whole;
-        }
-
-  -- ---- their width
-
-  pub turns-width : (W n k : ℕ) → Each (OfWidth W) (turns W τ H n k)
-  unfolding turns
-  turns-width W zero k = Each.none
-  turns-width W (suc n) k = one (H k) (turns-width W n (suc k))
-    where
-      one : (h : ℕ) {p : List Record} → Each (OfWidth W) p → Each (OfWidth W) (held W h (τ k) ++ p)
-      one zero s = unfold held in s
-      one (suc h) s = unfold held in Each.more (length-tab W 0 (τ k)) s
-
-  -- room for so many records is room for their bytes
-  pub turns-room : (e P W from : ℕ) (d : List ℕ) → from + length (turns W τ H N 0) * (W + 4) ≤ length d → from + length (bytes e P (turns W τ H N 0)) ≤ length d
-  turns-room e P W from d l = omega (arith, bytes-size e P W (turns-width W N 0))

@@ -13,13 +13,16 @@ use Rattle.turns.proofs.fill_holds.Statement.{statement}
 use Rattle.turns.proofs.fill_holds.Tie as tie
 
 abbrev Inv-loop : tie.InvT-loop
-Inv-loop rule way n cells unit holds₀ k₀ holds k = (k ≤ n) × (length holds₀ ≡ n) × (length holds ≡ length holds₀) × (holds ≡ laid holds₀ 0 (take k (tab n 0 (holdsBy rule way n cells unit))))
+Inv-loop rule way n cells unit holds₀ k₀ holds k =
+    (k ≤ n) × (length holds₀ ≡ n) × (length holds ≡ length holds₀) × (holds ≡ laid holds₀ 0 (take k (tab n 0 (holdsBy rule way n cells unit))))
 
 abbrev μ-loop : tie.MeasureT-loop
 μ-loop rule way n cells unit holds₀ k₀ holds k = n - k
 
 loop-holds : tie.Need-loop-holds Inv-loop μ-loop
-loop-holds c = let a = c .before .before .args in (omega arith, c .before .before .pre .1, refl, copy-none (a .holds .now) 0 (tab (a .n) 0 (holdsBy (a .rule) (a .way) (a .n) (a .cells .now) (a .unit))))
+loop-holds c =
+    let a = c .before .before .args in
+    (omega arith, c .before .before .pre .1, refl, copy-none (a .holds .now) 0 (tab (a .n) 0 (holdsBy (a .rule) (a .way) (a .n) (a .cells .now) (a .unit))))
 
 hold-of-requires : tie.Need-hold-of-requires Inv-loop μ-loop
 hold-of-requires c κs = search needs

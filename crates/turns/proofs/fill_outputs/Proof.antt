@@ -13,7 +13,8 @@ use Rattle.turns.proofs.fill_outputs.Statement.{statement}
 use Rattle.turns.proofs.fill_outputs.Tie as tie
 
 abbrev Inv-loop : tie.InvT-loop
-Inv-loop way n k out₀ i₀ i-end out i = (i ≤ length out₀) × (i-end ≡ length out₀) × (length out ≡ length out₀) × (out ≡ laid out₀ 0 (take i (tab (length out₀) 0 (turn way n k))))
+Inv-loop way n k out₀ i₀ i-end out i =
+    (i ≤ length out₀) × (i-end ≡ length out₀) × (length out ≡ length out₀) × (out ≡ laid out₀ 0 (take i (tab (length out₀) 0 (turn way n k))))
 
 abbrev μ-loop : tie.MeasureT-loop
 μ-loop way n k out₀ i₀ i-end out i = length out₀ - i

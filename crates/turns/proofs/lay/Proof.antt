@@ -24,15 +24,19 @@ lay-all-requires : tie.Need-lay-all-requires
 lay-all-requires c κs =
     let a = c .before .before .before .before .args in
     let p = c .before .before .before .before .pre in
-    (p .0, omega (arith, p .1, wide _ (p .2)), subst (λ (W : ℕ). a .from + length (bytes (a .edition) (a .n) (second (a .way) W (a .n) (a .holds .now))) ≤ length (a .plan .now)) (sym (wide _ (p .2))) (turns-room (turn (a .way) (a .n)) (λ k. getD (a .holds .now) k 0) (a .n) (a .edition) (a .n) (a .width) (a .from) (a .plan .now) (p .3)))
+    let w = wide _ (p .2) in
+    let fits = turns-room (turn (a .way) (a .n)) (λ k. getD (a .holds .now) k 0) (a .n) (a .edition) (a .n) (a .width) (a .from) (a .plan .now) (p .3) in
+    (p .0, omega (arith, p .1, w), subst (λ (W : ℕ). a .from + length (bytes (a .edition) (a .n) (second (a .way) W (a .n) (a .holds .now))) ≤ length (a .plan .now)) (sym w) fits)
 
 same-length : tie.Need-same-length
 same-length c = search needs
 
 returns : tie.Need-returns
 returns c =
-    let a = c .before .before .before .before .before .before .before .before .args in
-    c .before .before .before .lay-all .ensures ∙ ap (λ (W : ℕ). laid (a .plan .now) (a .from) (bytes (a .edition) (a .n) (second (a .way) W (a .n) (a .holds .now)))) (wide _ (c .before .before .before .before .before .before .before .before .pre .2))
+    let s = c .before .before .before .before .before .before .before .before in
+    let a = s .args in
+    c .before .before .before .lay-all .ensures
+    ∙ ap (λ (W : ℕ). laid (a .plan .now) (a .from) (bytes (a .edition) (a .n) (second (a .way) W (a .n) (a .holds .now)))) (wide _ (s .pre .2))
 
 pub lay-spec : {M : Type 1} → statement M
 lay-spec =

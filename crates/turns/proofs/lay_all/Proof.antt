@@ -10,13 +10,14 @@ use Rattle.turns.proofs.lay_all.Statement.{statement}
 use Rattle.turns.proofs.lay_all.Tie as tie
 
 abbrev Inv-loop : tie.InvT-loop
-Inv-loop way n holds edition plan₀ from out₀ at₀ k₀ plan out at k = (k ≤ n) × (length out ≡ length out₀) × Laying (turn way n) (λ x. getD holds x 0) n edition n (length out₀) plan₀ from plan at k
+Inv-loop way n holds edition plan₀ from out₀ at₀ k₀ plan out at k =
+    (k ≤ n) × (length out ≡ length out₀) × Laying (turn way n) (λ x. getD holds x 0) n edition n (length out₀) plan₀ from plan at k
 
 abbrev μ-loop : tie.MeasureT-loop
 μ-loop way n holds edition plan₀ from out₀ at₀ k₀ plan out at k = n - k
 
 loop-holds : tie.Need-loop-holds Inv-loop μ-loop
-loop-holds c = (omega arith, refl, laying-none _ _ _ _ _ _ _ _ (c .before .before .before .pre .2))
+loop-holds c = (omega arith, refl, laying-none _ _ _ (c .before .before .before .pre .2))
 
 mul-lay-one : tie.Need-mul-lay-one Inv-loop μ-loop
 mul-lay-one c = search needs
@@ -29,7 +30,7 @@ lay-one-requires c κs =
     let p = c .before .before .before .before .before .before .before .before .pre .0 in
     let l = c .before .before .before .before .loop in
     let t = c .before .before .before .loop-test .taken in
-    (p .some, p .few, t, rw (l .inv .1) (laying-room _ _ _ _ _ _ _ _ _ _ _ (l .inv .2) t _ refl))
+    (p .some, p .few, t, rw (l .inv .1) (laying-room (l .inv .2) t refl))
 
 add-k : tie.Need-add-k Inv-loop μ-loop
 add-k c = search needs
@@ -41,7 +42,8 @@ loop-again : tie.Need-loop-again Inv-loop μ-loop
 loop-again c =
     let l = c .before .before .before .before .before .before .before .before .before .loop in
     let o = c .before .before .before .before .lay-one in
-    (omega arith, o .kept .1 .1 .1 .1 .1 .1 .1 .0 ∙ l .inv .1, laying-next _ _ _ _ _ _ _ _ _ _ _ (l .inv .2) (c .before .before .before .before .before .before .before .before .loop-test .taken) _ refl _ _ (rw (l .inv .1) at (o .ensures .0)) (rw (l .inv .1) at (o .ensures .1)))
+    let t = c .before .before .before .before .before .before .before .before .loop-test .taken in
+    (omega arith, o .kept .1 .1 .1 .1 .1 .1 .1 .0 ∙ l .inv .1, laying-next (l .inv .2) t refl (rw (l .inv .1) at (o .ensures .0)) (rw (l .inv .1) at (o .ensures .1)))
 
 same-length : tie.Need-same-length Inv-loop μ-loop
 same-length c = c .before .loop .inv .2 .size
@@ -50,7 +52,7 @@ same-length-2 : tie.Need-same-length-2 Inv-loop μ-loop
 same-length-2 c = c .before .loop .inv .1
 
 returns : tie.Need-returns Inv-loop μ-loop
-returns c = laying-all _ _ _ _ _ _ _ _ _ _ _ (c .before .loop .inv .2) (omega arith)
+returns c = laying-all (c .before .loop .inv .2) (omega arith)
 
 pub lay-all-spec : {M : Type 1} → statement M
 lay-all-spec =

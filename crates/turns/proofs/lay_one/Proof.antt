@@ -23,19 +23,20 @@ fill-outputs-requires c κs = search needs
 
 put-record-requires : tie.Need-put-record-requires
 put-record-requires c κs =
-    let a = c .before .before .before .before .before .before .before .before .before .args in
-    let p = c .before .before .before .before .before .before .before .before .before .pre in
-    let l : 0 < a .hold = omega (arith, c .before .before .before .before .before .before .if1 .left) in
-    (omega (arith, p .1), omega (arith, p .3, held-size (a .edition) (a .n) (length (a .out .now)) (a .hold) (turn (a .way) (a .n) (a .k)) l, c .before .before .before .before .fill-outputs .kept .1 .1 .1 .0))
+    let s = c .before .before .before .before .before .before .before .before .before in
+    let a = s .args in
+    let size = held-size (a .edition) (a .n) (length (a .out .now)) (a .hold) (turn (a .way) (a .n) (a .k)) (omega (arith, c .before .before .before .before .before .before .if1 .left)) in
+    (omega (arith, s .pre .1), omega (arith, s .pre .3, size, c .before .before .before .before .fill-outputs .kept .1 .1 .1 .0))
 
 add-result : tie.Need-add-result
 add-result c = search needs
 
 add-result-2 : tie.Need-add-result-2
 add-result-2 c =
-    let a = c .before .before .before .before .before .before .before .before .before .before .before .before .args in
-    let l : 0 < a .hold = omega (arith, c .before .before .before .before .before .before .before .before .before .if1 .left) in
-    omega (arith, c .before .before .before .before .before .before .before .before .before .before .before .before .pre .3, held-size (a .edition) (a .n) (length (a .out .now)) (a .hold) (turn (a .way) (a .n) (a .k)) l, c .before .before .before .before .before .before .before .fill-outputs .kept .1 .1 .1 .0)
+    let s = c .before .before .before .before .before .before .before .before .before .before .before .before in
+    let a = s .args in
+    let size = held-size (a .edition) (a .n) (length (a .out .now)) (a .hold) (turn (a .way) (a .n) (a .k)) (omega (arith, c .before .before .before .before .before .before .before .before .before .if1 .left)) in
+    omega (arith, s .pre .3, size, c .before .before .before .before .before .before .before .fill-outputs .kept .1 .1 .1 .0)
 
 same-length : tie.Need-same-length
 same-length c = search needs
@@ -47,9 +48,11 @@ returns-2 : tie.Need-returns-2
 returns-2 c =
     let a = c .before .before .before .before .before .before .before .before .before .before .before .before .args in
     let l : 0 < a .hold = omega (arith, c .before .before .before .before .before .before .before .before .before .if1 .left) in
+    let filled = c .before .before .before .before .before .before .before .fill-outputs in
     let W = length (a .out .now) in (
-      omega (arith, held-size (a .edition) (a .n) W (a .hold) (turn (a .way) (a .n) (a .k)) l, c .before .before .before .before .before .before .before .fill-outputs .kept .1 .1 .1 .0),
-      c .before .before .put-record .ensures ∙ ap (λ (o : List ℕ). laid (a .plan .now) (a .at) (encode (a .edition) (a .hold) (a .n) o)) (c .before .before .before .before .before .before .before .fill-outputs .ensures)
+      omega (arith, held-size (a .edition) (a .n) W (a .hold) (turn (a .way) (a .n) (a .k)) l, filled .kept .1 .1 .1 .0),
+      c .before .before .put-record .ensures
+          ∙ ap (λ (o : List ℕ). laid (a .plan .now) (a .at) (encode (a .edition) (a .hold) (a .n) o)) (filled .ensures)
           ∙ ap (laid (a .plan .now) (a .at)) (sym (held-bytes (a .edition) (a .n) W (a .hold) (turn (a .way) (a .n) (a .k)) l)),
     )
 

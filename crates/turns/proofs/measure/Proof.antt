@@ -27,13 +27,17 @@ records-of-requires : tie.Need-records-of-requires Inv-loop μ-loop
 records-of-requires c κs = search needs
 
 add-records : tie.Need-add-records Inv-loop μ-loop
-add-records c = omega (arith, c .before .before .before .before .before .pre .0, c .before .before .before .loop .inv .1 (λ _ i. i) .few, one-at-most _ _ (c .records-of .ensures))
+add-records c =
+    let l = c .before .before .before .loop in
+    omega (arith, c .before .before .before .before .before .pre .0, l .inv .1 (λ _ i. i) .few, one-at-most _ _ (c .records-of .ensures))
 
 cast-total : tie.Need-cast-total Inv-loop μ-loop
 cast-total c = omega (arith, c .before .shared-slice-known2 .given (c .before .before .before .loop .k))
 
 add-total : tie.Need-add-total Inv-loop μ-loop
-add-total c = let l = c .before .before .before .loop in omega (arith, c .before .before .before .before .before .pre .0, l .inv .1 (λ _ i. i) .small, c .before .shared-slice-known2 .given (l .k))
+add-total c =
+    let l = c .before .before .before .loop in
+    omega (arith, c .before .before .before .before .before .pre .0, l .inv .1 (λ _ i. i) .small, c .before .shared-slice-known2 .given (l .k))
 
 add-k : tie.Need-add-k Inv-loop μ-loop
 add-k c = search needs
@@ -44,14 +48,19 @@ loop-less c = search needs
 loop-again : tie.Need-loop-again Inv-loop μ-loop
 loop-again c =
     let l = c .before .before .before .loop in
-    (omega arith, λ τ. counted-next τ _ _ _ _ _ (l .inv .1 τ) _ _ (omega arith) refl (omega (arith, c .before .shared-slice-known2 .given (l .k))) (c .records-of .ensures))
+    (omega arith, λ τ. counted-next (l .inv .1 τ) (omega arith) refl (omega (arith, c .before .shared-slice-known2 .given (l .k))) (c .records-of .ensures))
 
 returns : tie.Need-returns Inv-loop μ-loop
 returns c =
     let l = c .before .loop in
     let q = l .inv .1 (λ _ i. i) in
     let done : c .before .before .before .args .n ≤ l .k = omega arith in
-    record { few = omega (arith, q .few); small = omega (arith, q .small); count = λ W τ. counted-all τ _ _ _ _ _ (l .inv .1 τ) done W .0; held = λ W τ. counted-all τ _ _ _ _ _ (l .inv .1 τ) done W .1 }
+    record {
+      few = omega (arith, q .few);
+      small = omega (arith, q .small);
+      count = λ W τ. counted-all (l .inv .1 τ) done W .0;
+      held = λ W τ. counted-all (l .inv .1 τ) done W .1;
+    }
 
 pub measure-spec : {M : Type 1} → statement M
 measure-spec =

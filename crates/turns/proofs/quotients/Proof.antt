@@ -19,7 +19,9 @@ abbrev μ-loop : tie.MeasureT-loop
 μ-loop cells work₀ unit k₀ k-end work k = length cells - k
 
 loop-holds : tie.Need-loop-holds Inv-loop μ-loop
-loop-holds c = let a = c .before .before .args in (omega arith, refl, c .before .before .pre .0, refl, copy-none (a .work .now) 0 (divide (a .unit) (a .cells .now)))
+loop-holds c =
+    let a = c .before .before .args in
+    (omega arith, refl, c .before .before .pre .0, refl, copy-none (a .work .now) 0 (divide (a .unit) (a .cells .now)))
 
 mul-quotient : tie.Need-mul-quotient Inv-loop μ-loop
 mul-quotient c = search needs
