@@ -63,7 +63,9 @@ add-t19 c =
     let fits = n .needed .ensures .1 (s .args .width) (asked v .few) (v .narrow) in
     let m = n .before .before .measure .ensures in
     let l = n .before .before .before .longest-line .ensures in
-    omega (arith, first-few v m (s .args .edition) _ fits (c .before .before .before .before .before .before .before .before .if1 .left) l (n .needed .ensures .0) (c .before .before .before .before .before .lay-parts .ensures .0), small v l, m .few, holding v .few)
+    let left = c .before .before .before .before .before .before .before .before .if1 .left in
+    let few = first-few v m (s .args .edition) (s .args .plan .now) fits left l (n .needed .ensures .0) (c .before .before .before .before .before .lay-parts .ensures .0) in
+    omega (arith, few, small v l, m .few, holding v .few)
 
 empty-slots-requires : tie.Need-empty-slots-requires
 empty-slots-requires c κs =
