@@ -5,16 +5,19 @@ use Prim.Native.Nat.{ℕ, _+_, _*_, _≤_}
 use native.Mathlib.Omega.{arith}
 use lib.ListN.{length}
 use Rattle.switch.specs.Demand.{cell, longest}
+use Rattle.switch.specs.Sound.{Each, OfWidth}
+use Rattle.switch.proofs.Sound.{each-width}
 use Rattle.rules.specs.Exact.{exactPlan}
 use Rattle.rules.specs.Doubled.{stretch}
-use Rattle.rules.proofs.Exact.{exact-peels, exact-records}
-use Rattle.records.specs.Bytes.{bytes, laid, Each, OfWidth}
+use Rattle.rules.proofs.Exact.{exact-records}
+use Rattle.rules.proofs.Sound.{exact-sound}
+use Rattle.records.specs.Bytes.{bytes, laid}
 use Rattle.peel.specs.Standing.{Cells}
 use Rattle.exact.specs.Laying.{Place}
 use Rattle.turns.specs.declared.Turning.the-variants.{Forward}
 use Rattle.turns.specs.Second.{second, parts, Divided}
 use Rattle.turns.proofs.Divided.{asked, holding, sized, small}
-use Rattle.turns.proofs.Both.{peels-width, first-room, second-room, second-laid}
+use Rattle.turns.proofs.Both.{first-room, second-room, second-laid}
 
 pub quotient-cells : {W N T u : ℕ} {d q : List ℕ} → Divided W N T u d q → {S : ℕ} → S ≡ longest N (cell N q) → Cells N S q
 quotient-cells v longest-is = record {
@@ -40,7 +43,7 @@ module _ (W N S u : ℕ) (q H : List ℕ) (c : Cells N S q) (plan : List ℕ) (p
   -- the first part is laid, and r is how many records it has
   module _ (e : ℕ) {plan₁ : List ℕ} (put : plan₁ ≡ laid plan 0 (bytes e N (map (stretch u) (exactPlan W N q)))) {r : ℕ} (count : r ≡ length (exactPlan W N q)) where
     widths : Each (OfWidth W) (exactPlan W N q)
-    widths = peels-width (exact-peels W N (c .some) (p .wide) q (c .room))
+    widths = each-width W N (exact-sound W N (p .wide) (c .some) q (c .room))
 
     pub behind-room : r * (W + 4) + length (second Forward W N H) * (W + 4) ≤ length plan₁
     behind-room = second-room Forward W N u (exactPlan W N q) H plan room widths e put count

@@ -12,10 +12,11 @@ use Rattle.switch.specs.Empty.{emptySlots}
 use Rattle.switch.specs.Demand.{cell, longest}
 use Rattle.switch.specs.Plan.{Record, total}
 use Rattle.switch.proofs.Check.{some-ports}
+use Rattle.switch.proofs.Sound.{each-width}
 use Rattle.demand.proofs.Check.{fine}
 use Rattle.rules.specs.Exact.{tab, exactPlan}
 use Rattle.rules.specs.Doubled.{stretch}
-use Rattle.rules.proofs.Exact.{exact-peels}
+use Rattle.rules.proofs.Sound.{exact-sound}
 use Rattle.records.specs.Bytes.{planFrom, whole, bytes, laid}
 use Rattle.planner.specs.Planned.{Planned, planned, writes}
 use Rattle.planner.proofs.Planned.{planned-done, written-bytes}
@@ -23,7 +24,6 @@ use Rattle.turns.specs.declared.Rule.the-variants.{Tight}
 use Rattle.turns.specs.declared.Turning.the-variants.{Backward}
 use Rattle.turns.specs.Second.{holdsBy, second, Divided}
 use Rattle.turns.proofs.Divided.{asked, size, sized, within, within-ports, small, first-total, first-records, rule-parts}
-use Rattle.turns.proofs.Both.{peels-width}
 use Rattle.grating.specs.Grating.{gratingPlan}
 use Rattle.grating.specs.Parts.{madeParts, First}
 use Rattle.grating.proofs.First.{laid-reads}
@@ -62,7 +62,7 @@ module _ {W N T u : ℕ} {d q : List ℕ} (v : Divided W N T u d q) where
       reads : planFrom W after 0 (c .records) ≡ plan
       reads =
           ap₂ (λ (l : List ℕ) (n : ℕ). planFrom W l 0 n) left records-are
-          ∙ laid-reads e N W (peels-width (exact-peels W N (asked v .some) (asked v .few) q (sized v .room))) buf
+          ∙ laid-reads e N W (each-width W N (exact-sound W N (asked v .few) (asked v .some) q (sized v .room))) buf
 
       pub first-part : length after ≡ length buf → First W u after (c .records) (c .total)
       first-part same = record {

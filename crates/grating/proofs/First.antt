@@ -9,9 +9,10 @@ use native.Mathlib.Numerals.{add-one}
 use lib.ListN.{length, take, drop, length-drop}
 use lib.Seq.{take-all}
 use Rattle.switch.specs.Plan.{Record, total}
+use Rattle.switch.specs.Sound.{Each, none, more, OfWidth}
 use Rattle.rules.specs.Doubled.{stretch}
 use Rattle.records.specs.Record.{hold, outputs, decoded}
-use Rattle.records.specs.Bytes.{encode, recordAt, whole, planFrom, bytes, laid, Each, none, more, OfWidth}
+use Rattle.records.specs.Bytes.{encode, recordAt, whole, planFrom, bytes, laid}
 use Rattle.records.proofs.Bytes.{encode-size}
 use Rattle.records.proofs.Part.{whole-fits, record-fits, record-size}
 use Rattle.records.proofs.Round.{decoded-encode, first-record, next-plan}

@@ -9,9 +9,10 @@ use Rattle.switch.specs.Answer.{codeOf, countsOf, planCounts, demandCounts}
 use Rattle.switch.specs.Demand.{cell, longest}
 use Rattle.switch.specs.Plan.{Record, total}
 use Rattle.switch.specs.Empty.{emptySlots}
+use Rattle.switch.specs.Sound.{Each}
 use Rattle.demand.specs.Check.{Asked}
 use Rattle.rules.specs.Doubled.{Doubled}
-use Rattle.records.specs.Bytes.{whole, planOf, Each}
+use Rattle.records.specs.Bytes.{whole, planOf}
 use Rattle.grating.specs.Grating.{gratingPlan, firstPart, secondPart}
 use Rattle.promises.specs.Spread.{allowed, Spread}
 use Rattle.promises.specs.Calls.{CheckPlan, GratingReport}

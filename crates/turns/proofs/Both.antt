@@ -6,23 +6,18 @@ use native.Mathlib.Omega.{arith}
 use native.Mathlib.Nat.{div-mul-le-self, mul-le-mul-right}
 use lib.ListN.{length, getD, length-map, length-append}
 use Rattle.switch.specs.Plan.{Record, total}
-use Rattle.rules.specs.Peel as rule
-use Rattle.rules.specs.Peel.{Peels}
+use Rattle.switch.specs.Sound.{Each, none, more, OfWidth}
+use Rattle.switch.proofs.Append.{total-append}
 use Rattle.rules.specs.Doubled.{stretch}
-use Rattle.rules.proofs.Doubled.{total-append, total-stretch}
-use Rattle.records.specs.Bytes.{whole, bytes, laid, Each, none, more, OfWidth}
+use Rattle.rules.proofs.Doubled.{total-stretch}
+use Rattle.records.specs.Bytes.{whole, bytes, laid}
 use Rattle.records.proofs.Bytes.{bytes-append, bytes-size}
 use Rattle.records.proofs.Parts.{part-length, part-laid}
 use Rattle.turns.specs.declared.Turning.{Turning}
 use Rattle.turns.specs.Second.{turn, second}
 use Rattle.turns.proofs.Turns.{turns-width}
 
--- a plan by the rules has W outputs in each record
-pub peels-width : {W N : ℕ} {M : ℕ → ℕ → ℕ} {p : List Record} → Peels W N M p → Each (OfWidth W) p
-peels-width (rule.none c) = none
-peels-width (rule.more f t l s) = more (t .size) (peels-width s)
-
--- however long it is held
+-- a record has as many outputs, however long it is held
 stretch-width : {W : ℕ} (u : ℕ) {p : List Record} → Each (OfWidth W) p → Each (OfWidth W) (map (stretch u) p)
 unfolding stretch
 stretch-width u none = none
