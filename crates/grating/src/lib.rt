@@ -79,7 +79,15 @@ fn plan_fine(
     );
     let mut first = [0u8; FIRST];
     let made = numbers_of(exact_plan(n, work, &mut first));
-    lay_parts(n, unit, &first, made.counts.records, made.counts.total, holds, plan)
+    lay_parts(
+        n,
+        unit,
+        &first,
+        made.counts.records,
+        made.counts.total,
+        holds,
+        plan,
+    )
 }
 
 // Both parts, once it is known that there is room for both: so many records at the start of `first`, with the sum of their holds, and the
