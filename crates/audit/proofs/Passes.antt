@@ -17,6 +17,7 @@ use Rattle.switch.specs.Check.{portsFine}
 use Rattle.switch.specs.Demand.{cell, longest}
 use Rattle.switch.specs.Plan.{Record, Plan, grant, total, Covers}
 use Rattle.switch.specs.Empty.{emptySlots}
+use Rattle.switch.specs.Result.{byOutcome}
 use Rattle.switch.proofs.Plan.{least-total}
 use Rattle.demand.specs.declared.Checked.{Checked}
 use Rattle.demand.specs.declared.Checked.the-variants.{Fine, Faulty}
@@ -29,7 +30,7 @@ use Rattle.records.proofs.Round.{planOf-bytes}
 use Rattle.switch.proofs.Sound.{each-plan, each-width}
 use Rattle.switch.specs.declared.Edition.{Edition}
 use Rattle.switch.specs.Editions.{Bounded}
-use Rattle.plans.specs.Read.{opening, malformed, checkingIn, checkingOf, checking}
+use Rattle.plans.specs.Read.{opening, malformed, checkingIn, checking}
 use Rattle.plans.proofs.Plans.{checked, bytes-pass}
 use Rattle.switch.proofs.Demand.{place-in}
 use Rattle.audit.specs.Check.{uncovered, Short, covering, checkPlan}
@@ -78,7 +79,7 @@ module _ (E : Edition) (N : ℕ) (plan : List ℕ) where
       in-records k c true = omega arith
       in-records k c false = tt
 
-      by : (o : Outcome) → Early o → Early (checkingOf o E N plan)
+      by : (o : Outcome) → Early o → Early (byOutcome o Refused (λ c. checkingIn (c .records) E N plan))
       by (Done c) e =
           let m = c .records in
           let k = malformed (E .width) (E .byte) N plan m 0 in

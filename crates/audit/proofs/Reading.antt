@@ -8,18 +8,19 @@ use Rattle.switch.specs.declared.Outcome.the-variants.{Done, Refused}
 use Rattle.switch.specs.declared.Refusal.{Refusal}
 use Rattle.switch.specs.declared.Refusal.the-variants.{Malformed}
 use Rattle.switch.specs.Plan.{Record, total}
+use Rattle.switch.specs.Result.{byOutcome}
 use Rattle.switch.specs.declared.Edition.{Edition}
 use Rattle.records.specs.Bytes.{whole, planOf}
 use Rattle.switch.specs.Editions.{Bounded}
 use Rattle.plans.specs.Read.{opening, checkingIn, checking}
 use Rattle.plans.proofs.Read.{opened, opened-records, check-refused, check-opened, check-malformed, check-done}
-use Rattle.audit.specs.Reading.{firstMalformed, afterChecking, reading, Readable}
+use Rattle.audit.specs.Reading.{firstMalformed, reading, Readable}
 use native.Mathlib.Omega.{arith}
 
 module _ (E : Edition) (N : ℕ) (plan : List ℕ) (go : List Record → Outcome) where
-  pub after-checking : {o : Outcome} → o ≡ checking E N plan → afterChecking o (go (planOf (E .width) plan)) ≡ reading E N plan go
+  pub after-checking : {o : Outcome} → o ≡ checking E N plan → byOutcome o Refused (λ c. go (planOf (E .width) plan)) ≡ reading E N plan go
   unfolding reading
-  after-checking e = ap (λ (o : Outcome). afterChecking o (go (planOf (E .width) plan))) e
+  after-checking e = ap (λ (o : Outcome). byOutcome o Refused (λ c. go (planOf (E .width) plan))) e
 
   -- codes 1, 9 and 10
   pub reading-refused : {r : Refusal} → Refused r ≡ opening E N plan → Refused r ≡ reading E N plan go

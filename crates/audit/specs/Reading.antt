@@ -3,8 +3,9 @@ use mathlib.Core.Path.{_≡_}
 use mathlib.Core.List.{List}
 use Prim.Native.Nat.{ℕ, _≤_}
 use Rattle.switch.specs.declared.Outcome.{Outcome}
-use Rattle.switch.specs.declared.Outcome.the-variants.{Done, Refused}
+use Rattle.switch.specs.declared.Outcome.the-variants.{Refused}
 use Rattle.switch.specs.Plan.{Record, total}
+use Rattle.switch.specs.Result.{byOutcome}
 use Rattle.switch.specs.declared.Edition.{Edition}
 use Rattle.records.specs.Bytes.{whole, planFrom, planOf}
 use Rattle.switch.specs.Editions.{Bounded}
@@ -14,14 +15,9 @@ use Rattle.plans.specs.Read.{malformed, checking}
 abbrev pub firstMalformed : Edition → ℕ → List ℕ → ℕ
 firstMalformed E N plan = malformed (E .width) (E .byte) N plan (whole (E .width) plan) 0
 
--- a plan that is refused by itself, and else what is done with it
-abbrev pub afterChecking : Outcome → Outcome → Outcome
-afterChecking (Done c) o = o
-afterChecking (Refused r) o = Refused r
-
 -- refusals 1, 9, 10 and 11, and else what is done with the plan's records
 unfoldable pub reading : Edition → ℕ → List ℕ → (List Record → Outcome) → Outcome
-reading E N plan go = afterChecking (checking E N plan) (go (planOf (E .width) plan))
+reading E N plan go = byOutcome (checking E N plan) Refused (λ c. go (planOf (E .width) plan))
 
 -- a plan that opening does not refuse, of m records
 pub record Readable (E : Edition) (N : ℕ) (plan : List ℕ) (m : ℕ) : Type 0 where

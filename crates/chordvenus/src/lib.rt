@@ -131,7 +131,7 @@ pub extern "C" fn cv_grating_doubled(n: usize, cells: &[u32], plan: &mut [u8]) -
 // What the records of a plan do on the grating fabric.
 #[no_mangle]
 pub extern "C" fn cv_grating_report(n: usize, plan: &[u8], report: &mut [u8]) -> CvAnswer
-    ensures { λ r. ⌜ (r ≡ flat (reported firstEdition n (now (plan .entry)) (now (report .entry)) .answer)) × (now (report .exit) ≡ reported firstEdition n (now (plan .entry)) (now (report .entry)) .bytes) ⌝ }
+    ensures { λ r. ⌜ (r ≡ flat (reported firstEdition n (now (plan .entry)) (now (report .entry)) .outcome)) × (now (report .exit) ≡ reported firstEdition n (now (plan .entry)) (now (report .entry)) .bytes) ⌝ }
 {
     flatten(wavelengths::grating_report(n, plan, report))
 }
@@ -163,7 +163,7 @@ pub extern "C" fn cv_join(n: usize, plan: &[u8], joined: &mut [u8]) -> CvAnswer
 // One record written at the start of a lent buffer.
 #[no_mangle]
 pub extern "C" fn cv_write(hold: u16, n: usize, outputs: &[u8; 64], plan: &mut [u8]) -> CvAnswer
-    ensures { λ r. ⌜ (r ≡ flat (written hold n (now (outputs .entry)) (now (plan .entry)) .answer)) × (now (plan .exit) ≡ written hold n (now (outputs .entry)) (now (plan .entry)) .bytes) ⌝ }
+    ensures { λ r. ⌜ (r ≡ flat (written hold n (now (outputs .entry)) (now (plan .entry)) .outcome)) × (now (plan .exit) ≡ written hold n (now (outputs .entry)) (now (plan .entry)) .bytes) ⌝ }
 {
     flatten(records::write_record(hold, n, outputs, plan))
 }

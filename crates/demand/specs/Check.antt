@@ -1,6 +1,5 @@
 -- The checks that every call on a demand shares, in document 01's order. Definitions only.
 use mathlib.Core.Path.{_≡_}
-use mathlib.Core.Bool.{cond}
 use mathlib.Core.List.{List}
 use Prim.Native.Nat.{ℕ, _*_, _<_, _≤_}
 use lib.ListN.{length}
@@ -8,6 +7,7 @@ use lib.Dec.{leb, eqb}
 use Rattle.switch.specs.declared.Refusal.the-variants.{Ports, Cells, Line}
 use Rattle.switch.specs.Demand.{cell, longest}
 use Rattle.switch.specs.Check.{portsFine}
+use Rattle.switch.specs.Result.{unless}
 use Rattle.demand.specs.declared.Checked.{Checked}
 use Rattle.demand.specs.declared.Checked.the-variants.{Fine, Faulty}
 use Rattle.demand.specs.Lines.{lineOver}
@@ -15,11 +15,9 @@ use Rattle.demand.specs.Lines.{lineOver}
 -- code 1: N is no number of ports; 2: cells lent are not N²; 3: a line sums over 65,535
 unfoldable pub checkDemand : ℕ → ℕ → List ℕ → Checked
 checkDemand most N d =
-    cond (portsFine most N)
-    (cond (eqb (length d) (N * N))
-    (cond (leb (longest N (cell N d)) 65535) (Fine (longest N (cell N d))) (Faulty (Line (lineOver N d))))
-    (Faulty (Cells (N * N))))
-    (Faulty Ports)
+    unless (portsFine most N) (Faulty Ports)
+    (unless (eqb (length d) (N * N)) (Faulty (Cells (N * N)))
+    (unless (leb (longest N (cell N d)) 65535) (Faulty (Line (lineOver N d))) (Fine (longest N (cell N d)))))
 
 -- a demand that no check refuses, and its longest line
 pub record Asked (most N T : ℕ) (d : List ℕ) : Type 0 where

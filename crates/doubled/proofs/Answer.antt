@@ -24,7 +24,8 @@ use Rattle.rules.proofs.Empty.{parts-full}
 use Rattle.records.specs.Bytes.{whole, bytes, laid}
 use Rattle.records.proofs.Laid.{laid-none}
 use Rattle.records.proofs.Bytes.{bytes-none}
-use Rattle.planner.specs.Planned.{Planned, planned}
+use Rattle.switch.specs.Result.{Result}
+use Rattle.planner.specs.Planned.{planned}
 use Rattle.planner.proofs.Planned.{planned-short, planned-done, written-outcome, written-bytes}
 use Rattle.turns.specs.declared.Rule.{Rule}
 use Rattle.turns.specs.declared.Turning.the-variants.{Forward}
@@ -42,8 +43,8 @@ laid-answer : (W e N T r t x : ℕ) (d : List ℕ) (p : List Record) (plan plan'
     → (Done (demandCounts r T t x) ≡ planned W e N d p plan .outcome) × (plan' ≡ planned W e N d p plan .bytes)
 laid-answer W e N T r t x d p plan plan' fine fits a b f c =
     let s = sym (planned-done W e N d p plan T fine fits) in (
-      written-outcome e N T (emptySlots N (cell N d) p) r t x p plan a b f ∙ ap (λ (y : Planned). y .outcome) s,
-      c ∙ written-bytes e N T (emptySlots N (cell N d) p) p plan ∙ ap (λ (y : Planned). y .bytes) s,
+      written-outcome e N T (emptySlots N (cell N d) p) r t x p plan a b f ∙ ap (λ (y : Result). y .outcome) s,
+      c ∙ written-bytes e N T (emptySlots N (cell N d) p) p plan ∙ ap (λ (y : Result). y .bytes) s,
     )
 
 -- T is 0
@@ -68,7 +69,7 @@ module _ {W N T u : ℕ} {d q H : List ℕ} (v : Divided W N T u d q) {turns sum
     short-answer l =
         let n : need ≡ length (parts Forward W N u q H) = omega (arith, s .short l, records) in
         let r = sym (planned-short W e N d (parts Forward W N u q H) plan T (v .fine) (omega (arith, n))) in
-        (ap (λ (k : ℕ). Refused (Room k)) n ∙ ap (λ (x : Planned). x .outcome) r, ap (λ (x : Planned). x .bytes) r)
+        (ap (λ (k : ℕ). Refused (Room k)) n ∙ ap (λ (x : Result). x .outcome) r, ap (λ (x : Result). x .bytes) r)
 
     -- there is room, and the quotients are as they were
     module _ (l : need ≤ whole W plan) {S : ℕ} (longest-is : S ≡ longest N (cell N q)) {q' : List ℕ} (same : q' ≡ q) where

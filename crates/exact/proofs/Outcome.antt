@@ -21,7 +21,8 @@ use Rattle.rules.specs.Doubled.{stretch}
 use Rattle.rules.proofs.Exact.{exact-total}
 use Rattle.rules.proofs.Empty.{exact-empty-slots}
 use Rattle.records.specs.Bytes.{bytes, laid}
-use Rattle.planner.specs.Planned.{Planned, planned, shortage}
+use Rattle.switch.specs.Result.{Result}
+use Rattle.planner.specs.Planned.{planned, shortage}
 use Rattle.planner.proofs.Planned.{planned-short, planned-done, written-outcome, written-bytes, shortage-none, shortage-some}
 use Rattle.exact.proofs.Fitting.{copied-plan, stretch-once}
 
@@ -34,8 +35,8 @@ module _ (W e N T : ℕ) (d buf : List ℕ) (narrow : W ≤ 128) (fine : checkDe
   pub asked : Asked W N T d
   asked = fine-asked W N T d fine
 
-  answers : (x : Planned) → planned W e N d (exactPlan W N d) buf ≡ x → (r : Outcome) (after : List ℕ) → r ≡ x .outcome → after ≡ x .bytes → Answers W e N d buf r after
-  answers x q r after o b = record { outcome = o ∙ ap (λ (y : Planned). y .outcome) (sym q); bytes = b ∙ ap (λ (y : Planned). y .bytes) (sym q) }
+  answers : (x : Result) → planned W e N d (exactPlan W N d) buf ≡ x → (r : Outcome) (after : List ℕ) → r ≡ x .outcome → after ≡ x .bytes → Answers W e N d buf r after
+  answers x q r after o b = record { outcome = o ∙ ap (λ (y : Result). y .outcome) (sym q); bytes = b ∙ ap (λ (y : Result). y .bytes) (sym q) }
 
   -- no line of it is over 65,535, and none over T
   pub short : Short N d

@@ -18,7 +18,8 @@ use Rattle.switch.specs.Sound.{Each, OfWidth}
 use Rattle.records.specs.Bytes.{bytes, laid, planOf}
 use Rattle.records.proofs.Bytes.{bytes-size}
 use Rattle.records.proofs.Round.{planOf-bytes}
-use Rattle.planner.specs.Planned.{Planned, planned}
+use Rattle.switch.specs.Result.{Result}
+use Rattle.planner.specs.Planned.{planned}
 use Rattle.planner.proofs.Planned.{planned-done, written-bytes}
 use Rattle.exact.proofs.Turn.{stretched-width}
 use Rattle.exact.proofs.Fitting.{stretch-once}
@@ -40,7 +41,7 @@ module _ (W e N T : ℕ) (d buf : List ℕ) (fine : checkDemand W N d ≡ Fine T
   widths = subst (Each (OfWidth W)) (stretch-once (exactPlan W N d)) (stretched-width 1 (exact-peels W N (a .some) (a .few) d (le-of-eq (sym (a .size)))))
 
   written : planned W e N d (exactPlan W N d) buf .bytes ≡ laid buf 0 (bytes e N (exactPlan W N d))
-  written = ap (λ (x : Planned). x .bytes) (planned-done W e N d (exactPlan W N d) buf T fine room) ∙ sym (written-bytes e N T (emptySlots N (cell N d) (exactPlan W N d)) (exactPlan W N d) buf)
+  written = ap (λ (x : Result). x .bytes) (planned-done W e N d (exactPlan W N d) buf T fine room) ∙ sym (written-bytes e N T (emptySlots N (cell N d) (exactPlan W N d)) (exactPlan W N d) buf)
 
   start : take (length (exactPlan W N d) * (W + 4)) (laid buf 0 (bytes e N (exactPlan W N d))) ≡ bytes e N (exactPlan W N d)
   unfolding laid

@@ -19,17 +19,17 @@ use Rattle.rules.proofs.Tight.{by-empty}
 use Rattle.records.specs.Bytes.{whole, bytes, laid}
 use Rattle.records.proofs.Laid.{laid-none}
 use Rattle.records.proofs.Bytes.{bytes-none}
-use Rattle.planner.specs.Planned.{Planned, refuses}
+use Rattle.switch.specs.Result.{Result, refuses}
 use Rattle.grating.specs.Grating.{gratingPlan, roomed, gratingPlanned}
 
 -- an outcome and a buffer that are those of the definition
-abbrev pub Both : Planned → Outcome → List ℕ → Type 0
+abbrev pub Both : Result → Outcome → List ℕ → Type 0
 Both x r after = (r ≡ x .outcome) × (after ≡ x .bytes)
 
 module _ (W e N : ℕ) (p : List Record) (buf : List ℕ) where
   -- code 5
   pub short-answer : (need : ℕ) → need ≡ length p → whole W buf < need → Both (roomed W e N p buf) (Refused (Room need)) buf
-  short-answer need n l = (ap (λ (k : ℕ). Refused (Room k)) n ∙ ap (λ (x : Planned). x .outcome) case, ap (λ (x : Planned). x .bytes) case)
+  short-answer need n l = (ap (λ (k : ℕ). Refused (Room k)) n ∙ ap (λ (x : Result). x .outcome) case, ap (λ (x : Result). x .bytes) case)
     where
       case : refuses (Room (length p)) buf ≡ roomed W e N p buf
       case = unfold roomed in rw (lt-ltb (whole W buf) (length p) (omega (arith, n)))
@@ -41,7 +41,7 @@ module _ (W e N : ℕ) (p : List Record) (buf : List ℕ) where
     done = rw (le-ltb (whole W buf) (length p) fits)
 
     pub laid-answer : (r t : ℕ) (after : List ℕ) → r ≡ length p → t ≡ total p → after ≡ laid buf 0 (bytes e N p) → Both (roomed W e N p buf) (Done (planCounts r 0 t)) after
-    laid-answer r t after a b put = ((λ i. Done (planCounts (a i) 0 (b i))) ∙ ap (λ (x : Planned). x .outcome) done, put ∙ ap (λ (x : Planned). x .bytes) done)
+    laid-answer r t after a b put = ((λ i. Done (planCounts (a i) 0 (b i))) ∙ ap (λ (x : Result). x .outcome) done, put ∙ ap (λ (x : Result). x .bytes) done)
 
 module _ (W e N : ℕ) (d buf : List ℕ) where
   -- codes 1, 2 and 3
@@ -59,7 +59,7 @@ module _ (W e N : ℕ) (d buf : List ℕ) where
       let a = laid-answer W e N (gratingPlan W N d) buf (omega (arith, ap length none)) 0 0 buf (sym (ap length none)) (unfold total in sym (ap total none))
       (sym (laid-none buf 0) ∙ ap (laid buf 0) (sym (ap (bytes e N) none ∙ bytes-none e N))) in
       let f = fine-answer 0 q in
-      (a .0 ∙ ap (λ (x : Planned). x .outcome) f, a .1 ∙ ap (λ (x : Planned). x .bytes) f)
+      (a .0 ∙ ap (λ (x : Result). x .outcome) f, a .1 ∙ ap (λ (x : Result). x .bytes) f)
     where
       none : gratingPlan W N d ≡ []
       none = unfold gratingPlan in by-empty W N (opposite N) (tight N (opposite N) d) d (sym (fine-asked W N 0 d q .longest-is))

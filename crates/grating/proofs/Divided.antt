@@ -18,7 +18,8 @@ use Rattle.rules.specs.Exact.{tab, exactPlan}
 use Rattle.rules.specs.Doubled.{stretch}
 use Rattle.rules.proofs.Sound.{exact-sound}
 use Rattle.records.specs.Bytes.{planFrom, whole, bytes, laid}
-use Rattle.planner.specs.Planned.{Planned, planned, writes}
+use Rattle.switch.specs.Result.{Result}
+use Rattle.planner.specs.Planned.{planned, writes}
 use Rattle.planner.proofs.Planned.{planned-done, written-bytes}
 use Rattle.turns.specs.declared.Rule.the-variants.{Tight}
 use Rattle.turns.specs.declared.Turning.the-variants.{Backward}
@@ -48,10 +49,10 @@ module _ {W N T u : ℕ} {d q : List ℕ} (v : Divided W N T u d q) where
         (counts-are : c ≡ countsOf o) where
       counts : c ≡ demandCounts (length plan) S (total plan) (emptySlots N (cell N q) plan)
       unfolding writes
-      counts = counts-are ∙ ap countsOf (outcome-is ∙ ap (λ (x : Planned). x .outcome) written)
+      counts = counts-are ∙ ap countsOf (outcome-is ∙ ap (λ (x : Result). x .outcome) written)
 
       left : after ≡ laid buf 0 (bytes e N plan)
-      left = bytes-are ∙ ap (λ (x : Planned). x .bytes) written ∙ sym (written-bytes e N S (emptySlots N (cell N q) plan) plan buf)
+      left = bytes-are ∙ ap (λ (x : Result). x .bytes) written ∙ sym (written-bytes e N S (emptySlots N (cell N q) plan) plan buf)
 
       records-are : c .records ≡ length plan
       records-are = ap (λ (x : Counts). x .records) counts

@@ -20,20 +20,22 @@ use Rattle.switch.specs.declared.Edition.{Edition}
 use Rattle.switch.specs.Editions.{Bounded}
 use Rattle.plans.specs.Read.{checking}
 use Rattle.plans.proofs.Plans.{Checked, checked}
-use Rattle.planner.specs.Planned.{Planned, refuses, writes, roomFor}
+use Rattle.switch.specs.Result.{refuses, afterReading, Gives}
+use Rattle.switch.proofs.Result.{gives}
+use Rattle.planner.specs.Planned.{writes, roomFor}
 use Rattle.planner.proofs.Planned.{no-room, room, written-outcome, written-bytes}
 use Rattle.settings.specs.Sums.{sums}
 use Rattle.settings.specs.Table.{entriesFrom, Listed}
-use Rattle.joining.specs.Join.{cut, joinPlan, afterReading, joining}
+use Rattle.joining.specs.Join.{cut, joinPlan, joining}
 use Rattle.joining.proofs.Joined.{join-total, join-sound}
 
 module _ (E : Edition) (N : ℕ) (plan buf : List ℕ) where
   abbrev result : List Record
   result = joinPlan (planOf (E .width) plan)
 
-  after : {o : Outcome} → o ≡ checking E N plan → afterReading o (roomFor (E .width) (E .byte) N 0 0 result buf) buf ≡ joining E N plan buf
+  after : {o : Outcome} → o ≡ checking E N plan → afterReading o buf (λ c. roomFor (E .width) (E .byte) N 0 0 result buf) ≡ joining E N plan buf
   unfolding joining
-  after e = ap (λ (o : Outcome). afterReading o (roomFor (E .width) (E .byte) N 0 0 result buf) buf) e
+  after e = ap (λ (o : Outcome). afterReading o buf (λ c. roomFor (E .width) (E .byte) N 0 0 result buf)) e
 
   -- codes 1, 9, 10 and 11
   pub joining-refused : {r : Refusal} → Refused r ≡ checking E N plan → refuses r buf ≡ joining E N plan buf
@@ -50,17 +52,9 @@ module _ (E : Edition) (N : ℕ) (plan buf : List ℕ) where
     pub joining-done : length result ≤ whole (E .width) buf → writes (E .byte) N 0 0 result buf ≡ joining E N plan buf
     joining-done l = sym (room (E .width) (E .byte) N 0 0 result buf l) ∙ joining-room
 
--- what a call answers and leaves in the buffer
-pub record Answers (E : Edition) (N : ℕ) (plan buf : List ℕ) (r : Outcome) (after : List ℕ) : Type 0 where
-  pub outcome : r ≡ joining E N plan buf .outcome
-  pub bytes : after ≡ joining E N plan buf .bytes
-
-answers : (E : Edition) (N : ℕ) (plan buf : List ℕ) (x : Planned) → x ≡ joining E N plan buf → (r : Outcome) (after : List ℕ) → r ≡ x .outcome → after ≡ x .bytes → Answers E N plan buf r after
-answers E N plan buf x q r after o b = record { outcome = o ∙ ap (λ (y : Planned). y .outcome) q; bytes = b ∙ ap (λ (y : Planned). y .bytes) q }
-
 module _ (E : Edition) (N : ℕ) (plan buf : List ℕ) where
-  pub answers-refused : {r : Refusal} → Refused r ≡ checking E N plan → Answers E N plan buf (Refused r) buf
-  answers-refused e = answers E N plan buf _ (joining-refused E N plan buf e) _ _ refl refl
+  pub answers-refused : {r : Refusal} → Refused r ≡ checking E N plan → Gives (joining E N plan buf) (Refused r) buf
+  answers-refused e = gives (sym (joining-refused E N plan buf e)) refl refl
 
   module _ (bounded : Bounded E) (c : Counts) (fine : Done c ≡ checking E N plan) where
     abbrev W : ℕ
@@ -103,15 +97,15 @@ module _ (E : Edition) (N : ℕ) (plan buf : List ℕ) where
             whole-fits W buf,
           )
 
-      pub answers-short : (need : ℕ) → need ≡ length laying → whole W buf < need → Answers E N plan buf (Refused (Room need)) buf
+      pub answers-short : (need : ℕ) → need ≡ length laying → whole W buf < need → Gives (joining E N plan buf) (Refused (Room need)) buf
       answers-short need q l =
           let e : need ≡ length (result E N plan buf) = q ∙ ap length table-cut in
-          answers E N plan buf _ (joining-short E N plan buf fine (omega arith)) _ _ (ap {B = Outcome} (λ (k : ℕ). Refused (Room k)) e) refl
+          gives (sym (joining-short E N plan buf fine (omega arith))) (ap {B = Outcome} (λ (k : ℕ). Refused (Room k)) e) refl
 
       pub answers-done : (need : ℕ) → need ≡ length laying → need ≤ whole W buf → (after : List ℕ) → after ≡ laid buf 0 (bytes (E .byte) N laying)
-          → Answers E N plan buf (Done (planCounts need 0 (c .total))) after
+          → Gives (joining E N plan buf) (Done (planCounts need 0 (c .total))) after
       answers-done need q l after w =
           let e : need ≡ length (result E N plan buf) = q ∙ ap length table-cut in
           let sum : c .total ≡ total (result E N plan buf) = ap (λ (x : Counts). x .total) (known .counts) ∙ sym (join-total (planOf W plan)) in
-          answers E N plan buf _ (joining-done E N plan buf fine (omega arith)) _ _ (written-outcome (E .byte) N 0 0 need (c .total) 0 (result E N plan buf) buf e sum refl)
+          gives (sym (joining-done E N plan buf fine (omega arith))) (written-outcome (E .byte) N 0 0 need (c .total) 0 (result E N plan buf) buf e sum refl)
           (w ∙ ap (λ (p : List Record). laid buf 0 (bytes (E .byte) N p)) table-cut ∙ written-bytes (E .byte) N 0 0 (result E N plan buf) buf)

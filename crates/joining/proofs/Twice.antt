@@ -23,7 +23,8 @@ use Rattle.switch.specs.declared.Edition.{Edition}
 use Rattle.switch.specs.Editions.{Bounded}
 use Rattle.plans.specs.Read.{checking}
 use Rattle.plans.proofs.Plans.{Checked, checked, bytes-pass, length-plan}
-use Rattle.planner.specs.Planned.{Planned, refuses, writes, roomFor}
+use Rattle.switch.specs.Result.{Result, refuses}
+use Rattle.planner.specs.Planned.{writes, roomFor}
 use Rattle.joining.specs.Join.{joinPlan, joining}
 use Rattle.joining.proofs.Joined.{join-sound, join-records, join-twice}
 use Rattle.joining.proofs.Answer.{joining-refused, joining-room, joining-short, joining-done}
@@ -77,7 +78,7 @@ module _ (E : Edition) (bounds : Bounded E) (N : ℕ) (plan : List ℕ) (byte : 
 
     refused : {r : Refusal} {A : Type 0} → refuses r buf ≡ joining E N plan buf → A
     refused {r} e =
-        let q : Done c ≡ Refused r = done ∙ ap (λ (x : Planned). x .outcome) (sym e) in
+        let q : Done c ≡ Refused r = done ∙ ap (λ (x : Result). x .outcome) (sym e) in
         let z : _≡_ {A = ℕ} 0 1 = cc in
         absurd (let f : ⊥ = omega arith in f)
 
@@ -86,8 +87,8 @@ module _ (E : Edition) (bounds : Bounded E) (N : ℕ) (plan : List ℕ) (byte : 
       front l =
           let w = joining-done E N plan buf fine l in
           let size : length (bytes (E .byte) N again) ≡ c .records * (W + 4) = bytes-size (E .byte) N W (each-width W N (sound fine))
-          ∙ ap (λ (x : Counts). x .records * (W + 4)) (sym (same (done ∙ ap (λ (x : Planned). x .outcome) (sym w) ∙ counts))) in
-          ap (λ (x : Planned). take (c .records * (W + 4)) (x .bytes)) (sym w) ∙ ap (take (c .records * (W + 4))) written ∙ laid-first (bytes (E .byte) N again) _ size
+          ∙ ap (λ (x : Counts). x .records * (W + 4)) (sym (same (done ∙ ap (λ (x : Result). x .outcome) (sym w) ∙ counts))) in
+          ap (λ (x : Result). take (c .records * (W + 4)) (x .bytes)) (sym w) ∙ ap (take (c .records * (W + 4))) written ∙ laid-first (bytes (E .byte) N again) _ size
         where
           same : {x y : Counts} → Done x ≡ Done y → x ≡ y
           same z = cc

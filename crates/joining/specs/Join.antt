@@ -2,13 +2,12 @@
 use mathlib.Core.List.{List, [], _∷_, _++_}
 use Prim.Native.Nat.{ℕ, zero, suc, _/_, _%_}
 use lib.ListN.{replicate}
-use Rattle.switch.specs.declared.Outcome.{Outcome}
-use Rattle.switch.specs.declared.Outcome.the-variants.{Done, Refused}
 use Rattle.switch.specs.Plan.{Record}
 use Rattle.records.specs.Bytes.{planOf}
 use Rattle.switch.specs.declared.Edition.{Edition}
 use Rattle.plans.specs.Read.{checking}
-use Rattle.planner.specs.Planned.{Planned, refuses, roomFor}
+use Rattle.switch.specs.Result.{Result, afterReading}
+use Rattle.planner.specs.Planned.{roomFor}
 use Rattle.settings.specs.Sums.{sums}
 
 -- a setting o held for h
@@ -33,12 +32,7 @@ cut (s ∷ q) = pieces (s .hold) (s .outputs) ++ cut q
 unfoldable pub joinPlan : List Record → List Record
 joinPlan p = cut (sums p)
 
--- a plan that is refused by itself changes nothing, and else what is done with it
-abbrev pub afterReading : Outcome → Planned → List ℕ → Planned
-afterReading (Done c) done buf = done
-afterReading (Refused r) done buf = refuses r buf
-
 -- refusals 1, 9, 10, 11, 5; records and total of the plan that is written, no T and no empty slots
-unfoldable pub joining : Edition → ℕ → List ℕ → List ℕ → Planned
+unfoldable pub joining : Edition → ℕ → List ℕ → List ℕ → Result
 joining E N plan buf =
-    afterReading (checking E N plan) (roomFor (E .width) (E .byte) N 0 0 (joinPlan (planOf (E .width) plan)) buf) buf
+    afterReading (checking E N plan) buf (λ c. roomFor (E .width) (E .byte) N 0 0 (joinPlan (planOf (E .width) plan)) buf)

@@ -26,7 +26,8 @@ use Rattle.records.specs.Bytes.{bytes, laid, planFrom}
 use Rattle.records.proofs.Laid.{length-laid}
 use Rattle.records.proofs.Bytes.{bytes-size}
 use Rattle.records.proofs.Round.{plan-records}
-use Rattle.planner.specs.Planned.{Planned, writes, planned}
+use Rattle.switch.specs.Result.{Result}
+use Rattle.planner.specs.Planned.{writes, planned}
 use Rattle.planner.proofs.Planned.{planned-faulty, planned-done}
 use Rattle.rules.specs.Exact.{exactPlan}
 use Rattle.wishes.specs.Wishes.{outcome, cellsOf, cellsAfter}
@@ -49,7 +50,7 @@ module _ (N : ℕ) (d buf : List ℕ) (small : N ≤ 16) (size : length buf ≡ 
   abbrev plan : List Record
   plan = exactPlan 64 N d
 
-  abbrev answer : Planned
+  abbrev answer : Result
   answer = planned 64 0 N d plan buf
 
   module _ (T : ℕ) (fine : checkDemand 64 N d ≡ Fine T) where
@@ -84,15 +85,15 @@ module _ (N : ℕ) (d buf : List ℕ) (small : N ≤ 16) (size : length buf ≡ 
 
     done-outcome : answer .outcome ≡ Done counts
     unfolding writes
-    done-outcome = ap (λ (a : Planned). a .outcome) done-is
+    done-outcome = ap (λ (a : Result). a .outcome) done-is
 
     done-bytes : answer .bytes ≡ laid buf 0 (bytes 0 N plan)
     unfolding writes
-    done-bytes = ap (λ (a : Planned). a .bytes) done-is
+    done-bytes = ap (λ (a : Result). a .bytes) done-is
 
   module _ (r : Refusal) (faulty : checkDemand 64 N d ≡ Faulty r) where
     refused-is : answer .outcome ≡ Refused r
-    refused-is = ap (λ (a : Planned). a .outcome) (planned-faulty 64 0 N d plan buf r faulty)
+    refused-is = ap (λ (a : Result). a .outcome) (planned-faulty 64 0 N d plan buf r faulty)
 
     refused-text : demandText N d ≡ refusedLine r
     unfolding demandText

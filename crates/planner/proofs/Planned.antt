@@ -1,33 +1,32 @@
 -- A planner's answer case by case: each refusal is given exactly where its test is the first that fails, and else the plan is written.
-use mathlib.Core.Path.{_≡_, refl, sym, ap, _∙_}
+use mathlib.Core.Path.{_≡_, refl, sym}
 use mathlib.Core.List.{List}
 use Prim.Native.Nat.{ℕ, _<_, _≤_}
 use native.Mathlib.Decide.{decLt}
 use native.Mathlib.Omega.{arith}
 use lib.ListN.{length}
-use borrow.Author.Tests.{lt-ltb, le-ltb}
+use borrow.Author.Tests.{lt-ltb, le-ltb, lt-leb, le-leb}
 use Rattle.switch.specs.declared.Refusal.{Refusal}
 use Rattle.switch.specs.declared.Refusal.the-variants.{Longest, Room}
-use Rattle.switch.specs.declared.Outcome.{Outcome}
 use Rattle.switch.specs.declared.Outcome.the-variants.{Done}
 use Rattle.switch.specs.Answer.{demandCounts}
 use Rattle.switch.specs.Demand.{cell}
 use Rattle.switch.specs.Plan.{Record, total}
 use Rattle.switch.specs.Empty.{emptySlots}
-use Rattle.switch.proofs.Answer.{determined}
 use Rattle.demand.specs.declared.Checked.the-variants.{Fine, Faulty}
 use Rattle.demand.specs.Check.{checkDemand}
 use Rattle.records.specs.Bytes.{whole, bytes, laid}
-use Rattle.planner.specs.Planned.{Planned, refuses, writes, roomFor, planned, plannedUpTo, Gives, shortage}
+use Rattle.switch.specs.Result.{refuses}
+use Rattle.planner.specs.Planned.{writes, roomFor, planned, plannedUpTo, shortage}
 
 module _ (W e N T empty : ℕ) (p : List Record) (buf : List ℕ) where
   pub no-room : whole W buf < length p → roomFor W e N T empty p buf ≡ refuses (Room (length p)) buf
   unfolding roomFor
-  no-room l = rw (lt-ltb _ _ l)
+  no-room l = rw (lt-leb _ _ l)
 
   pub room : length p ≤ whole W buf → roomFor W e N T empty p buf ≡ writes e N T empty p buf
   unfolding roomFor
-  room l = rw (le-ltb _ _ l)
+  room l = rw (le-leb _ _ l)
 
 module _ (W e N : ℕ) (d : List ℕ) (p : List Record) (buf : List ℕ) where
   -- codes 1, 2 and 3
@@ -54,15 +53,15 @@ module _ (limit W e N : ℕ) (d : List ℕ) (p : List Record) (buf : List ℕ) w
     -- code 4
     pub limited-long : limit < T → plannedUpTo limit W e N d p buf ≡ refuses Longest buf
     unfolding plannedUpTo
-    limited-long l = rw (fine, lt-ltb _ _ l)
+    limited-long l = rw (fine, lt-leb _ _ l)
 
     pub limited-short : T ≤ limit → whole W buf < length p → plannedUpTo limit W e N d p buf ≡ refuses (Room (length p)) buf
     unfolding plannedUpTo
-    limited-short h l = rw (fine, le-ltb _ _ h) (no-room W e N T (emptySlots N (cell N d) p) p buf l)
+    limited-short h l = rw (fine, le-leb _ _ h) (no-room W e N T (emptySlots N (cell N d) p) p buf l)
 
     pub limited-done : T ≤ limit → length p ≤ whole W buf → plannedUpTo limit W e N d p buf ≡ writes e N T (emptySlots N (cell N d) p) p buf
     unfolding plannedUpTo
-    limited-done h l = rw (fine, le-ltb _ _ h) (room W e N T (emptySlots N (cell N d) p) p buf l)
+    limited-done h l = rw (fine, le-leb _ _ h) (room W e N T (emptySlots N (cell N d) p) p buf l)
 
 -- what is written: the counts and the bytes
 pub written-outcome : (e N T empty r t x : ℕ) (p : List Record) (buf : List ℕ) → r ≡ length p → t ≡ total p → x ≡ empty → Done (demandCounts r T t x) ≡ writes e N T empty p buf .outcome
@@ -72,16 +71,6 @@ written-outcome e N T empty r t x p buf a b c = λ i. Done (demandCounts (a i) T
 pub written-bytes : (e N T empty : ℕ) (p : List Record) (buf : List ℕ) → laid buf 0 (bytes e N p) ≡ writes e N T empty p buf .bytes
 unfolding writes
 written-bytes e N T empty p buf = refl
-
--- ---- a call's result
-
--- it is given by the case that holds
-pub gives : (given x : Planned) → given ≡ x → (r : Outcome) (after : List ℕ) → r ≡ x .outcome → after ≡ x .bytes → Gives given r after
-gives given x q r after o b = record { outcome = o ∙ ap (λ (y : Planned). y .outcome) (sym q); bytes = b ∙ ap (λ (y : Planned). y .bytes) (sym q) }
-
--- and there is one
-pub gives-one : (given : Planned) (r s : Outcome) (after later : List ℕ) → Gives given r after → Gives given s later → (r ≡ s) × (after ≡ later)
-gives-one given r s after later p q = (determined r s (given .outcome) (p .outcome) (q .outcome), determined after later (given .bytes) (p .bytes) (q .bytes))
 
 -- ---- whether a plan fits
 

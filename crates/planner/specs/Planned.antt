@@ -1,58 +1,42 @@
 -- What a planner's call answers, and the plan buffer's bytes afterwards, for records of W outputs with the edition byte e. Definitions only.
-use mathlib.Core.Path.{_≡_}
 use mathlib.Core.Bool.{cond}
 use mathlib.Core.List.{List}
 use Prim.Native.Nat.{ℕ}
 use lib.ListN.{length}
-use lib.Dec.{ltb}
-use Rattle.switch.specs.declared.Refusal.{Refusal}
+use lib.Dec.{ltb, leb}
 use Rattle.switch.specs.declared.Refusal.the-variants.{Longest, Room}
-use Rattle.switch.specs.declared.Outcome.{Outcome}
-use Rattle.switch.specs.declared.Outcome.the-variants.{Done, Refused}
+use Rattle.switch.specs.declared.Outcome.the-variants.{Done}
 use Rattle.switch.specs.Answer.{demandCounts}
 use Rattle.switch.specs.Demand.{cell}
 use Rattle.switch.specs.Plan.{Record, total}
 use Rattle.switch.specs.Empty.{emptySlots}
+use Rattle.switch.specs.Result.{Result, refuses, unless}
 use Rattle.demand.specs.declared.Checked.{Checked}
 use Rattle.demand.specs.declared.Checked.the-variants.{Fine, Faulty}
 use Rattle.demand.specs.Check.{checkDemand}
 use Rattle.records.specs.Bytes.{whole, bytes, laid}
 
--- the outcome, and the bytes of the lent buffer afterwards
-pub record Planned : Type 0 where
-  pub outcome : Outcome
-  pub bytes : List ℕ
-
--- a refusal changes no lent byte
-abbrev pub refuses : Refusal → List ℕ → Planned
-refuses r buf = record { outcome = Refused r; bytes = buf }
-
 -- the plan's records at the buffer's start, and nothing else touched; T and the empty slots are those for the demand, and 0 where there is none
-unfoldable pub writes : ℕ → ℕ → ℕ → ℕ → List Record → List ℕ → Planned
+unfoldable pub writes : ℕ → ℕ → ℕ → ℕ → List Record → List ℕ → Result
 writes e N T empty p buf = record { outcome = Done (demandCounts (length p) T (total p) empty); bytes = laid buf 0 (bytes e N p) }
 
 -- code 5: the plan buffer holds fewer whole records than the plan has
-unfoldable pub roomFor : ℕ → ℕ → ℕ → ℕ → ℕ → List Record → List ℕ → Planned
-roomFor W e N T empty p buf = cond (ltb (whole W buf) (length p)) (refuses (Room (length p)) buf) (writes e N T empty p buf)
+unfoldable pub roomFor : ℕ → ℕ → ℕ → ℕ → ℕ → List Record → List ℕ → Result
+roomFor W e N T empty p buf = unless (leb (length p) (whole W buf)) (refuses (Room (length p)) buf) (writes e N T empty p buf)
 
 -- a demand that is refused by itself, and else what is done with its longest line
-abbrev pub afterCheck : Checked → (ℕ → Planned) → List ℕ → Planned
+abbrev pub afterCheck : Checked → (ℕ → Result) → List ℕ → Result
 afterCheck (Fine T) go buf = go T
 afterCheck (Faulty r) go buf = refuses r buf
 
 -- a planner whose rule makes the plan p of the demand d: codes 1, 2, 3, then 5
-unfoldable pub planned : ℕ → ℕ → ℕ → List ℕ → List Record → List ℕ → Planned
+unfoldable pub planned : ℕ → ℕ → ℕ → List ℕ → List Record → List ℕ → Result
 planned W e N d p buf = afterCheck (checkDemand W N d) (λ T. roomFor W e N T (emptySlots N (cell N d) p) p buf) buf
 
 -- the same for a rule that takes no T over a limit: code 4 before 5
-unfoldable pub plannedUpTo : ℕ → ℕ → ℕ → ℕ → List ℕ → List Record → List ℕ → Planned
+unfoldable pub plannedUpTo : ℕ → ℕ → ℕ → ℕ → List ℕ → List Record → List ℕ → Result
 plannedUpTo limit W e N d p buf =
-    afterCheck (checkDemand W N d) (λ T. cond (ltb limit T) (refuses Longest buf) (roomFor W e N T (emptySlots N (cell N d) p) p buf)) buf
-
--- what a call answers and leaves in the lent buffer is what is planned
-pub record Gives (given : Planned) (r : Outcome) (after : List ℕ) : Type 0 where
-  pub outcome : r ≡ given .outcome
-  pub bytes : after ≡ given .bytes
+    afterCheck (checkDemand W N d) (λ T. unless (leb T limit) (refuses Longest buf) (roomFor W e N T (emptySlots N (cell N d) p) p buf)) buf
 
 -- by how many records a plan does not fit the room: all that it has; and 0 where it fits
 unfoldable pub shortage : ℕ → ℕ → ℕ

@@ -16,6 +16,7 @@ use Rattle.switch.specs.declared.Refusal.{Refusal}
 use Rattle.switch.specs.declared.Refusal.the-variants.{Ports, Torn, Records, Malformed}
 use Rattle.switch.specs.Answer.{planCounts}
 use Rattle.switch.specs.Check.{portsFine}
+use Rattle.switch.specs.Result.{byOutcome}
 use Rattle.switch.specs.Plan.{total}
 use Rattle.switch.proofs.Check.{no-ports, many-ports, some-ports}
 use Rattle.switch.specs.declared.Edition.{Edition}
@@ -24,7 +25,7 @@ use Rattle.plans.specs.declared.Stepped.{Stepped}
 use Rattle.records.specs.Record.{hold, wellFormed}
 use Rattle.records.specs.Bytes.{recordAt, whole, planFrom}
 use Rattle.switch.specs.Editions.{firstEdition, Bounded}
-use Rattle.plans.specs.Read.{opening, nothing, given, stepIn, stepOf, stepAt, malformed, checkingIn, checkingOf, checking}
+use Rattle.plans.specs.Read.{opening, nothing, given, stepIn, stepAt, malformed, checkingIn, checking}
 
 -- what is known of a plan that opening does not refuse
 pub record Opened (E : Edition) (N : ℕ) (plan : List ℕ) (c : Counts) : Type 0 where
@@ -101,20 +102,23 @@ module _ (m N : ℕ) (plan : List ℕ) (at : ℕ) where
       by-record l false w = sym (ap (λ (s : Stepped). s .next) (step-malformed l w))
 
 module _ (N : ℕ) (plan : List ℕ) (at : ℕ) where
+  abbrev stepped : Outcome → Stepped
+  stepped o = byOutcome o (λ r. nothing step.End at) (λ c. stepIn (c .records) N plan at)
+
   pub step-refused : {r : Refusal} → Refused r ≡ opening firstEdition N plan → nothing step.End at ≡ stepAt N plan at
   unfolding stepAt
-  step-refused e = ap (λ (o : Outcome). stepOf o N plan at) e
+  step-refused e = ap stepped e
 
   pub step-opened : {c : Counts} → Done c ≡ opening firstEdition N plan → stepIn (c .records) N plan at ≡ stepAt N plan at
   unfolding stepAt
-  step-opened e = ap (λ (o : Outcome). stepOf o N plan at) e
+  step-opened e = ap stepped e
 
   -- a step that gives no record leaves the place
   pub stays : (stepAt N plan at .step ≡ step.Record → ⊥) → stepAt N plan at .next ≡ at
   unfolding stepAt
   stays none = by (opening firstEdition N plan) none
     where
-      by : (o : Outcome) → (stepOf o N plan at .step ≡ step.Record → ⊥) → stepOf o N plan at .next ≡ at
+      by : (o : Outcome) → (stepped o .step ≡ step.Record → ⊥) → stepped o .next ≡ at
       by (Done c) f = stays-in (c .records) N plan at f
       by (Refused r) f = refl
 
@@ -141,13 +145,16 @@ module _ (W e N : ℕ) (plan : List ℕ) where
   scan-end m k l = let s : m - k ≡ 0 = omega arith in rw s
 
 module _ (E : Edition) (N : ℕ) (plan : List ℕ) where
+  abbrev read : Outcome → Outcome
+  read o = byOutcome o Refused (λ c. checkingIn (c .records) E N plan)
+
   pub check-refused : {r : Refusal} → Refused r ≡ opening E N plan → Refused r ≡ checking E N plan
   unfolding checking
-  check-refused e = ap (λ (o : Outcome). checkingOf o E N plan) e
+  check-refused e = ap read e
 
   pub check-opened : {c : Counts} → Done c ≡ opening E N plan → checkingIn (c .records) E N plan ≡ checking E N plan
   unfolding checking
-  check-opened e = ap (λ (o : Outcome). checkingOf o E N plan) e
+  check-opened e = ap read e
 
   module _ (m k : ℕ) (e : k ≡ malformed (E .width) (E .byte) N plan m 0) where
     pub check-malformed : k < m → Refused (Malformed k) ≡ checkingIn m E N plan

@@ -24,7 +24,8 @@ use Rattle.records.specs.Record.{hold, outputs, wellFormed}
 use Rattle.records.specs.Bytes.{encode, recordAt, whole, bytes, laid}
 use Rattle.switch.specs.Editions.{firstEdition}
 use Rattle.plans.specs.Read.{opening, nothing, given, stepAt}
-use Rattle.records.specs.Write.{Written, refuses, written}
+use Rattle.switch.specs.Result.{Result, refuses}
+use Rattle.records.specs.Write.{written}
 use Rattle.records.proofs.Bytes.{bytes-size}
 use Rattle.records.proofs.Part.{record-fits, record-size, whole-fits}
 use Rattle.records.proofs.Round.{decoded-encode, record-bytes, whole-bytes, encode-decoded}
@@ -64,7 +65,7 @@ pub record Wrote (h N : ℕ) (o buf : List ℕ) : Type 0 where
   pub fine : wellFormed 64 0 N (encode 0 h N o) ≡ true
 
 module _ (h N : ℕ) (o buf : List ℕ) where
-  pub wrote : (c : Counts) → Done c ≡ written h N o buf .answer → Wrote h N o buf
+  pub wrote : (c : Counts) → Done c ≡ written h N o buf .outcome → Wrote h N o buf
   wrote c d =
       dite (decLt 0 N) (λ some. dite (decLt 64 N)
       (λ l. refused (write-ports h N o buf (many-ports _ _ l)))
@@ -74,15 +75,15 @@ module _ (h N : ℕ) (o buf : List ℕ) where
       (λ z. refused (write-ports h N o buf (no-ports _ _ (omega (arith, z)))))
     where
       refused : {r : Refusal} {A : Type 0} → refuses r buf ≡ written h N o buf → A
-      refused {r} e = let q : Done c ≡ Refused r = d ∙ sym (ap (λ (w : Written). w .answer) e) in let z : _≡_ {A = ℕ} 0 1 = cc in absurd (let f : ⊥ = omega arith in f)
+      refused {r} e = let q : Done c ≡ Refused r = d ∙ sym (ap (λ (w : Result). w .outcome) e) in let z : _≡_ {A = ℕ} 0 1 = cc in absurd (let f : ⊥ = omega arith in f)
 
       by : 0 < N → N ≤ 64 → 68 ≤ length buf → (t : Bool) → wellFormed 64 0 N (encode 0 h N o) ≡ t → Wrote h N o buf
       by some few room true w = record { some = some; few = few; room = room; fine = w }
       by some few room false w = refused (write-malformed h N o buf some few room w)
 
-  module _ (long : length o ≡ 64) (c : Counts) (done : Done c ≡ written h N o buf .answer) where
+  module _ (long : length o ≡ 64) (c : Counts) (done : Done c ≡ written h N o buf .outcome) where
     pub written-bytes : written h N o buf .bytes ≡ laid buf 0 (encode 0 h N o)
-    written-bytes = let w = wrote c done in sym (ap (λ (x : Written). x .bytes) (write-done h N o buf (w .some) (w .few) (w .room) (w .fine)))
+    written-bytes = let w = wrote c done in sym (ap (λ (x : Result). x .bytes) (write-done h N o buf (w .some) (w .few) (w .room) (w .fine)))
 
     front : take 68 (written h N o buf .bytes) ≡ bytes 0 N (record { hold = h; outputs = o } ∷ [])
     unfolding laid bytes
@@ -141,9 +142,9 @@ module _ (N : ℕ) (plan : List ℕ) (at : ℕ) (found : stepAt N plan at .step 
 
     -- a record read and written again gives the same 68 bytes
     pub read-write : (buf : List ℕ) → 68 ≤ length buf
-        → written (stepAt N plan at .hold) N (stepAt N plan at .outputs) buf ≡ record { answer = Done (planCounts 1 0 (stepAt N plan at .hold)); bytes = laid buf 0 (recordAt 64 plan at) }
+        → written (stepAt N plan at .hold) N (stepAt N plan at .outputs) buf ≡ record { outcome = Done (planCounts 1 0 (stepAt N plan at .hold)); bytes = laid buf 0 (recordAt 64 plan at) }
     read-write buf room =
         let b = recordAt 64 plan at in
         rw (gave .is)
         (sym (write-done (hold b) N (outputs b) buf (gave .some) (gave .few) room (ap (wellFormed 64 0 N) same-bytes ∙ gave .fine))
-        ∙ ap {B = Written} (λ (x : List ℕ). record { answer = Done (planCounts 1 0 (hold b)); bytes = laid buf 0 x }) same-bytes)
+        ∙ ap {B = Result} (λ (x : List ℕ). record { outcome = Done (planCounts 1 0 (hold b)); bytes = laid buf 0 x }) same-bytes)

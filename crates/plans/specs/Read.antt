@@ -9,7 +9,7 @@ use Rattle.switch.specs.declared.Outcome.the-variants.{Done, Refused}
 use Rattle.switch.specs.declared.Refusal.the-variants.{Ports, Torn, Records, Malformed}
 use Rattle.switch.specs.Answer.{planCounts}
 use Rattle.switch.specs.Check.{portsFine}
-use Rattle.switch.specs.Result.{unless}
+use Rattle.switch.specs.Result.{unless, byOutcome}
 use Rattle.switch.specs.Editions.{firstEdition}
 use Rattle.switch.specs.Plan.{total}
 use Rattle.switch.specs.declared.Edition.{Edition}
@@ -52,14 +52,9 @@ stepIn m N plan at =
     (cond (wellFormed 64 0 N (recordAt 64 plan at)) (given (recordAt 64 plan at) (at + 1)) (nothing (step.Malformed at) at))
     (nothing step.End at)
 
--- every step of a refused reader is the end
-abbrev pub stepOf : Outcome → ℕ → List ℕ → ℕ → Stepped
-stepOf (Done c) N plan at = stepIn (c .records) N plan at
-stepOf (Refused r) N plan at = nothing step.End at
-
--- the step at record `at` of a plan opened for N
+-- the step at record `at` of a plan opened for N; every step of a refused reader is the end
 unfoldable pub stepAt : ℕ → List ℕ → ℕ → Stepped
-stepAt N plan at = stepOf (opening firstEdition N plan) N plan at
+stepAt N plan at = byOutcome (opening firstEdition N plan) (λ r. nothing step.End at) (λ c. stepIn (c .records) N plan at)
 
 -- the first of m records from k on that is not well formed; k + m where all are
 unfoldable pub malformed : ℕ → ℕ → ℕ → List ℕ → ℕ → ℕ → ℕ
@@ -73,10 +68,6 @@ checkingIn m E N plan =
     (Refused (Malformed (malformed (E .width) (E .byte) N plan m 0)))
     (Done (planCounts m 0 (total (planFrom (E .width) plan 0 m))))
 
-abbrev pub checkingOf : Outcome → Edition → ℕ → List ℕ → Outcome
-checkingOf (Done c) E N plan = checkingIn (c .records) E N plan
-checkingOf (Refused r) E N plan = Refused r
-
 -- who reads a whole plan refuses by 1, 9, 10 and 11
 unfoldable pub checking : Edition → ℕ → List ℕ → Outcome
-checking E N plan = checkingOf (opening E N plan) E N plan
+checking E N plan = byOutcome (opening E N plan) Refused (λ c. checkingIn (c .records) E N plan)

@@ -33,14 +33,13 @@ use Rattle.rules.proofs.Opposite.{opposite-joins, opposite-idle}
 use Rattle.rules.proofs.Tight.{doubled-tight}
 use Rattle.switch.specs.Sound.{Sound, Each, none, more}
 use Rattle.records.specs.Bytes.{bytes, laid, whole, planOf}
-use Rattle.records.specs.Write.{Written}
+use Rattle.switch.specs.Result.{Result}
 use Rattle.records.proofs.Round.{planOf-bytes}
 use Rattle.switch.proofs.Sound.{each-width}
 use Rattle.switch.specs.Editions.{firstEdition}
 use Rattle.plans.specs.Read.{checking}
 use Rattle.switch.proofs.Editions.{first-bounded}
 use Rattle.plans.proofs.Plans.{bytes-pass}
-use Rattle.planner.specs.Planned.{Planned}
 use Rattle.audit.specs.Check.{checkPlan}
 use Rattle.audit.proofs.Passes.{sound-passes}
 use Rattle.rules.proofs.Sound.{doubled-by-sound}
@@ -187,10 +186,10 @@ module _ (N : ℕ) (d buf : List ℕ) (r : Outcome) (after : List ℕ) (met : Gr
     counts = planCounts (length plan) 0 (total plan)
 
     is : r ≡ Done counts
-    is = met .0 ∙ ap (λ (x : Planned). x .outcome) (sym (done 64 0 N plan buf room ∙ fine-answer 64 0 N d buf T asks))
+    is = met .0 ∙ ap (λ (x : Result). x .outcome) (sym (done 64 0 N plan buf room ∙ fine-answer 64 0 N d buf T asks))
 
     lays : after ≡ laid buf 0 (bytes 0 N plan)
-    lays = met .1 ∙ ap (λ (x : Planned). x .bytes) (sym (done 64 0 N plan buf room ∙ fine-answer 64 0 N d buf T asks))
+    lays = met .1 ∙ ap (λ (x : Result). x .bytes) (sym (done 64 0 N plan buf room ∙ fine-answer 64 0 N d buf T asks))
 
     front : take (length plan * 68) after ≡ bytes 0 N plan
     front = ap (take (length plan * 68)) lays ∙ plan-front 0 N 64 (each-width 64 N sound) buf
@@ -214,7 +213,7 @@ module _ (N : ℕ) (d buf : List ℕ) (r : Outcome) (after : List ℕ) (met : Gr
         at : getD said k 0 ≡ getD (gratingReport N plan) k 0
         at =
             ap (λ (l : List ℕ). getD l k 0) (e .1) ∙ ap (λ (l : List ℕ). getD (reported firstEdition N l report .bytes) k 0) front
-            ∙ ap (λ (w : Written). getD (w .bytes) k 0) (sym (report-done firstEdition N (bytes 0 N plan) report (sym passed) fits))
+            ∙ ap (λ (w : Result). getD (w .bytes) k 0) (sym (report-done firstEdition N (bytes 0 N plan) report (sym passed) fits))
             ∙ laid-at report (gratingReport N (planOf 64 (bytes 0 N plan))) k (omega (arith, ap length same, report-length N plan))
             ∙ ap (λ (l : List ℕ). getD l k 0) same
 
@@ -255,5 +254,5 @@ module _ (N : ℕ) (d buf : List ℕ) (r : Outcome) (after : List ℕ) (met : Gr
       by (Fine t) e (yes l) =
           let s = short-answer 64 0 N plan buf (length plan) refl l in
           let f = fine-answer 64 0 N d buf t e in
-          refused (Room (length plan)) (s .0 ∙ ap (λ (x : Planned). x .outcome) f, s .1 ∙ ap (λ (x : Planned). x .bytes) f) (λ a h. omega arith)
+          refused (Room (length plan)) (s .0 ∙ ap (λ (x : Result). x .outcome) f, s .1 ∙ ap (λ (x : Result). x .bytes) f) (λ a h. omega arith)
       by (Fine t) e (no l) = given (e ∙ ap Fine (fine-asked 64 N t d e .longest-is)) (omega (arith, l))

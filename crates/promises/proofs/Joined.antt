@@ -20,7 +20,8 @@ use Rattle.switch.specs.Editions.{firstEdition, Bounded}
 use Rattle.plans.specs.Read.{checking}
 use Rattle.switch.proofs.Editions.{first-bounded}
 use Rattle.plans.proofs.Plans.{checked, length-plan}
-use Rattle.planner.specs.Planned.{Planned, refuses, writes}
+use Rattle.switch.specs.Result.{Result, refuses}
+use Rattle.planner.specs.Planned.{writes}
 use Rattle.settings.proofs.Sums.{sums-summed}
 use Rattle.joining.specs.Join.{joinPlan, joining}
 use Rattle.joining.proofs.Joined.{join-grant, join-total, join-sound}
@@ -42,14 +43,14 @@ module _ (E : Edition) (bounds : Bounded E) (N : ℕ) (plan : List ℕ) (byte : 
   refused : (x : Refusal) → refuses x buf ≡ joining E N plan buf → (GoodPlan E N plan → length (joinPlan p) ≤ whole (E .width) buf → ⊥)
       → Joined E N plan buf r after
   refused x e bad =
-      let is : r ≡ Refused x = met .0 ∙ ap (λ (y : Planned). y .outcome) (sym e) in
+      let is : r ≡ Refused x = met .0 ∙ ap (λ (y : Result). y .outcome) (sym e) in
       record {
         taken = λ g l. absurd (bad g l);
         only-then = λ z. never (sym is ∙ code-done r z);
         joins = λ z. never (sym is ∙ code-done r z);
         later = λ z. never (sym is ∙ code-done r z);
         twice = λ z. never (sym is ∙ code-done r z);
-        unchanged = λ _. met .1 ∙ ap (λ (y : Planned). y .bytes) (sym e);
+        unchanged = λ _. met .1 ∙ ap (λ (y : Result). y .bytes) (sym e);
       }
 
   module _ (o : Counts) (fine : checking E N plan ≡ Done o) (room : length (joinPlan p) ≤ whole (E .width) buf) where
@@ -58,11 +59,11 @@ module _ (E : Edition) (bounds : Bounded E) (N : ℕ) (plan : List ℕ) (byte : 
 
     is : r ≡ Done counts
     unfolding writes
-    is = met .0 ∙ ap (λ (y : Planned). y .outcome) (sym (joining-done E N plan buf (sym fine) room))
+    is = met .0 ∙ ap (λ (y : Result). y .outcome) (sym (joining-done E N plan buf (sym fine) room))
 
     lays : after ≡ laid buf 0 (bytes (E .byte) N (joinPlan p))
     unfolding writes
-    lays = met .1 ∙ ap (λ (y : Planned). y .bytes) (sym (joining-done E N plan buf (sym fine) room))
+    lays = met .1 ∙ ap (λ (y : Result). y .bytes) (sym (joining-done E N plan buf (sym fine) room))
 
     widths : Each (OfWidth (E .width)) (joinPlan p)
     widths = each-width (E .width) N (join-sound (E .width) N (checked E N plan bounds o (sym fine) .sound))

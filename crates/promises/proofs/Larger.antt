@@ -26,7 +26,8 @@ use Rattle.rules.specs.Doubled.{stretch}
 use Rattle.rules.specs.Larger.{multiplied}
 use Rattle.rules.proofs.Doubled.{total-stretch, grant-stretch}
 use Rattle.rules.proofs.Larger.{mul-sub, sum-times, cell-multiplied, longest-multiplied, exact-multiplied}
-use Rattle.planner.specs.Planned.{Planned, refuses, writes}
+use Rattle.switch.specs.Result.{Result, refuses}
+use Rattle.planner.specs.Planned.{writes}
 use Rattle.planner.proofs.Planned.{planned-faulty, planned-short, planned-done}
 use Rattle.promises.specs.Larger.{exactGiven, larger, largerBytes, LargerCall}
 
@@ -55,8 +56,8 @@ module _ (E : Edition) (N k : ℕ) (d buf : List ℕ) (some : 1 ≤ k) (fits : l
   known : (R S : Planned) → exactGiven E N d buf ≡ R → exactGiven E N (multiplied k d) buf ≡ S → S .outcome ≡ larger k (R .outcome)
       → S .bytes ≡ largerBytes (R .outcome) E N k d buf → Scaled
   known R S a b o s = (
-    ap (λ (x : Planned). x .outcome) b ∙ o ∙ ap (λ (x : Planned). larger k (x .outcome)) (sym a),
-    ap (λ (x : Planned). x .bytes) b ∙ s ∙ ap (λ (x : Planned). largerBytes (x .outcome) E N k d buf) (sym a),
+    ap (λ (x : Result). x .outcome) b ∙ o ∙ ap (λ (x : Result). larger k (x .outcome)) (sym a),
+    ap (λ (x : Result). x .bytes) b ∙ s ∙ ap (λ (x : Result). largerBytes (x .outcome) E N k d buf) (sym a),
   )
 
   -- both are refused, and for the same reason

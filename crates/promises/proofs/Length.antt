@@ -14,7 +14,8 @@ use Rattle.switch.specs.declared.Edition.{Edition}
 use Rattle.switch.specs.Editions.{firstEdition, Bounded}
 use Rattle.plans.specs.Read.{checking}
 use Rattle.switch.proofs.Editions.{first-bounded}
-use Rattle.audit.specs.Reading.{reading, afterChecking}
+use Rattle.switch.specs.Result.{byOutcome}
+use Rattle.audit.specs.Reading.{reading}
 use Rattle.audit.specs.Length.{charge, lengthOf, lengthCounts, planLength}
 use Rattle.audit.proofs.Length.{charge-first, charge-moved, charge-kept, length-le, length-none}
 use Rattle.promises.specs.Calls.{PlanLength}
@@ -48,14 +49,14 @@ module _ (E : Edition) (bounds : Bounded E) (N : ℕ) (plan : List ℕ) (d : ℕ
     where
       by : (o : Outcome) → checking E N plan ≡ o → Measured E N plan d r
       by (Done o) e =
-          let is : r ≡ Done (lengthCounts d p) = met ∙ ap (λ (x : Outcome). afterChecking x (Done (lengthCounts d p))) e in
+          let is : r ≡ Done (lengthCounts d p) = met ∙ ap (λ (x : Outcome). byOutcome x Refused (λ c. Done (lengthCounts d p))) e in
           record {
             taken = λ g. ap codeOf is;
             only-then = λ z. checks-good E N plan bounds o e;
             lasts = λ z. subst (Lasts d p) (same-counts (sym is ∙ code-done r z)) (counted d p);
           }
       by (Refused x) e =
-          let is : r ≡ Refused x = met ∙ ap (λ (y : Outcome). afterChecking y (Done (lengthCounts d p))) e in
+          let is : r ≡ Refused x = met ∙ ap (λ (y : Outcome). byOutcome y Refused (λ c. Done (lengthCounts d p))) e in
           record {
             taken = λ g. never (sym e ∙ good-checks E N plan bounds g);
             only-then = λ z. never (sym is ∙ code-done r z);

@@ -33,7 +33,8 @@ use Rattle.records.proofs.Laid.{length-laid}
 use Rattle.switch.specs.declared.Edition.{Edition}
 use Rattle.switch.specs.Editions.{firstEdition}
 use Rattle.switch.proofs.Editions.{first-bounded}
-use Rattle.planner.specs.Planned.{Planned, refuses, writes, planned, plannedUpTo}
+use Rattle.switch.specs.Result.{Result, refuses}
+use Rattle.planner.specs.Planned.{writes, planned, plannedUpTo}
 use Rattle.planner.proofs.Planned.{planned-faulty, planned-short, planned-done, limited-faulty, limited-long, limited-short, limited-done}
 use Rattle.audit.specs.Check.{checkPlan}
 use Rattle.audit.proofs.Passes.{sound-passes}
@@ -62,7 +63,7 @@ module _ (E : Edition) (N : ℕ) (d : List ℕ) where
 -- ---- the two results
 
 -- a refusal, where something is not taken; or the plan written, where all is
-data Results (E : Edition) (most N : ℕ) (d : List ℕ) (p : List Record) (buf : List ℕ) : Planned → Type 0 where
+data Results (E : Edition) (most N : ℕ) (d : List ℕ) (p : List Record) (buf : List ℕ) : Result → Type 0 where
   refused : (f : Refusal) → (Taken E most N d p buf → ⊥) → Results E most N d p buf (refuses f buf)
   written : Taken E most N d p buf → Results E most N d p buf (writes (E .byte) N (longest N (cell N d)) (emptySlots N (cell N d) p) p buf)
 
@@ -80,7 +81,7 @@ module _ (E : Edition) (square : E .ports ≡ E .width) (N : ℕ) (d : List ℕ)
     longest-is = demand.fine-asked (E .ports) N T d (sym q) .longest-is
 
     fits : T ≤ most → length p ≤ whole (E .width) buf
-        → {x : Planned} → x ≡ writes (E .byte) N T (emptySlots N (cell N d) p) p buf → Results E most N d p buf x
+        → {x : Result} → x ≡ writes (E .byte) N T (emptySlots N (cell N d) p) p buf → Results E most N d p buf x
     fits l room e =
         subst (Results E most N d p buf) (sym (e ∙ ap (λ (t : ℕ). writes (E .byte) N t (emptySlots N (cell N d) p) p buf) longest-is))
         (written (record { fair = fine-fair E N d T most q l; room = room }))
@@ -180,7 +181,7 @@ module _ (E : Edition) (serves : Serves E) (most : ℕ) (small : most ≤ 65535)
     }
 
   -- a result as one of the two has all that is promised
-  promised : {x : Planned} → Results E most N d p buf x → (r : Outcome) (after : List ℕ) → r ≡ x .outcome → after ≡ x .bytes
+  promised : {x : Result} → Results E most N d p buf x → (r : Outcome) (after : List ℕ) → r ≡ x .outcome → after ≡ x .bytes
       → Plans E most N d p Worth buf r after
   promised (refused f h) r after o b = record {
     taken = λ e. absurd (not-done e);

@@ -16,7 +16,8 @@ use Rattle.switch.proofs.Answer.{code-done}
 use Rattle.switch.specs.Sound.{Sound}
 use Rattle.records.specs.Record.{wellFormed}
 use Rattle.records.specs.Bytes.{encode, laid, whole, recordAt}
-use Rattle.records.specs.Write.{Written, refuses, writes, written}
+use Rattle.switch.specs.Result.{Result, refuses}
+use Rattle.records.specs.Write.{writes, written}
 use Rattle.records.proofs.Meaning.{means, encode-sound}
 use Rattle.records.proofs.Part.{record-size, record-fits, whole-fits}
 use Rattle.records.proofs.Round.{decoded-encode}
@@ -36,7 +37,7 @@ module _ (hold N : ℕ) (outputs buf : List ℕ) (long : length outputs ≡ 64) 
   taken : GoodRecord hold N outputs (length buf) → r ≡ Done (planCounts 1 0 hold)
   taken g =
       let fine = encode-sound 64 0 N _ (g .few) (omega (arith, g .few)) (g .sound) in
-      met .0 ∙ sym (ap (λ (w : Written). w .answer) (write-done hold N outputs buf (g .some) (g .few) (g .room) fine))
+      met .0 ∙ sym (ap (λ (w : Result). w .outcome) (write-done hold N outputs buf (g .some) (g .few) (g .room) fine))
 
   module _ (c : Counts) (done : r ≡ Done c) where
     good : GoodRecord hold N outputs (length buf)
@@ -77,7 +78,7 @@ module _ (hold N : ℕ) (outputs buf : List ℕ) (long : length outputs ≡ 64) 
 pub read-write-promise : (N : ℕ) (plan : List ℕ) → ((i : ℕ) → getD plan i 0 < 256) → (at : ℕ) (s : Stepped) → StepAt N plan at s → s .step ≡ step.Record
     → (buf : List ℕ) → 68 ≤ length buf → (r : Outcome) (after : List ℕ) → WriteRecord (s .hold) N (s .outputs) buf r after → WrittenAgain plan at s buf r after
 read-write-promise N plan byte at s e found buf room r after met = record {
-  taken = met .0 ∙ ap (λ (w : Written). w .answer) again;
+  taken = met .0 ∙ ap (λ (w : Result). w .outcome) again;
   same = ap (take 68) bytes ∙ laid-front buf (recordAt 64 plan at) 68 size;
   later = ap (drop 68) bytes ∙ laid-behind buf (recordAt 64 plan at) 68 size;
 }
@@ -88,10 +89,10 @@ read-write-promise N plan byte at s e found buf room r after met = record {
     size : length (recordAt 64 plan at) ≡ 68
     size = record-size 64 plan at (record-fits 64 plan at (whole 64 plan) (gave N plan at gives .inside) (whole-fits 64 plan))
 
-    again : written (s .hold) N (s .outputs) buf ≡ record { answer = Done (planCounts 1 0 (s .hold)); bytes = laid buf 0 (recordAt 64 plan at) }
+    again : written (s .hold) N (s .outputs) buf ≡ record { outcome = Done (planCounts 1 0 (s .hold)); bytes = laid buf 0 (recordAt 64 plan at) }
     again =
         subst (λ (x : Stepped). written (x .hold) N (x .outputs) buf
-        ≡ record { answer = Done (planCounts 1 0 (x .hold)); bytes = laid buf 0 (recordAt 64 plan at) }) (sym e) (read-write N plan at gives byte buf room)
+        ≡ record { outcome = Done (planCounts 1 0 (x .hold)); bytes = laid buf 0 (recordAt 64 plan at) }) (sym e) (read-write N plan at gives byte buf room)
 
     bytes : after ≡ laid buf 0 (recordAt 64 plan at)
-    bytes = met .1 ∙ ap (λ (w : Written). w .bytes) again
+    bytes = met .1 ∙ ap (λ (w : Result). w .bytes) again

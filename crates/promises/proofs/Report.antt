@@ -13,7 +13,7 @@ use Rattle.switch.specs.Answer.{codeOf}
 use Rattle.switch.proofs.Answer.{code-done}
 use Rattle.records.specs.Record.{decoded}
 use Rattle.records.specs.Bytes.{recordAt, whole}
-use Rattle.records.specs.Write.{Written, refuses}
+use Rattle.switch.specs.Result.{Result, refuses}
 use Rattle.switch.specs.declared.Edition.{Edition}
 use Rattle.switch.specs.Editions.{firstEdition, Bounded}
 use Rattle.plans.specs.Read.{checking}
@@ -35,11 +35,11 @@ use Rattle.promises.proofs.Outcomes.{never, same-counts}
 use Rattle.promises.proofs.Reading.{good-checks, checks-good}
 
 module _ (E : Edition) (bounds : Bounded E) (N : ℕ) (plan buf : List ℕ) (r : Outcome) (after : List ℕ)
-    (met : let x = reported E N plan buf in Leaves (x .answer) (x .bytes) r after) where
+    (met : let x = reported E N plan buf in Leaves (x .outcome) (x .bytes) r after) where
   refused : (x : Refusal) → refuses x buf ≡ reported E N plan buf → (GoodPlan E N plan → whole (E .width) plan ≤ length buf → ⊥) → Reported E N plan buf r after
   refused x e bad =
-      let is : r ≡ Refused x = met .0 ∙ ap (λ (y : Written). y .answer) (sym e) in
-      let same : after ≡ buf = met .1 ∙ ap (λ (y : Written). y .bytes) (sym e) in
+      let is : r ≡ Refused x = met .0 ∙ ap (λ (y : Result). y .outcome) (sym e) in
+      let same : after ≡ buf = met .1 ∙ ap (λ (y : Result). y .bytes) (sym e) in
       record {
         taken = λ g l. absurd (bad g l);
         only-then = λ z. never (sym is ∙ code-done r z);
@@ -55,7 +55,7 @@ module _ (E : Edition) (bounds : Bounded E) (N : ℕ) (plan buf : List ℕ) (r :
 
     module _ (room : o .records ≤ length buf) where
       is : r ≡ Done o
-      is = met .0 ∙ ap (λ (y : Written). y .answer) (sym (report-done E N plan buf (sym fine) room))
+      is = met .0 ∙ ap (λ (y : Result). y .outcome) (sym (report-done E N plan buf (sym fine) room))
 
       done : Reported E N plan buf r after
       done = record {

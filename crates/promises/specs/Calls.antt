@@ -75,7 +75,7 @@ GratingDoubled N d buf = let x = gratingPlanned 64 0 N d buf in Leaves (x .outco
 
 -- records::write_record(hold, n, outputs, plan)
 abbrev pub WriteRecord : ℕ → ℕ → List ℕ → List ℕ → Outcome → List ℕ → Type 0
-WriteRecord hold N outputs buf = let x = written hold N outputs buf in Leaves (x .answer) (x .bytes)
+WriteRecord hold N outputs buf = let x = written hold N outputs buf in Leaves (x .outcome) (x .bytes)
 
 -- plans::open_plan(n, plan), and reader::open_answer(n, plan)
 abbrev pub OpenPlan : ℕ → List ℕ → Outcome → Type 0
@@ -107,7 +107,7 @@ JoinPlan N plan buf = let x = joining firstEdition N plan buf in Leaves (x .outc
 
 -- wavelengths::grating_report(n, plan, report)
 abbrev pub GratingReport : ℕ → List ℕ → List ℕ → Outcome → List ℕ → Type 0
-GratingReport N plan buf = let x = reported firstEdition N plan buf in Leaves (x .answer) (x .bytes)
+GratingReport N plan buf = let x = reported firstEdition N plan buf in Leaves (x .outcome) (x .bytes)
 
 -- ---- listing::listing(input, text)
 abbrev pub Listing : List ℕ → List ℕ → ℕ → List ℕ → Type 0
@@ -149,7 +149,7 @@ CvGratingDoubled N d buf = let x = gratingPlanned 64 0 N d buf in Leaves (flat (
 
 -- cv_grating_report(n, plan, report)
 abbrev pub CvGratingReport : ℕ → List ℕ → List ℕ → CvAnswer → List ℕ → Type 0
-CvGratingReport N plan buf = let x = reported firstEdition N plan buf in Leaves (flat (x .answer)) (x .bytes)
+CvGratingReport N plan buf = let x = reported firstEdition N plan buf in Leaves (flat (x .outcome)) (x .bytes)
 
 -- cv_check(n, cells, plan)
 abbrev pub CvCheck : ℕ → List ℕ → List ℕ → CvAnswer → Type 0
@@ -165,7 +165,7 @@ CvJoin N plan buf = let x = joining firstEdition N plan buf in Leaves (flat (x .
 
 -- cv_write(hold, n, outputs, plan)
 abbrev pub CvWrite : ℕ → ℕ → List ℕ → List ℕ → CvAnswer → List ℕ → Type 0
-CvWrite hold N outputs buf = let x = written hold N outputs buf in Leaves (flat (x .answer)) (x .bytes)
+CvWrite hold N outputs buf = let x = written hold N outputs buf in Leaves (flat (x .outcome)) (x .bytes)
 
 -- cv_open(n, plan)
 abbrev pub CvOpen : ℕ → List ℕ → CvAnswer → Type 0

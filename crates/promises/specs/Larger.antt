@@ -12,7 +12,8 @@ use Rattle.records.specs.Bytes.{bytes, laid}
 use Rattle.rules.specs.Exact.{exactPlan}
 use Rattle.rules.specs.Doubled.{stretch}
 use Rattle.rules.specs.Larger.{multiplied}
-use Rattle.planner.specs.Planned.{Planned, planned}
+use Rattle.switch.specs.Result.{Result}
+use Rattle.planner.specs.Planned.{planned}
 
 -- what the exact call gives, in any edition
 abbrev pub exactGiven : Edition → (N : ℕ) (d buf : List ℕ) → Planned

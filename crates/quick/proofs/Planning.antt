@@ -30,8 +30,10 @@ use Rattle.rules.specs.Quick.{slot, slots, quickFrom, quickPlan}
 use Rattle.rules.proofs.Peels.{length-tab}
 use Rattle.rules.proofs.Quick.{quick-total, quick-at-most}
 use Rattle.rules.proofs.Empty.{quick-empty-slots}
-use Rattle.planner.specs.Planned.{Planned, plannedUpTo, Gives}
-use Rattle.planner.proofs.Planned.{limited-faulty, limited-long, limited-short, limited-done, written-outcome, written-bytes, gives, gives-one}
+use Rattle.switch.specs.Result.{Result, Gives}
+use Rattle.planner.specs.Planned.{plannedUpTo}
+use Rattle.switch.proofs.Result.{gives, gives-one}
+use Rattle.planner.proofs.Planned.{limited-faulty, limited-long, limited-short, limited-done, written-outcome, written-bytes}
 use Rattle.quick.specs.Lent.{Lent, Space}
 
 -- room for 2T - 1 records is always enough
@@ -60,37 +62,37 @@ plan-fits W e N d buf l = omega (arith, plan-size W e N d, le-div-iff-mul-le {k 
 -- ---- the answer
 
 module _ (W e N : ℕ) (d buf : List ℕ) where
-  abbrev answer : Planned
+  abbrev answer : Result
   answer = plannedUpTo 1024 W e N d (quickPlan W N d) buf
 
   -- codes 1, 2 and 3
   pub gives-fault : (r : Refusal) → checkDemand W N d ≡ Faulty r → Gives answer (Refused r) buf
-  gives-fault r c = gives answer _ (limited-faulty 1024 W e N d (quickPlan W N d) buf r c) _ _ refl refl
+  gives-fault r c = gives (limited-faulty 1024 W e N d (quickPlan W N d) buf r c) refl refl
 
   module _ (T : ℕ) (fine : checkDemand W N d ≡ Fine T) where
     -- code 4
     pub gives-longest : 1024 < T → Gives answer (Refused Longest) buf
-    gives-longest l = gives answer _ (limited-long 1024 W e N d (quickPlan W N d) buf T fine l) _ _ refl refl
+    gives-longest l = gives (limited-long 1024 W e N d (quickPlan W N d) buf T fine l) refl refl
 
     module _ (small : T ≤ 1024) (r : ℕ) (count : r ≡ length (quickPlan W N d)) where
       -- code 5
       pub gives-room : whole W buf < r → Gives answer (Refused (Room r)) buf
       gives-room h =
-          gives answer _ (limited-short 1024 W e N d (quickPlan W N d) buf T fine small (omega (arith, count))) _ _ (ap {B = Outcome} (λ (k : ℕ). Refused (Room k)) count) refl
+          gives (limited-short 1024 W e N d (quickPlan W N d) buf T fine small (omega (arith, count))) (ap {B = Outcome} (λ (k : ℕ). Refused (Room k)) count) refl
 
       -- as many records as the plan has, each held for one slot, and no slot empty
       pub gives-plan : W ≤ 128 → length (quickPlan W N d) ≤ whole W buf → (after : List ℕ) → after ≡ laid buf 0 (bytes e N (quickPlan W N d))
           → Gives answer (Done (planCounts r T r)) after
       gives-plan w fits after b =
           let k = fine-asked W N T d fine in
-          gives answer _ (limited-done 1024 W e N d (quickPlan W N d) buf T fine small fits) _ _
+          gives (limited-done 1024 W e N d (quickPlan W N d) buf T fine small fits)
           (written-outcome e N T (emptySlots N (cell N d) (quickPlan W N d)) r r 0 (quickPlan W N d) buf count (count ∙ sym (quick-total W N (k .some) (k .few) (omega (arith, k .few)) d))
           (sym (quick-empty-slots W N (k .some) (k .few) (omega (arith, k .few)) d)))
           (b ∙ written-bytes e N T (emptySlots N (cell N d) (quickPlan W N d)) (quickPlan W N d) buf)
 
 -- any two results of the call are one
 pub one-result : (N : ℕ) (d buf : List ℕ) (r s : Outcome) (after later : List ℕ) → Gives (answer 64 0 N d buf) r after → Gives (answer 64 0 N d buf) s later → (r ≡ s) × (after ≡ later)
-one-result N d buf = gives-one (answer 64 0 N d buf)
+one-result N d buf r s after later = gives-one
 
 -- ---- what is lent
 

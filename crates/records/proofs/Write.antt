@@ -11,7 +11,8 @@ use Rattle.switch.specs.Check.{portsFine}
 use Rattle.switch.proofs.Check.{some-ports}
 use Rattle.records.specs.Record.{hold, wellFormed, outputsFine}
 use Rattle.records.specs.Bytes.{encode}
-use Rattle.records.specs.Write.{refuses, writes, written}
+use Rattle.switch.specs.Result.{refuses}
+use Rattle.records.specs.Write.{writes, written}
 use Rattle.records.proofs.Fine.{no-hold, outputs-decide}
 
 pub hold-encode : (e h N : ℕ) (o : List ℕ) → hold (encode e h N o) ≡ h

@@ -29,7 +29,7 @@ pub const IDLE: u8 = 255;
 
 // Writes one record at the start of a lent buffer: refusals 1, 5 and 11.
 pub fn write_record(hold: u16, n: usize, outputs: &[u8; 64], plan: &mut [u8]) -> Outcome
-    ensures { λ r. ⌜ (r ≡ written hold n (now (outputs .entry)) (now (plan .entry)) .answer) × (now (plan .exit) ≡ written hold n (now (outputs .entry)) (now (plan .entry)) .bytes) ⌝ }
+    ensures { λ r. ⌜ (r ≡ written hold n (now (outputs .entry)) (now (plan .entry)) .outcome) × (now (plan .exit) ≡ written hold n (now (outputs .entry)) (now (plan .entry)) .bytes) ⌝ }
 {
     if n == 0 {
         return Outcome::Refused(Refusal::Ports);

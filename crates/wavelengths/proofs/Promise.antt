@@ -11,7 +11,7 @@ use Rattle.switch.specs.declared.Outcome.the-variants.{Done}
 use Rattle.switch.proofs.Answer.{determined}
 use Rattle.records.specs.Record.{decoded}
 use Rattle.records.specs.Bytes.{recordAt, planOf, whole, laid}
-use Rattle.records.specs.Write.{Written}
+use Rattle.switch.specs.Result.{Result}
 use Rattle.records.proofs.Laid.{length-laid}
 use Rattle.switch.specs.declared.Edition.{Edition}
 use Rattle.switch.specs.Editions.{Bounded}
@@ -24,7 +24,7 @@ use Rattle.wavelengths.proofs.Report.{report-done, length-report, repor
 
 -- any two answers, and any two reports afterwards, that satisfy the contract are equal
 module _ (E : Edition) (N : ℕ) (plan buf : List ℕ) where
-  pub same-answer : (r s : Outcome) → r ≡ reported E N plan buf .answer → s ≡ reported E N plan buf .answer → r ≡ s
+  pub same-answer : (r s : Outcome) → r ≡ reported E N plan buf .outcome → s ≡ reported E N plan buf .outcome → r ≡ s
   same-answer r s p q = determined r s _ p q
 
   pub same-bytes : (l m : List ℕ) → l ≡ reported E N plan buf .bytes → m ≡ reported E N plan buf .bytes → l ≡ m
@@ -52,7 +52,7 @@ module _ (E : Edition) (bounds : Bounded E) (N : ℕ) (plan buf : List ℕ) {c :
   count = length-report (E .width) N plan 0 (whole (E .width) plan) ∙ ap (λ (x : Counts). x .records) (sym (checked E N plan bounds c fine .counts))
 
   written : reported E N plan buf .bytes ≡ laid buf 0 report
-  written = ap (λ (w : Written). w .bytes) (sym (report-done E N plan buf fine room))
+  written = ap (λ (w : Result). w .bytes) (sym (report-done E N plan buf fine room))
 
   -- byte k: some wavelength has that many inputs of record k, and none has more
   pub says : (k : ℕ) → k < c .records → MostShared N (decoded (recordAt (E .width) plan k)) (getD (reported E N plan buf .bytes) k 0)

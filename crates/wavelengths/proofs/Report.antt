@@ -4,7 +4,7 @@ use mathlib.Core.List.{List}
 use Prim.Native.Nat.{ℕ, zero, suc, _+_, _<_, _≤_}
 use native.Mathlib.Omega.{arith}
 use lib.ListN.{length, getD, set, take, length-map}
-use borrow.Author.Tests.{lt-ltb, le-ltb}
+use borrow.Author.Tests.{lt-leb, le-leb}
 use Rattle.switch.specs.declared.Counts.{Counts}
 use Rattle.switch.specs.declared.Outcome.{Outcome}
 use Rattle.switch.specs.declared.Outcome.the-variants.{Done, Refused}
@@ -12,7 +12,7 @@ use Rattle.switch.specs.declared.Refusal.{Refusal}
 use Rattle.switch.specs.declared.Refusal.the-variants.{Room}
 use Rattle.records.specs.Record.{decoded}
 use Rattle.records.specs.Bytes.{recordAt, whole, planFrom, laid}
-use Rattle.records.specs.Write.{refuses}
+use Rattle.switch.specs.Result.{refuses, afterReading}
 use Rattle.records.proofs.Part.{whole-fits, record-fits, record-size}
 use Rattle.records.proofs.Laid.{copy-start-more, copy-all}
 use Rattle.switch.specs.declared.Edition.{Edition}
@@ -21,7 +21,7 @@ use Rattle.plans.specs.Read.{checking}
 use Rattle.switch.proofs.Editions.{first-bounded}
 use Rattle.plans.proofs.Plans.{Checked, checked, length-plan}
 use Rattle.wavelengths.specs.Shared.{mostShared, gratingReport}
-use Rattle.wavelengths.specs.Report.{reports, reportIn, reportOf, reported}
+use Rattle.wavelengths.specs.Report.{reports, reportIn, reported}
 
 -- ---- the answer
 
@@ -29,21 +29,21 @@ module _ (E : Edition) (N : ℕ) (plan buf : List ℕ) where
   -- codes 1, 9, 10 and 11
   pub report-refused : {r : Refusal} → Refused r ≡ checking E N plan → refuses r buf ≡ reported E N plan buf
   unfolding reported
-  report-refused e = ap (λ (o : Outcome). reportOf o E N plan buf) e
+  report-refused e = ap (λ (o : Outcome). afterReading o buf (λ c. reportIn E N plan c buf)) e
 
   module _ {c : Counts} (fine : Done c ≡ checking E N plan) where
     report-fine : reportIn E N plan c buf ≡ reported E N plan buf
     unfolding reported
-    report-fine = ap (λ (o : Outcome). reportOf o E N plan buf) fine
+    report-fine = ap (λ (o : Outcome). afterReading o buf (λ c. reportIn E N plan c buf)) fine
 
     -- code 5
     pub report-short : length buf < c .records → refuses (Room (c .records)) buf ≡ reported E N plan buf
     unfolding reportIn
-    report-short l = (let e : refuses (Room (c .records)) buf ≡ reportIn E N plan c buf = rw (lt-ltb _ _ l) in e) ∙ report-fine
+    report-short l = (let e : refuses (Room (c .records)) buf ≡ reportIn E N plan c buf = rw (lt-leb _ _ l) in e) ∙ report-fine
 
     pub report-done : c .records ≤ length buf → reports E N plan c buf ≡ reported E N plan buf
     unfolding reportIn
-    report-done l = (let e : reports E N plan c buf ≡ reportIn E N plan c buf = rw (le-ltb _ _ l) in e) ∙ report-fine
+    report-done l = (let e : reports E N plan c buf ≡ reportIn E N plan c buf = rw (le-leb _ _ l) in e) ∙ report-fine
 
 -- what is known of a plan that is not refused
 pub fine-plan : (N : ℕ) (plan : List ℕ) {c : Counts} → Done c ≡ checking firstEdition N plan → Checked firstEdition N plan c

@@ -26,7 +26,7 @@ const PLACES: usize = 128;
 
 // Reports a plan, one byte for each record: refusals 1, 9, 10, 11 and 5, else the records and the total of the plan read.
 pub fn grating_report(n: usize, plan: &[u8], report: &mut [u8]) -> Outcome
-    ensures { λ r. ⌜ (r ≡ reported firstEdition n (now (plan .entry)) (now (report .entry)) .answer) × (now (report .exit) ≡ reported firstEdition n (now (plan .entry)) (now (report .entry)) .bytes) ⌝ }
+    ensures { λ r. ⌜ (r ≡ reported firstEdition n (now (plan .entry)) (now (report .entry)) .outcome) × (now (report .exit) ≡ reported firstEdition n (now (plan .entry)) (now (report .entry)) .bytes) ⌝ }
 {
     let checked = check_plan(n, plan, first_edition());
     let Outcome::Done(counts) = checked else {

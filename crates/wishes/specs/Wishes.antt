@@ -1,12 +1,12 @@
 -- What the call on a wish list answers, and what the cells are then. Definitions only.
 use Prim.Native.Nat.{ℕ, zero, suc, _+_, _*_, _/_, _%_, _<_}
-use mathlib.Core.Bool.{cond}
 use mathlib.Core.List.{List}
 use mathlib.Core.Path.{_≡_}
 use lib.Dec.{eqb}
 use lib.ListN.{length, set, replicate}
 use Rattle.switch.specs.Check.{portsFine}
 use Rattle.switch.specs.Answer.{planCounts}
+use Rattle.switch.specs.Result.{unless}
 use Rattle.switch.specs.Demand.{cell}
 use Rattle.switch.specs.declared.Refusal.the-variants.{Ports, Cells, Torn}
 use Rattle.switch.specs.declared.Outcome.{Outcome}
@@ -41,11 +41,9 @@ ofFault count (At r) = Refused r
 -- wishes 1, 2, 9, then the first faulty record; for a list s and len cells, of a switch of up to `most` ports
 unfoldable pub outcome : ℕ → ℕ → List ℕ → ℕ → Outcome
 outcome most N s len =
-    cond (portsFine most N)
-    (cond (eqb len (N * N))
-    (cond (eqb (length s % 8) 0) (ofFault (length s / 8) (firstFault N s (length s / 8))) (Refused (Torn (length s / 8))))
-    (Refused (Cells (N * N))))
-    (Refused Ports)
+    unless (portsFine most N) (Refused Ports)
+    (unless (eqb len (N * N)) (Refused (Cells (N * N)))
+    (unless (eqb (length s % 8) 0) (Refused (Torn (length s / 8))) (ofFault (length s / 8) (firstFault N s (length s / 8)))))
 
 -- a refusal changes no cell
 abbrev pub cellsOf : ℕ → List ℕ → List ℕ → Outcome → List ℕ

@@ -9,7 +9,7 @@ use Rattle.switch.specs.declared.Numbers.{Numbers}
 use Rattle.switch.specs.Plan.{Record}
 use Rattle.rules.proofs.Peels.{length-tab}
 use Rattle.records.specs.Bytes.{whole}
-use Rattle.planner.specs.Planned.{Planned}
+use Rattle.switch.specs.Result.{Result}
 use Rattle.turns.proofs.Divided.{fine-asks, divided, asked, holding}
 use Rattle.grating.specs.Grating.{roomed}
 use Rattle.grating.proofs.Divided.{first-part, whole-plan}
@@ -77,7 +77,7 @@ returns-2 c =
     let p = whole-plan v 0 _ first-room (x .0) (x .1) (ap (λ (n : Numbers). n .counts) (c .before .before .before .before .before .before .numbers-of .ensures)) _ (h .holds-are) in
     let e = ap (λ (q : List Record). roomed 64 0 (a .n) q (a .plan .now)) p ∙ fine-answer 64 0 (a .n) (a .cells .now) (a .plan .now) (a .longest) (s .pre .0) in
     let l = c .before .before .lay-parts .ensures in
-    (l .0 ∙ ap (λ (x : Planned). x .outcome) e, l .1 ∙ ap (λ (x : Planned). x .bytes) e)
+    (l .0 ∙ ap (λ (x : Result). x .outcome) e, l .1 ∙ ap (λ (x : Result). x .bytes) e)
 
 pub plan-fine-spec : {M : Type 1} → statement M
 plan-fine-spec =

@@ -8,7 +8,7 @@ use Rattle.switch.specs.Plan.{Record}
 use Rattle.demand.proofs.Check.{fine-asked}
 use Rattle.records.specs.Bytes.{whole, bytes}
 use Rattle.rules.specs.Quick.{quickPlan}
-use Rattle.planner.specs.Planned.{Gives}
+use Rattle.switch.specs.Result.{Gives}
 use Rattle.work.proofs.Cells.{sized-as}
 use Rattle.slot.specs.Filled.{leftover}
 use Rattle.quick.specs.Lent.{laidIf}

@@ -3,7 +3,7 @@ use mathlib.Core.Path.{sym, ap, _∙_}
 use native.Mathlib.Omega.{arith}
 use Rattle.switch.specs.declared.Counts.{Counts}
 use Rattle.records.specs.Bytes.{planFrom, laid}
-use Rattle.records.specs.Write.{Written}
+use Rattle.switch.specs.Result.{Result}
 use Rattle.switch.specs.declared.Edition.{Edition}
 use Rattle.switch.specs.Editions.{firstEdition}
 use Rattle.plans.specs.Read.{checking}
@@ -31,14 +31,14 @@ returns c =
     let a = c .before .before .before .before .before .before .args in
     let r = sym (c .enum-told .given .1) ∙ c .before .before .check-plan .ensures ∙ ap (λ (e : Edition). checking e (a .n) (a .plan .now)) (c .before .before .before .first-edition .ensures) in
     let q = report-refused firstEdition (a .n) (a .plan .now) (a .report .now) r in
-    (c .enum-told .given .1 ∙ ap (λ (w : Written). w .answer) q, ap (λ (w : Written). w .bytes) q)
+    (c .enum-told .given .1 ∙ ap (λ (w : Result). w .outcome) q, ap (λ (w : Result). w .bytes) q)
 
 returns-2 : tie.Need-returns-2
 returns-2 c =
     let a = c .before .before .before .before .before .before .before .before .args in
     let f = sym (c .before .before .checked .given .1) ∙ c .before .before .before .before .check-plan .ensures ∙ ap (λ (e : Edition). checking e (a .n) (a .plan .now)) (c .before .before .before .before .before .first-edition .ensures) in
     let q = report-short firstEdition (a .n) (a .plan .now) (a .report .now) f (c .if1 .taken) in
-    (ap (λ (w : Written). w .answer) q, ap (λ (w : Written). w .bytes) q)
+    (ap (λ (w : Result). w .outcome) q, ap (λ (w : Result). w .bytes) q)
 
 report-records-requires : tie.Need-report-records-requires
 report-records-requires c κs =
@@ -57,10 +57,10 @@ returns-3 c =
     let f = sym (c .before .before .before .before .before .before .checked .given .1) ∙ c .before .before .before .before .before .before .before .before .check-plan .ensures ∙ ap (λ (e : Edition). checking e (a .n) (a .plan .now)) (c .before .before .before .before .before .before .before .before .before .first-edition .ensures) in
     let k = fine-plan (a .n) (a .plan .now) f in
     let q = report-done firstEdition (a .n) (a .plan .now) (a .report .now) f (omega (arith, c .before .before .before .before .if1 .left)) in (
-      ap (λ (w : Written). w .answer) q,
+      ap (λ (w : Result). w .outcome) q,
       c .before .before .report-records .ensures
           ∙ ap (λ (x : Counts). laid (a .report .now) 0 (gratingReport (a .n) (planFrom 64 (a .plan .now) 0 (x .records)))) (k .counts)
-          ∙ ap (λ (w : Written). w .bytes) q,
+          ∙ ap (λ (w : Result). w .bytes) q,
     )
 
 pub grating-report-spec : {M : Type 1} → statement M
