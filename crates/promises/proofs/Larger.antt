@@ -53,7 +53,7 @@ module _ (E : Edition) (N k : ℕ) (d buf : List ℕ) (some : 1 ≤ k) (fits : l
       × (exactGiven E N (multiplied k d) buf .bytes ≡ largerBytes (exactGiven E N d buf .outcome) E N k d buf)
 
   -- it is enough to know what both calls give
-  known : (R S : Planned) → exactGiven E N d buf ≡ R → exactGiven E N (multiplied k d) buf ≡ S → S .outcome ≡ larger k (R .outcome)
+  known : (R S : Result) → exactGiven E N d buf ≡ R → exactGiven E N (multiplied k d) buf ≡ S → S .outcome ≡ larger k (R .outcome)
       → S .bytes ≡ largerBytes (R .outcome) E N k d buf → Scaled
   known R S a b o s = (
     ap (λ (x : Result). x .outcome) b ∙ o ∙ ap (λ (x : Result). larger k (x .outcome)) (sym a),

@@ -12,6 +12,7 @@ pub mod Listing
 pub mod Spread
 pub mod Grating
 pub mod Worked
+pub mod Fair
 pub mod Planner
 pub mod Exact
 pub mod Doubled

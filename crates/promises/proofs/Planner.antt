@@ -18,8 +18,6 @@ use Rattle.switch.specs.Plan.{Record, total, Covers}
 use Rattle.switch.specs.Sound.{Each, Sound}
 use Rattle.switch.specs.Empty.{emptySlots}
 use Rattle.switch.proofs.Answer.{code-done}
-use Rattle.switch.proofs.Check.{some-ports}
-use Rattle.switch.proofs.Demand.{row-le-longest, col-le-longest, longest-le}
 use Rattle.switch.proofs.Sound.{each-width}
 use Rattle.demand.specs.declared.Checked.{Checked}
 use Rattle.demand.specs.declared.Checked.the-variants.{Fine, Faulty}
@@ -39,41 +37,21 @@ use Rattle.planner.proofs.Planned.{planned-faulty, planned-short, planned-done,
 use Rattle.audit.specs.Check.{checkPlan}
 use Rattle.audit.proofs.Passes.{sound-passes}
 use Rattle.promises.proofs.Laid.{laid-front, laid-behind}
-use Rattle.promises.specs.Planner.{Serves, Fair, Taken, counted, partOf, planIn, Delivers, Plans}
-
--- ---- a fair demand is one that no check refuses
-
-module _ (E : Edition) (N : ℕ) (d : List ℕ) where
-  pub fair-longest : {most : ℕ} → Fair E most N d → longest N (cell N d) ≤ most
-  fair-longest {most} f = longest-le N most (cell N d) (f .rows) (f .columns)
-
-  pub fair-fine : {most : ℕ} → most ≤ 65535 → Fair E most N d → Fine (longest N (cell N d)) ≡ checkDemand (E .ports) N d
-  fair-fine l f = demand.fine (E .ports) N d (some-ports (E .ports) N (f .some) (f .few)) (f .cells) (omega (arith, l, fair-longest f))
-
-  pub fine-fair : (T most : ℕ) → Fine T ≡ checkDemand (E .ports) N d → T ≤ most → Fair E most N d
-  fine-fair T most e l =
-      let a = demand.fine-asked (E .ports) N T d (sym e) in record {
-        some = a .some;
-        few = a .few;
-        cells = a .size;
-        rows = λ i h. omega (arith, row-le-longest N (cell N d) i h, a .longest-is);
-        columns = λ j h. omega (arith, col-le-longest N (cell N d) j h, a .longest-is);
-      }
+use Rattle.promises.proofs.Outcomes.{never}
+use Rattle.promises.proofs.Fair.{fair-longest, fair-fine, fine-fair, not-fine, faulty-fault}
+use Rattle.promises.specs.Planner.{Serves, Fair, Taken, Why, faulty, over-limit, no-room, counted, partOf, planIn, Delivers, Plans}
 
 -- ---- the two results
 
--- a refusal, where something is not taken; or the plan written, where all is
+-- a refusal with its reason, where something is not taken; or the plan written, where all is
 data Results (E : Edition) (most N : ℕ) (d : List ℕ) (p : List Record) (buf : List ℕ) : Result → Type 0 where
-  refused : (f : Refusal) → (Taken E most N d p buf → ⊥) → Results E most N d p buf (refuses f buf)
+  refused : (f : Refusal) → (Taken E most N d p buf → ⊥) → Why E most N d p buf f → Results E most N d p buf (refuses f buf)
   written : Taken E most N d p buf → Results E most N d p buf (writes (E .byte) N (longest N (cell N d)) (emptySlots N (cell N d) p) p buf)
 
 -- an edition whose planners take as many ports as its records have outputs
 module _ (E : Edition) (square : E .ports ≡ E .width) (N : ℕ) (d : List ℕ) (p : List Record) (buf : List ℕ) where
   checks : {o : Checked} → o ≡ checkDemand (E .ports) N d → checkDemand (E .width) N d ≡ o
   checks e = ap (λ (m : ℕ). checkDemand m N d) (sym square) ∙ sym e
-
-  not-fine : {f : Refusal} {T : ℕ} {A : Type 0} → Faulty f ≡ Fine T → A
-  not-fine e = let z : _≡_ {A = ℕ} 0 1 = cc in absurd (let g : ⊥ = omega arith in g)
 
   -- a demand that is checked
   module _ (most : ℕ) (few : most ≤ 65535) (T : ℕ) (q : Fine T ≡ checkDemand (E .ports) N d) where
@@ -89,25 +67,27 @@ module _ (E : Edition) (square : E .ports ≡ E .width) (N : ℕ) (d : List ℕ)
     long : most < T → Taken E most N d p buf → ⊥
     long l t = omega (arith, l, fair-longest E N d (t .fair), longest-is)
 
-  faulty : (most : ℕ) → most ≤ 65535 → (f : Refusal) → Faulty f ≡ checkDemand (E .ports) N d → Taken E most N d p buf → ⊥
-  faulty most few f q t = not-fine (q ∙ sym (fair-fine E N d few (t .fair)))
+  faulty-not : (most : ℕ) → most ≤ 65535 → (f : Refusal) → Faulty f ≡ checkDemand (E .ports) N d → Taken E most N d p buf → ⊥
+  faulty-not most few f q t = not-fine E N d (q ∙ sym (fair-fine E N d few (t .fair)))
 
   limited-results : (most : ℕ) → most ≤ 65535 → Results E most N d p buf (plannedUpTo most (E .width) (E .byte) N d p buf)
   limited-results most few = by-demand (checkDemand (E .ports) N d) refl
     where
       by-room : (T : ℕ) → Fine T ≡ checkDemand (E .ports) N d → Dec (most < T) → Dec (whole (E .width) buf < length p)
           → Results E most N d p buf (plannedUpTo most (E .width) (E .byte) N d p buf)
-      by-room T q (yes h) x = rw (limited-long most (E .width) (E .byte) N d p buf T (checks q) h) (refused Longest (long most few T q h))
+      by-room T q (yes h) x = rw (limited-long most (E .width) (E .byte) N d p buf T (checks q) h) (refused Longest (long most few T q h)
+          (over-limit (fine-fair E N d T 65535 q (demand.fine-asked (E .ports) N T d (sym q) .small)) (omega (arith, h, longest-is most few T q))))
       by-room T q (no h) (yes l) =
           rw (limited-short most (E .width) (E .byte) N d p buf T (checks q) (omega (arith, h)) l)
-          (refused (Room (length p)) (λ t. omega (arith, l, t .room)))
+          (refused (Room (length p)) (λ t. omega (arith, l, t .room)) (no-room (fine-fair E N d T most q (omega (arith, h))) l))
       by-room T q (no h) (no l) =
           let a : T ≤ most = omega (arith, h) in
           let b : length p ≤ whole (E .width) buf = omega (arith, l) in
           fits most few T q a b (limited-done most (E .width) (E .byte) N d p buf T (checks q) a b)
 
       by-demand : (o : Checked) → o ≡ checkDemand (E .ports) N d → Results E most N d p buf (plannedUpTo most (E .width) (E .byte) N d p buf)
-      by-demand (Faulty f) q = rw (limited-faulty most (E .width) (E .byte) N d p buf f (checks q)) (refused f (faulty most few f q))
+      by-demand (Faulty f) q =
+          rw (limited-faulty most (E .width) (E .byte) N d p buf f (checks q)) (refused f (faulty-not most few f q) (faulty (faulty-fault E N d f q)))
       by-demand (Fine T) q = by-room T q (decLt most T) (decLt (whole (E .width) buf) (length p))
 
   -- a planner without a limit of its own: no line is over 65,535
@@ -117,13 +97,16 @@ module _ (E : Edition) (square : E .ports ≡ E .width) (N : ℕ) (d : List ℕ)
       by-room : (T : ℕ) → Fine T ≡ checkDemand (E .ports) N d → Dec (whole (E .width) buf < length p)
           → Results E 65535 N d p buf (planned (E .width) (E .byte) N d p buf)
       by-room T q (yes l) =
-          rw (planned-short (E .width) (E .byte) N d p buf T (checks q) l) (refused (Room (length p)) (λ t. omega (arith, l, t .room)))
+          rw (planned-short (E .width) (E .byte) N d p buf T (checks q) l)
+          (refused (Room (length p)) (λ t. omega (arith, l, t .room))
+          (no-room (fine-fair E N d T 65535 q (demand.fine-asked (E .ports) N T d (sym q) .small)) l))
       by-room T q (no l) =
           let b : length p ≤ whole (E .width) buf = omega (arith, l) in
           fits 65535 (omega arith) T q (demand.fine-asked (E .ports) N T d (sym q) .small) b (planned-done (E .width) (E .byte) N d p buf T (checks q) b)
 
       by-demand : (o : Checked) → o ≡ checkDemand (E .ports) N d → Results E 65535 N d p buf (planned (E .width) (E .byte) N d p buf)
-      by-demand (Faulty f) q = rw (planned-faulty (E .width) (E .byte) N d p buf f (checks q)) (refused f (faulty 65535 (omega arith) f q))
+      by-demand (Faulty f) q =
+          rw (planned-faulty (E .width) (E .byte) N d p buf f (checks q)) (refused f (faulty-not 65535 (omega arith) f q) (faulty (faulty-fault E N d f q)))
       by-demand (Fine T) q = by-room T q (decLt (whole (E .width) buf) (length p))
 
 -- ---- what the written plan is worth
@@ -183,24 +166,32 @@ module _ (E : Edition) (serves : Serves E) (most : ℕ) (small : most ≤ 65535)
   -- a result as one of the two has all that is promised
   promised : {x : Result} → Results E most N d p buf x → (r : Outcome) (after : List ℕ) → r ≡ x .outcome → after ≡ x .bytes
       → Plans E most N d p Worth buf r after
-  promised (refused f h) r after o b = record {
+  promised (refused f h why) r after o b = record {
     taken = λ e. absurd (not-done e);
     takes = λ t. absurd (h t);
     delivers = λ e. absurd (not-done e);
-    refuses = λ _. (ap countsOf o, b);
+    reads-back = λ e. absurd (not-done e);
+    refuses = λ g e. (subst (Why E most N d p buf) (same-refusal (sym o ∙ e)) why, ap countsOf o, b);
   }
     where
+      same-refusal : {a c : Refusal} → Refused a ≡ Refused c → a ≡ c
+      same-refusal q = cc
+
       not-done : codeOf r ≡ 0 → ⊥
       not-done e = let q : Refused f ≡ Done (countsOf r) = sym o ∙ code-done r e in let z : _≡_ {A = ℕ} 0 1 = cc in omega arith
   promised (written t) r after o b = record {
     taken = λ _. t;
     takes = λ _. ap codeOf outcome-is;
-    delivers = λ _. written-delivers t r after outcome-is (b ∙ (unfold writes in refl));
-    refuses = λ h. absurd (h (ap codeOf outcome-is));
+    delivers = λ _. written-delivers t r after outcome-is bytes-are;
+    reads-back = λ _. back t r after outcome-is bytes-are;
+    refuses = λ f e. never (sym e ∙ outcome-is);
   }
     where
       outcome-is : r ≡ Done (demandCounts (length p) (longest N (cell N d)) (total p) (emptySlots N (cell N d) p))
       outcome-is = o ∙ (unfold writes in refl)
+
+      bytes-are : after ≡ laid buf 0 (bytes (E .byte) N p)
+      bytes-are = b ∙ (unfold writes in refl)
 
   -- the contract of a planner with a limit
   pub limited-promise : (r : Outcome) (after : List ℕ) → r ≡ plannedUpTo most (E .width) (E .byte) N d p buf .outcome

@@ -13,7 +13,8 @@ use Rattle.planner.specs.Planned.{plannedUpTo}
 use Rattle.promises.specs.Calls.{QuickPlan}
 use Rattle.promises.specs.Planner.{Serves, Fair}
 use Rattle.promises.specs.Quick.{PlansQuickly}
-use Rattle.promises.proofs.Planner.{Ready, limited-promise, first-serves, fair-longest, fair-top, fair-small, fair-square}
+use Rattle.promises.proofs.Fair.{fair-longest}
+use Rattle.promises.proofs.Planner.{Ready, limited-promise, first-serves, fair-top, fair-small, fair-square}
 
 module _ (E : Edition) (serves : Serves E) (N : ℕ) (d : List ℕ) where
   quick-ready : Fair E 1024 N d → Ready E N d (quickPlan (E .width) N d) (Quick N d)

@@ -25,7 +25,7 @@ use Rattle.plans.specs.declared.Stepped.{Stepped}
 use Rattle.switch.specs.Editions.{firstEdition, Bounded}
 use Rattle.plans.specs.Read.{opening, given, nothing, stepIn, stepAt, malformed, checking}
 use Rattle.switch.proofs.Editions.{first-bounded}
-use Rattle.plans.proofs.Read.{opening-done, opened, opened-records, check-malformed, check-opened}
+use Rattle.plans.proofs.Read.{opening-done, opened, opened-records}
 use Rattle.plans.proofs.Read.{step-end, step-malformed, step-record, step-opened, step-refused}
 use Rattle.plans.proofs.Plans.{passes, malformed-first, checked}
 use Rattle.reader.specs.declared.Reader.{Reader}
@@ -33,7 +33,7 @@ use Rattle.reader.specs.declared.Opened.{Opened}
 use Rattle.reader.specs.Reader.{starting, movedTo}
 use Rattle.promises.specs.Calls.{OpenPlan, StepAt, OpenReader, ReaderStep}
 use Rattle.promises.specs.Reading.{Openable, GoodPlan, FirstDamaged, Opens, StepGives, ReadStep, Steps, none, more}
-use Rattle.promises.proofs.Outcomes.{never, not-zero}
+use Rattle.promises.proofs.Outcomes.{not-zero}
 
 -- ---- opening
 
@@ -80,17 +80,11 @@ module _ (E : Edition) (N : ℕ) (plan : List ℕ) where
         sym (passes E N plan (sym (openable-opens (g .opens))) (λ k l. means-fine bounds (g .opens .few) k l (g .each k l)))
 
     pub checks-good : (c : Counts) → checking E N plan ≡ Done c → GoodPlan E N plan
-    checks-good c e = record { opens = o; each = each (decLt fault (whole (E .width) plan)) }
-      where
-        fault : ℕ
-        fault = malformed (E .width) (E .byte) N plan (whole (E .width) plan) 0
-
-        o : Openable E N plan
-        o = let k = checked E N plan bounds c (sym e) in record { some = k .some; few = k .few; even = k .even; most = k .most }
-
-        each : Dec (fault < whole (E .width) plan) → (k : ℕ) → k < whole (E .width) plan → WellFormed (E .width) (E .byte) N (recordAt (E .width) plan k)
-        each (yes l) k _ = never (check-malformed E N plan _ fault refl l ∙ check-opened E N plan (sym (openable-opens o)) ∙ e)
-        each (no l) k lk = first-damaged bounds (o .few) .before k (omega (arith, l))
+    checks-good c e =
+        let h = checked E N plan bounds c (sym e) in record {
+          opens = record { some = h .some; few = h .few; even = h .even; most = h .most };
+          each = λ k l. fine-means bounds (h .few) k l (h .formed k l);
+        }
 
 -- what opening answers
 pub open-promise : (N : ℕ) (plan : List ℕ) (r : Outcome) → OpenPlan N plan r → Opens N plan r

@@ -44,7 +44,7 @@ use Rattle.promises.specs.Calls.{ExactPlan, DoubledPlan, EveryRotation, 
 use Rattle.promises.specs.Doubled.{Rule, tight, every, planBy, PlansDoubled}
 use Rattle.promises.specs.Planner.{Taken, counted, partOf, planIn, Plans}
 use Rattle.promises.specs.Wrong.{Modest, allRotations, FirstCarriesAll, Telling, Right}
-use Rattle.promises.proofs.Planner.{fine-fair}
+use Rattle.promises.proofs.Fair.{fine-fair}
 use Rattle.promises.proofs.Exact.{exact-plan-promise}
 use Rattle.promises.proofs.Doubled.{both-doubled, doubled-plan-promise, every-rotation-promise}
 use Rattle.promises.proofs.Quick.{quick-plan-promise}

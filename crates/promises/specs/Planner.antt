@@ -5,11 +5,15 @@ use Prim.Native.Nat.{ℕ, _+_, _*_, _<_, _≤_}
 use lib.ListN.{length, take, drop}
 use Rattle.counting.specs.Matrix.{row, col}
 use Rattle.switch.specs.declared.Outcome.{Outcome}
+use Rattle.switch.specs.declared.Outcome.the-variants.{Refused}
+use Rattle.switch.specs.declared.Refusal.{Refusal}
+use Rattle.switch.specs.declared.Refusal.the-variants.{Ports, Cells, Line, Longest, Room}
 use Rattle.switch.specs.Answer.{codeOf, countsOf, noCounts, demandCounts}
-use Rattle.switch.specs.Demand.{cell, longest}
+use Rattle.switch.specs.Demand.{cell, line, longest}
 use Rattle.switch.specs.Plan.{Record, total}
 use Rattle.switch.specs.Sound.{Each, Sound}
 use Rattle.switch.specs.Empty.{emptySlots}
+use Rattle.demand.specs.Lines.{lineSide}
 use Rattle.records.specs.Bytes.{whole, planOf}
 use Rattle.switch.specs.declared.Edition.{Edition}
 use Rattle.switch.specs.Editions.{Bounded}
@@ -30,10 +34,28 @@ pub record Fair (E : Edition) (most N : ℕ) (d : List ℕ) : Type 0 where
   pub rows : (i : ℕ) → i < N → row N (cell N d) i ≤ most
   pub columns : (j : ℕ) → j < N → col N (cell N d) j ≤ most
 
--- and a buffer that holds as many whole records as the plan p has
+-- what a demand is refused for, each fault only where none before it is
+pub data Fault (E : Edition) (N : ℕ) (d : List ℕ) : Refusal → Type 0 where
+  -- code 1: N is 0 or over the edition's most
+  bad-ports : (0 < N → N ≤ E .ports → ⊥) → Fault E N d Ports
+  -- code 2: the cells are not N²
+  bad-cells : 0 < N → N ≤ E .ports → (length d ≡ N * N → ⊥) → Fault E N d (Cells (N * N))
+  -- code 3: line k, the inputs' rows before the outputs' columns, is the first that sums over 65,535
+  long-line : 0 < N → N ≤ E .ports → length d ≡ N * N → (k : ℕ) → k < N + N → 65535 < line N d k → ((j : ℕ) → j < k → line N d j ≤ 65535)
+      → Fault E N d (Line (lineSide N k))
+
+-- a demand that is taken, and a buffer that holds as many whole records as the plan p has
 pub record Taken (E : Edition) (most N : ℕ) (d : List ℕ) (p : List Record) (buf : List ℕ) : Type 0 where
   pub fair : Fair E most N d
   pub room : length p ≤ whole (E .width) buf
+
+-- why a planner refuses
+pub data Why (E : Edition) (most N : ℕ) (d : List ℕ) (p : List Record) (buf : List ℕ) : Refusal → Type 0 where
+  faulty : {f : Refusal} → Fault E N d f → Why E most N d p buf f
+  -- code 4: no line is over 65,535, and T is over the planner's own limit
+  over-limit : Fair E 65535 N d → most < longest N (cell N d) → Why E most N d p buf Longest
+  -- code 5: the buffer holds fewer whole records than the plan has
+  no-room : Fair E most N d → whole (E .width) buf < length p → Why E most N d p buf (Room (length p))
 
 -- the bytes of the records that an answer counts
 abbrev pub counted : Edition → Outcome → ℕ
@@ -58,10 +80,11 @@ pub record Delivers (E : Edition) (N : ℕ) (d buf : List ℕ) (Worth : List Rec
   pub behind : drop (counted E r) after ≡ drop (counted E r) buf
 
 -- what a planner promises of its outcome r and of the buffer `after` it, where its rule makes the plan p: code 0 exactly when the demand and the
--- buffer are taken; then it delivers; and with any other code nothing is counted and no byte of the buffer is changed
+-- buffer are taken; then it delivers, and what reads back is p; and a refusal has its reason, counts nothing and changes no byte of the buffer
 pub record Plans (E : Edition) (most N : ℕ) (d : List ℕ) (p : List Record) (Worth : List Record → Type 0) (buf : List ℕ) (r : Outcome) (after : List ℕ)
     : Type 0 where
   pub taken : codeOf r ≡ 0 → Taken E most N d p buf
   pub takes : Taken E most N d p buf → codeOf r ≡ 0
   pub delivers : codeOf r ≡ 0 → Delivers E N d buf Worth r after
-  pub refuses : (codeOf r ≡ 0 → ⊥) → (countsOf r ≡ noCounts) × (after ≡ buf)
+  pub reads-back : codeOf r ≡ 0 → planIn E r after ≡ p
+  pub refuses : (f : Refusal) → r ≡ Refused f → Why E most N d p buf f × (countsOf r ≡ noCounts) × (after ≡ buf)
