@@ -16,7 +16,6 @@ use Rattle.switch.specs.Demand.{cell}
 use Rattle.switch.specs.Check.{portsFine}
 use Rattle.switch.specs.Plan.{Record, total}
 use Rattle.switch.specs.Empty.{emptySlots}
-use Rattle.switch.proofs.Answer.{determined}
 use Rattle.switch.proofs.Check.{some-ports}
 use Rattle.demand.specs.declared.Checked.{Checked}
 use Rattle.demand.specs.declared.Checked.the-variants.{Fine, Faulty}
@@ -146,10 +145,6 @@ module _ (s t d d' : List ℕ) (n : ℕ) (p : Put s d 0 d' n) (same : s ≡ t) w
     where
       start : take n (laid d 0 s) ≡ s
       start = unfold laid in take-at s (drop (0 + length s) d) n (omega (arith, p .place))
-
--- two results that meet the contract are equal
-pub one-listing : (s d : List ℕ) (n m : ℕ) (e f : List ℕ) → n ≡ length (listingOf s) → m ≡ length (listingOf s) → e ≡ laid d 0 (listingOf s) → f ≡ laid d 0 (listingOf s) → (n ≡ m) × (e ≡ f)
-one-listing s d n m e f a b x y = (determined n m _ a b, determined e f _ x y)
 
 -- as many bytes as are listed stand in the text
 pub shown : (s t : List ℕ) (n : ℕ) → n ≡ length s → take n t ≡ s → (n ≤ length t) × (n ≡ length (take n t))

@@ -1,4 +1,4 @@
--- The contract gives the answer and the report by a definition, so it determines both; and each byte written is what it says of its record.
+-- The bytes of a report stand at the buffer's start, so each byte written is what it says of its record, and the later ones are as they were.
 use mathlib.Core.Path.{_≡_, sym, ap, _∙_, subst}
 use mathlib.Core.List.{List, _++_}
 use Prim.Native.Nat.{ℕ, _+_, _-_, _<_, _≤_}
@@ -6,9 +6,7 @@ use native.Mathlib.Omega.{arith}
 use lib.ListN.{length, getD, drop, List·getD-append}
 use lib.Seq.{getD-append-add, getD-drop}
 use Rattle.switch.specs.declared.Counts.{Counts}
-use Rattle.switch.specs.declared.Outcome.{Outcome}
 use Rattle.switch.specs.declared.Outcome.the-variants.{Done}
-use Rattle.switch.proofs.Answer.{determined}
 use Rattle.records.specs.Record.{decoded}
 use Rattle.records.specs.Bytes.{recordAt, planOf, whole, laid}
 use Rattle.switch.specs.Result.{Result}
@@ -21,14 +19,6 @@ use Rattle.wavelengths.specs.Shared.{mostShared, gratingReport, MostShar
 use Rattle.wavelengths.specs.Report.{reported}
 use Rattle.wavelengths.proofs.Shared.{most-shared}
 use Rattle.wavelengths.proofs.Report.{report-done, length-report, report-at}
-
--- any two answers, and any two reports afterwards, that satisfy the contract are equal
-module _ (E : Edition) (N : ℕ) (plan buf : List ℕ) where
-  pub same-answer : (r s : Outcome) → r ≡ reported E N plan buf .outcome → s ≡ reported E N plan buf .outcome → r ≡ s
-  same-answer r s p q = determined r s _ p q
-
-  pub same-bytes : (l m : List ℕ) → l ≡ reported E N plan buf .bytes → m ≡ reported E N plan buf .bytes → l ≡ m
-  same-bytes l m p q = determined l m _ p q
 
 -- a list laid at the start
 module _ (d s : List ℕ) where

@@ -2,14 +2,14 @@
 use Prim.Native.Nat.{ℕ, _*_, _<_, _≤_}
 use native.Mathlib.Nat.{mul-le-mul-right}
 use native.Mathlib.Omega.{arith}
-use mathlib.Core.Path.{_≡_, refl, sym, _∙_}
+use mathlib.Core.Path.{_≡_, refl, sym}
 use mathlib.Core.Bool.{Bool, true, false, true≢false}
 use borrow.Author.Tests.{ltb-true, ltb-false, lt-ltb, le-ltb}
 use lib.Dec.{ltb}
 use lib.IntN.{ℤ}
 use lib.Ieee.{Float, nan, inf, fin, up, down}
 use lib.Ieee.Fits.{down-pos}
-use Rattle.wish.specs.Wish.{mostSlots, ceil, worth, finite, wishOf, wishBits}
+use Rattle.wish.specs.Wish.{mostSlots, ceil, worth, finite, wishOf}
 use Rattle.wish.specs.Meaning.{Answers, a-nan, an-infinity, below-zero, above-most, its-slots}
 use Rattle.wish.specs.declared.Wish.{Wish}
 use Rattle.wish.specs.declared.Wish.the-variants.{Slots, BelowZero, AboveMost}
@@ -73,10 +73,3 @@ only (its-slots {s} {m} {e} {k} z l h) =
     let fits : m * up e ≤ mostSlots * down e = omega (arith, l .enough, mul-le-mul-right (down e) h) in
     let same = least-unique (m * up e) (down e) k (ceil (m * up e) (down e)) l (ceil-least (m * up e) (down e) (down-pos e)) in
     rw (finite-slots s (m * up e) (down e) z fits, same)
-
--- two answers that meet the contract of `classify` are equal, and two that meet `of_bits`'s
-pub one-answer : (x : Float) (v w : Wish) → v ≡ wishOf x → w ≡ wishOf x → v ≡ w
-one-answer x v w p q = p ∙ sym q
-
-pub one-answer-bits : (b : ℕ) (v w : Wish) → v ≡ wishBits b → w ≡ wishBits b → v ≡ w
-one-answer-bits b v w p q = p ∙ sym q

@@ -1,6 +1,6 @@
 -- The call's answer, way by way: each refusal is given exactly where its test is the first that fails.
 use Prim.Native.Nat.{ℕ, _*_, _/_, _%_}
-use mathlib.Core.Path.{_≡_, sym, ap, _∙_}
+use mathlib.Core.Path.{_≡_, sym, ap}
 use mathlib.Core.Bool.{true, false}
 use mathlib.Core.List.{List}
 use lib.ListN.{length}
@@ -20,10 +20,6 @@ Result most N s cells o after = (o ≡ outcome most N s (length cells)) × (afte
 pub result : (most N : ℕ) (s cells : List ℕ) (o : Outcome) → outcome most N s (length cells) ≡ o → Result most N s cells o (cellsOf N s cells o)
 unfolding cellsAfter
 result most N s cells o h = (sym h, ap (cellsOf N s cells) (sym h))
-
--- two results that meet the contract are equal
-pub one-result : (most N : ℕ) (s cells : List ℕ) (o p : Outcome) (d e : List ℕ) → Result most N s cells o d → Result most N s cells p e → (o ≡ p) × (d ≡ e)
-one-result most N s cells o p d e x y = (x .0 ∙ sym (y .0), x .1 ∙ sym (y .1))
 
 module _ (most N : ℕ) (s : List ℕ) (len : ℕ) where
   pub bad-ports : portsFine most N ≡ false → outcome most N s len ≡ Refused Ports
