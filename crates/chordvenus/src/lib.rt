@@ -14,8 +14,8 @@ ghost use Rattle.planner.specs.Planned.{planned, plannedUpTo};
 ghost use Rattle.records.specs.Write.{written};
 ghost use Rattle.switch.specs.Editions.{firstEdition};
 ghost use Rattle.plans.specs.Read.{opening, stepAt, stepPlace};
-ghost use Rattle.audit.specs.Check.{checkPlan};
-ghost use Rattle.audit.specs.Length.{planLength};
+ghost use Rattle.checker.specs.Check.{checkPlan};
+ghost use Rattle.length.specs.Length.{planLength};
 ghost use Rattle.joining.specs.Join.{joining};
 ghost use Rattle.wavelengths.specs.Report.{reported};
 ghost use Rattle.grating.specs.Grating.{gratingPlanned};
@@ -141,7 +141,7 @@ pub extern "C" fn cv_grating_report(n: usize, plan: &[u8], report: &mut [u8]) ->
 pub extern "C" fn cv_check(n: usize, cells: &[u32], plan: &[u8]) -> CvAnswer
     ensures { λ r. ⌜ r ≡ flat (checkPlan firstEdition n (now (cells .entry)) (now (plan .entry))) ⌝ }
 {
-    flatten(audit::check_plan(n, cells, plan))
+    flatten(checker::check_plan(n, cells, plan))
 }
 
 // The length of a plan at a switching time of d slots.
@@ -149,7 +149,7 @@ pub extern "C" fn cv_check(n: usize, cells: &[u32], plan: &[u8]) -> CvAnswer
 pub extern "C" fn cv_length(n: usize, plan: &[u8], d: u16) -> CvAnswer
     ensures { λ r. ⌜ r ≡ flat (planLength firstEdition d n (now (plan .entry))) ⌝ }
 {
-    flatten(audit::plan_length(n, plan, d))
+    flatten(length::plan_length(n, plan, d))
 }
 
 // A plan with its equal settings joined, into a second buffer.

@@ -1,3 +1,5 @@
 pub mod Read
 pub mod Plans
 pub mod Trips
+pub mod Reading
+pub mod Pass

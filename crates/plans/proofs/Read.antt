@@ -22,7 +22,7 @@ use Rattle.switch.proofs.Check.{no-ports, many-ports, some-ports}
 use Rattle.switch.specs.declared.Edition.{Edition}
 use Rattle.plans.specs.declared.Step.the-variants as step
 use Rattle.plans.specs.declared.Stepped.{Stepped}
-use Rattle.records.specs.Record.{hold, wellFormed}
+use Rattle.records.specs.Record.{wellFormed}
 use Rattle.records.specs.Bytes.{recordAt, whole, planFrom}
 use Rattle.switch.specs.Editions.{firstEdition, Bounded}
 use Rattle.plans.specs.Read.{opening, nothing, given, stepIn, stepAt, malformed, checkingIn, checking}
@@ -164,13 +164,3 @@ module _ (E : Edition) (N : ℕ) (plan : List ℕ) where
     pub check-done : (t : ℕ) → m ≤ k → t ≡ total (planFrom (E .width) plan 0 m) → Done (planCounts m 0 t) ≡ checkingIn m E N plan
     unfolding checkingIn
     check-done t l s = rw (← e, le-ltb _ _ l, ← s)
-
--- the sum of the holds, one record more at a time
-module _ (W : ℕ) (plan : List ℕ) where
-  pub total-more : (m k : ℕ) → k < m → total (planFrom W plan k (m - k)) ≡ hold (recordAt W plan k) + total (planFrom W plan (k + 1) (m - (k + 1)))
-  unfolding total planFrom
-  total-more m k l = let s : m - k ≡ suc (m - suc k) = omega arith in rw (add-one, s)
-
-  pub total-end : (m k : ℕ) → m ≤ k → total (planFrom W plan k (m - k)) ≡ 0
-  unfolding total planFrom
-  total-end m k l = let s : m - k ≡ 0 = omega arith in rw s

@@ -12,12 +12,12 @@ use switch::Outcome;
 use switch::Refusal;
 use switch::first_edition;
 ghost use mathlib.Core.Path.{_≡_};
-ghost use Prim.Native.Nat.{_+_, _*_, _<_, _≤_};
+ghost use Prim.Native.Nat.{_<_, _≤_};
 ghost use lib.ListN.{length};
-ghost use Rattle.switch.specs.Plan.{total};
-ghost use Rattle.records.specs.Bytes.{recordAt, whole, planFrom};
 ghost use Rattle.switch.specs.Editions.{firstEdition, Bounded};
-ghost use Rattle.plans.specs.Read.{opening, nothing, given, stepAt, malformed, checking};
+ghost use Rattle.records.specs.Bytes.{recordAt, whole};
+ghost use Rattle.plans.specs.Read.{opening, nothing, given, stepAt, checking};
+ghost use Rattle.plans.specs.Reading.{Readable, Passed};
 
 // What a step over a plan finds.
 pub enum Step {
@@ -132,48 +132,40 @@ pub fn check_plan(n: usize, plan: &[u8], e: Edition) -> Outcome
         return opened;
     };
     let records = counts.records;
-    let k = first_malformed(n, plan, e.width, e.byte, records);
-    if k < records {
-        return Outcome::Refused(Refusal::Malformed(k));
+    let judged = judge(n, plan, e, records);
+    if judged.records < records {
+        return Outcome::Refused(Refusal::Malformed(judged.records));
     }
-    Outcome::Done(Counts {
+    Outcome::Done(counted(records, judged.total, 0))
+}
+
+// One pass over a plan's first records, up to the first that is not well formed: each hold goes to the total.
+fn judge(n: usize, plan: &[u8], e: Edition, records: usize) -> Counts
+    requires { ⌜ Readable e n (now plan) records ⌝ }
+    ensures { λ r. ⌜ Passed e n (now (plan .entry)) records (r .records) (r .total) ⌝ }
+{
+    let mut total: u64 = 0;
+    for k in 0..records {
+        let rec = record_at(plan, e.width, k);
+        if !records::record_fine(rec, n, e.byte) {
+            return counted(k, total, 0);
+        }
+        total += records::hold_of(rec) as u64;
+    }
+    counted(records, total, 0)
+}
+
+// How far a pass over a plan came.
+pub fn counted(records: usize, total: u64, length: u64) -> Counts
+    ensures { λ r. ⌜ r ≡ record { records = records; longest = 0; total = total; length = length; empty = 0 } ⌝ }
+{
+    Counts {
         records,
         longest: 0,
-        total: total_hold(plan, e.width, records),
-        length: 0,
+        total,
+        length,
         empty: 0,
-    })
-}
-
-// The first of a plan's records that is not well formed, or the number of records.
-fn first_malformed(n: usize, plan: &[u8], width: usize, edition: u8, records: usize) -> usize
-    requires { ⌜ (n ≤ width) × (width ≤ 128) × (records ≤ 65536) × (records * (width + 4) ≤ length (now plan)) ⌝ }
-    ensures { λ r. ⌜ r ≡ malformed width edition n (now (plan .entry)) records 0 ⌝ }
-{
-    let size = width + HEAD;
-    for k in 0..records {
-        let from = k * size;
-        let to = from + size;
-        if !records::record_fine(&plan[from..to], n, edition) {
-            return k;
-        }
     }
-    records
-}
-
-// The holds of a plan's first records, summed.
-fn total_hold(plan: &[u8], width: usize, records: usize) -> u64
-    requires { ⌜ (width ≤ 128) × (records ≤ 65536) × (records * (width + 4) ≤ length (now plan)) ⌝ }
-    ensures { λ r. ⌜ r ≡ total (planFrom width (now (plan .entry)) 0 records) ⌝ }
-{
-    let size = width + HEAD;
-    let mut sum: u64 = 0;
-    for k in 0..records {
-        let from = k * size;
-        let to = from + size;
-        sum += records::hold_of(&plan[from..to]) as u64;
-    }
-    sum
 }
 
 // Record k of a plan.

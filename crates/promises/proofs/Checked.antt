@@ -24,12 +24,12 @@ use Rattle.switch.specs.Editions.{firstEdition, Bounded}
 use Rattle.plans.specs.Read.{opening, malformed}
 use Rattle.switch.proofs.Editions.{first-bounded}
 use Rattle.plans.proofs.Read.{opening-torn, opening-many, opening-done}
-use Rattle.audit.specs.Reading.{reading}
-use Rattle.audit.specs.Check.{uncovered, covering, checkPlan}
-use Rattle.audit.proofs.Reading.{after-checking, reading-refused, reading-malformed, reading-whole}
-use Rattle.audit.proofs.Cover.{covered-end, uncovered-short, covering-short, covering-done}
-use Rattle.audit.proofs.Check.{check-faulty, check-fine}
-use Rattle.audit.proofs.Passes.{Reached, reached, Passes, passes}
+use Rattle.plans.specs.Reading.{reading}
+use Rattle.checker.specs.Check.{uncovered, covering, checkPlan}
+use Rattle.plans.proofs.Reading.{after-checking, reading-refused, reading-malformed, reading-whole}
+use Rattle.checker.proofs.Cover.{covered-end, uncovered-short, covering-short, covering-done}
+use Rattle.checker.proofs.Check.{check-faulty, check-fine}
+use Rattle.checker.proofs.Passes.{Reached, reached, Passes, passes}
 use Rattle.promises.specs.Calls.{CheckPlan}
 use Rattle.promises.specs.Planner.{Fair}
 use Rattle.promises.specs.Reading.{Openable, FirstDamaged}
@@ -136,6 +136,6 @@ module _ (E : Edition) (bounds : Bounded E) (N : ℕ) (d plan : List ℕ) where
       passed : codeOf r ≡ 0 → Passes E N d plan (countsOf r)
       passed z = passes E N d plan bounds (countsOf r) (done z)
 
--- any outcome that satisfies the contract of audit::check_plan
+-- any outcome that satisfies the contract of checker::check_plan
 pub check-plan-promise : (N : ℕ) (d plan : List ℕ) (r : Outcome) → CheckPlan N d plan r → Checks firstEdition N d plan r
 check-plan-promise = check-promise firstEdition first-bounded

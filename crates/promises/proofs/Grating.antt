@@ -40,8 +40,8 @@ use Rattle.switch.specs.Editions.{firstEdition}
 use Rattle.plans.specs.Read.{checking}
 use Rattle.switch.proofs.Editions.{first-bounded}
 use Rattle.plans.proofs.Plans.{bytes-pass}
-use Rattle.audit.specs.Check.{checkPlan}
-use Rattle.audit.proofs.Passes.{sound-passes}
+use Rattle.checker.specs.Check.{checkPlan}
+use Rattle.checker.proofs.Passes.{sound-passes}
 use Rattle.rules.proofs.Sound.{doubled-by-sound}
 use Rattle.wavelengths.specs.Shared.{sharing, mostShared, gratingReport}
 use Rattle.wavelengths.specs.Report.{reported}

@@ -15,9 +15,9 @@ use Rattle.switch.specs.Editions.{firstEdition, Bounded}
 use Rattle.plans.specs.Read.{checking}
 use Rattle.switch.proofs.Editions.{first-bounded}
 use Rattle.switch.specs.Result.{byOutcome}
-use Rattle.audit.specs.Reading.{reading}
-use Rattle.audit.specs.Length.{charge, lengthOf, lengthCounts, planLength}
-use Rattle.audit.proofs.Length.{charge-first, charge-moved, charge-kept, length-le, length-none}
+use Rattle.plans.specs.Reading.{reading}
+use Rattle.length.specs.Length.{charge, lengthOf, lengthCounts, planLength}
+use Rattle.length.proofs.Length.{charge-first, charge-moved, charge-kept, length-le, length-none}
 use Rattle.promises.specs.Calls.{PlanLength}
 use Rattle.promises.specs.Length.{Lasts, Measured}
 use Rattle.promises.proofs.Outcomes.{never, same-counts}

@@ -21,7 +21,7 @@ use Rattle.switch.specs.Plan.{total}
 use Rattle.records.specs.Bytes.{bytes}
 use Rattle.rules.proofs.Tight.{tight-most}
 use Rattle.settings.specs.Sums.{sameOutputs}
-use Rattle.audit.specs.Length.{moves, charge, lengthOf}
+use Rattle.length.specs.Length.{moves, charge, lengthOf}
 
 -- every row is given what it says
 pub small-plans : map (λ (r : Asked × Given). give (r .0)) table ≡ map (λ (r : Asked × Given). r .1) table

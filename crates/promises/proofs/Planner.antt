@@ -34,8 +34,8 @@ use Rattle.switch.proofs.Editions.{first-bounded}
 use Rattle.switch.specs.Result.{Result, refuses}
 use Rattle.planner.specs.Planned.{writes, planned, plannedUpTo}
 use Rattle.planner.proofs.Planned.{planned-faulty, planned-short, planned-done, limited-faulty, limited-long, limited-short, limited-done}
-use Rattle.audit.specs.Check.{checkPlan}
-use Rattle.audit.proofs.Passes.{sound-passes}
+use Rattle.checker.specs.Check.{checkPlan}
+use Rattle.checker.proofs.Passes.{sound-passes}
 use Rattle.promises.proofs.Laid.{laid-front, laid-behind}
 use Rattle.promises.proofs.Outcomes.{never}
 use Rattle.promises.proofs.Fair.{fair-longest, fair-fine, fine-fair, not-fine, faulty-fault}

@@ -38,7 +38,7 @@ use Rattle.rules.proofs.Quick.{quick}
 use Rattle.records.specs.Bytes.{whole, recordAt, planFrom}
 use Rattle.switch.specs.declared.Edition.{Edition}
 use Rattle.switch.specs.Editions.{firstEdition}
-use Rattle.audit.proofs.Check.{blank-zeros}
+use Rattle.grants.proofs.Grant.{blank-zeros}
 use Rattle.promises.specs.Papers.{d1}
 use Rattle.promises.specs.Calls.{ExactPlan, DoubledPlan, EveryRotation, QuickPlan}
 use Rattle.promises.specs.Doubled.{Rule, tight, every, planBy, PlansDoubled}

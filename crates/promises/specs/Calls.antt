@@ -21,8 +21,8 @@ use Rattle.plans.specs.Read.{opening, stepAt}
 use Rattle.reader.specs.declared.Reader.{Reader}
 use Rattle.reader.specs.declared.Opened.{Opened}
 use Rattle.reader.specs.Reader.{starting, movedTo}
-use Rattle.audit.specs.Check.{checkPlan}
-use Rattle.audit.specs.Length.{planLength}
+use Rattle.checker.specs.Check.{checkPlan}
+use Rattle.length.specs.Length.{planLength}
 use Rattle.joining.specs.Join.{joining}
 use Rattle.wavelengths.specs.Report.{reported}
 use Rattle.grating.specs.Grating.{gratingPlanned}
@@ -93,11 +93,11 @@ OpenReader N plan o = (o .answer ≡ opening firstEdition N (now plan)) × (o .r
 abbrev pub ReaderStep : Reader → Stepped → Reader → Type 0
 ReaderStep r s r' = (s ≡ stepAt (r .n) (now (r .plan)) (r .at)) × (r' ≡ movedTo r (s .next))
 
--- audit::check_plan(n, cells, plan)
+-- checker::check_plan(n, cells, plan)
 abbrev pub CheckPlan : ℕ → List ℕ → List ℕ → Outcome → Type 0
 CheckPlan N d plan r = r ≡ checkPlan firstEdition N d plan
 
--- audit::plan_length(n, plan, d)
+-- length::plan_length(n, plan, d)
 abbrev pub PlanLength : ℕ → List ℕ → ℕ → Outcome → Type 0
 PlanLength N plan d r = r ≡ planLength firstEdition d N plan
 

@@ -13,7 +13,7 @@ use Rattle.switch.specs.Plan.{grant, total, Covers}
 use Rattle.switch.specs.Empty.{emptySlots}
 use Rattle.records.specs.Bytes.{whole, planOf}
 use Rattle.switch.specs.declared.Edition.{Edition}
-use Rattle.audit.specs.Check.{Short}
+use Rattle.checker.specs.Check.{Short}
 use Rattle.promises.specs.Reading.{Openable, GoodPlan, FirstDamaged}
 use Rattle.promises.specs.Planner.{Fair, Fault}
 

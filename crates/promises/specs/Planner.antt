@@ -17,7 +17,7 @@ use Rattle.demand.specs.Lines.{lineSide}
 use Rattle.records.specs.Bytes.{whole, planOf}
 use Rattle.switch.specs.declared.Edition.{Edition}
 use Rattle.switch.specs.Editions.{Bounded}
-use Rattle.audit.specs.Check.{checkPlan}
+use Rattle.checker.specs.Check.{checkPlan}
 
 -- an edition for the planners: its records have an output for every port, and a plan may have as many of them as any planner writes, which are
 -- N² - 2N + 2, 2N, and 2T - 1 with T at most 1,024

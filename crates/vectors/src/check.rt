@@ -13,12 +13,12 @@ pub fn check(n: usize, laid: &[u8], count: usize)
     let mut cells = [0u32; CELLS];
     let split = tape::within(tape::CELL * count, laid);
     let lent = tape::load_cells(&laid[..split], &mut cells);
-    answer(audit::check_plan(n, &cells[..lent], &laid[split..]));
+    answer(checker::check_plan(n, &cells[..lent], &laid[split..]));
 }
 
 // The length of the plan that is laid.
 pub fn length(n: usize, plan: &[u8], d: u16) {
-    answer(audit::plan_length(n, plan, d));
+    answer(length::plan_length(n, plan, d));
 }
 
 fn answer(outcome: switch::Outcome) {

@@ -1,10 +1,7 @@
 -- A plan that opens has its records inside its bytes; each return is the case of the definition whose tests led there.
-use mathlib.Core.Path.{sym, _∙_, subst}
-use Prim.Native.Nat.{ℕ, _+_, _*_, _≤_}
-use native.Mathlib.Omega.{arith}
-use lib.ListN.{length}
-use Rattle.records.proofs.Part.{whole-fits}
-use Rattle.plans.proofs.Read.{opened, opened-records, check-refused, check-opened, check-malformed, check-done}
+use mathlib.Core.Path.{sym, _∙_}
+use Rattle.plans.proofs.Reading.{checking-stopped, checking-whole, readable}
+use Rattle.plans.proofs.Read.{check-refused}
 use borrow.Author.Needs.{needs}
 use Rattle.plans.proofs.check_plan.Statement.{statement}
 use Rattle.plans.proofs.check_plan.Tie as tie
@@ -21,32 +18,21 @@ enum-told c = search needs
 returns : tie.Need-returns
 returns c = c .enum-told .given .1 ∙ check-refused _ _ _ (sym (c .enum-told .given .1) ∙ c .before .before .«open» .ensures)
 
-first-malformed-requires : tie.Need-first-malformed-requires
-first-malformed-requires c κs =
-    let a = c .before .before .before .before .before .args in
-    let o = sym (c .before .opened .given .1) ∙ c .before .before .before .«open» .ensures in
-    let h = opened _ _ _ _ o in
-    let few = opened-records _ _ _ _ o in
-    let p = c .before .before .before .before .before .pre in
-    (omega (arith, h .few, p .ports), p .width, omega (arith, h .most, few, p .records), subst (λ (m : ℕ). m * (a .e .width + 4) ≤ length (a .plan .now)) (sym few) (whole-fits (a .e .width) (a .plan .now)))
+judge-requires : tie.Need-judge-requires
+judge-requires c κs = readable _ _ _ _ (c .before .before .before .before .before .pre) (sym (c .before .opened .given .1) ∙ c .before .before .before .«open» .ensures)
 
 returns-2 : tie.Need-returns-2
 returns-2 c =
-    let o = sym (c .before .before .before .opened .given .1) ∙ c .before .before .before .before .before .«open» .ensures in
-    check-malformed _ _ _ _ _ (c .before .first-malformed .ensures) (c .if1 .taken) ∙ check-opened _ _ _ o
+    let o = sym (c .before .before .before .before .opened .given .1) ∙ c .before .before .before .before .before .before .«open» .ensures in
+    checking-stopped _ _ _ o _ _ (c .before .before .judge .ensures) (c .if1 .taken)
 
-total-hold-requires : tie.Need-total-hold-requires
-total-hold-requires c κs =
-    let a = c .before .before .before .before .before .before .before .args in
-    let o = sym (c .before .before .before .opened .given .1) ∙ c .before .before .before .before .before .«open» .ensures in
-    let few = opened-records _ _ _ _ o in
-    let p = c .before .before .before .before .before .before .before .pre in
-    (p .width, omega (arith, opened _ _ _ _ o .most, few, p .records), subst (λ (m : ℕ). m * (a .e .width + 4) ≤ length (a .plan .now)) (sym few) (whole-fits (a .e .width) (a .plan .now)))
+counted-requires : tie.Need-counted-requires
+counted-requires c κs = search needs
 
 returns-3 : tie.Need-returns-3
 returns-3 c =
-    let o = sym (c .before .before .before .before .opened .given .1) ∙ c .before .before .before .before .before .before .«open» .ensures in
-    check-done _ _ _ _ _ (c .before .before .first-malformed .ensures) _ (c .before .if1 .left) (c .total-hold .ensures) ∙ check-opened _ _ _ o
+    let o = sym (c .before .before .before .before .before .opened .given .1) ∙ c .before .before .before .before .before .before .before .«open» .ensures in
+    rw (c .counted .ensures) (checking-whole _ _ _ o _ _ (c .before .before .before .judge .ensures) (c .before .if1 .left))
 
 pub check-plan-spec : {M : Type 1} → statement M
 check-plan-spec =
@@ -56,7 +42,7 @@ check-plan-spec =
     enum-known-opened
     enum-told
     returns
-    first-malformed-requires
+    judge-requires
     returns-2
-    total-hold-requires
+    counted-requires
     returns-3)

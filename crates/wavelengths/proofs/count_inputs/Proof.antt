@@ -5,7 +5,7 @@ use Prim.Native.Nat.{_-_, _≤_}
 use native.Mathlib.Omega.{arith}
 use lib.ListN.{length, length-set}
 use Rattle.records.specs.Record.{decoded}
-use Rattle.audit.proofs.Grant.{output-byte}
+use Rattle.grants.proofs.Grant.{output-byte}
 use Rattle.wavelengths.proofs.Shared.{Counted, counted-none, counted-all, counted-idle, place-small, counted-joined}
 use borrow.Author.Needs.{needs}
 use Rattle.wavelengths.proofs.count_inputs.Statement.{statement}

@@ -2,7 +2,7 @@
 use mathlib.Core.Path.{sym, _∙_}
 use native.Mathlib.Omega.{arith}
 use lib.Seq.{length-take-le}
-use Rattle.audit.proofs.Check.{blank-zeros}
+use Rattle.grants.proofs.Grant.{blank-zeros}
 use Rattle.wavelengths.proofs.Shared.{most-counted}
 use borrow.Author.Needs.{needs}
 use Rattle.wavelengths.proofs.most_shared.Statement.{statement}

@@ -1,3 +1,0 @@
-pub mod Reading
-pub mod Check
-pub mod Length

@@ -1,0 +1,20 @@
+-- The first edition keeps to the bounds of every edition.
+use mathlib.Core.Path.{ap, _∙_}
+use Rattle.switch.specs.declared.Edition.{Edition}
+use Rattle.switch.proofs.Editions.{first-bounded}
+use Rattle.length.specs.Length.{planLength}
+use borrow.Author.Needs.{needs}
+use Rattle.length.proofs.plan_length.Statement.{statement}
+use Rattle.length.proofs.plan_length.Tie as tie
+
+first-edition-requires : tie.Need-first-edition-requires
+first-edition-requires c κs = search needs
+
+length-for-requires : tie.Need-length-for-requires
+length-for-requires c κs = rw (c .first-edition .ensures) first-bounded
+
+returns : tie.Need-returns
+returns c = c .length-for .ensures ∙ ap (λ (e : Edition). planLength e (c .before .before .before .args .d) (c .before .before .before .args .n) (c .before .before .before .args .plan .now)) (c .before .first-edition .ensures)
+
+pub plan-length-spec : {M : Type 1} → statement M
+plan-length-spec = tie.close (tie.spec first-edition-requires length-for-requires returns)
