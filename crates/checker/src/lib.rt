@@ -3,8 +3,8 @@
 // place, in the documented order. What a demand is refused for stands in the crate demand, what a plan grants in the crate grants; that
 // the planners' plans pass here is a law of the crate promises.
 use demand::Checked;
-use switch::Edition;
 use switch::Counts;
+use switch::Edition;
 use switch::Outcome;
 use switch::Refusal;
 ghost use mathlib.Core.Path.{_≡_};

@@ -1,7 +1,7 @@
 // The length of a plan from anywhere (§11): its total hold, and the switching time for every record before which the mirrors move.
 // Nothing is known of the bytes. The call promises its whole answer for any N, plan and switching time. A plan is gone over once.
-use switch::Edition;
 use switch::Counts;
+use switch::Edition;
 use switch::Outcome;
 use switch::Refusal;
 ghost use mathlib.Core.Path.{_≡_};

@@ -16,7 +16,8 @@ use Rattle.switch.specs.Check.{portsFine}
 use Rattle.switch.specs.Plan.{Record, total}
 use Rattle.records.specs.Bytes.{whole, planOf}
 use Rattle.switch.specs.declared.Edition.{Edition}
-use Rattle.plans.specs.Read.{opening, checkingIn, checkingOf, checking}
+use Rattle.switch.specs.Result.{byOutcome}
+use Rattle.plans.specs.Read.{opening, checkingIn, checking}
 use Rattle.lookup.specs.declared.Spot.{Spot}
 use Rattle.lookup.specs.declared.Spot.the-variants as spot
 use Rattle.lookup.specs.Lookup.{repeating, spotIn, afterPlan, spotOf}
@@ -43,7 +44,7 @@ module _ (E : Edition) (N : ℕ) (plan : List ℕ) where
   in-plan m = either Plans (ltb _ m) (Refused (Malformed _)) (Done _) refl tt
 
   abbrev Whole : Outcome → Type 0
-  Whole o = Plans (checkingOf o E N plan)
+  Whole o = Plans (byOutcome o Refused (λ c. checkingIn (c .records) E N plan))
 
   pub of-plan : portsFine (E .ports) N ≡ true → Plans (checking E N plan)
   unfolding checking opening
