@@ -23,10 +23,10 @@ use Rattle.switch.specs.declared.Edition.{Edition}
 use Rattle.switch.specs.Editions.{firstEdition, Bounded}
 use Rattle.plans.specs.Read.{opening, malformed}
 use Rattle.switch.proofs.Editions.{first-bounded}
-use Rattle.plans.proofs.Read.{opening-torn, opening-many, opening-done}
+use Rattle.plans.proofs.Read.{opening-torn, opening-many, opening-done, check-malformed, check-opened, check-done}
 use Rattle.plans.specs.Reading.{reading}
 use Rattle.checker.specs.Check.{uncovered, covering, checkPlan}
-use Rattle.plans.proofs.Reading.{after-checking, reading-refused, reading-malformed, reading-whole}
+use Rattle.plans.proofs.Reading.{after-checking, reading-refused}
 use Rattle.checker.proofs.Cover.{covered-end, uncovered-short, covering-short, covering-done}
 use Rattle.checker.proofs.Check.{check-faulty, check-fine}
 use Rattle.checker.proofs.Passes.{Reached, reached, Passes, passes}
@@ -79,19 +79,23 @@ module _ (E : Edition) (bounds : Bounded E) (N : ℕ) (d plan : List ℕ) where
         first : FirstDamaged E N plan fault
         first = first-damaged E N plan bounds (opens .few)
 
+        all-read : whole (E .width) plan ≤ fault → covering T N d (planOf (E .width) plan) ≡ reading E N plan (covering T N d)
+        all-read l =
+            after-checking E N plan (covering T N d) (check-done E N plan (whole (E .width) plan) fault refl _ l refl ∙ check-opened E N plan start)
+
         by-cover : whole (E .width) plan ≤ fault → Dec (place < N * N) → Objects E N d plan f
         by-cover l (yes s) =
             it-is (Uncovered place)
-            (refused-in (covering-short T N d (planOf (E .width) plan) place refl s ∙ reading-whole E N plan (covering T N d) start fault refl l))
+            (refused-in (covering-short T N d (planOf (E .width) plan) place refl s ∙ all-read l))
             (falls-short fair (record { opens = opens; each = λ k h. first .before k (omega (arith, h, l)) }) place
             (uncovered-short N (cell N d) (grant (planOf (E .width) plan)) s))
         by-cover l (no s) =
-            never (e ∙ sym (check-fine E N d plan asks) ∙ sym (reading-whole E N plan (covering T N d) start fault refl l)
+            never (e ∙ sym (check-fine E N d plan asks) ∙ sym (all-read l)
             ∙ sym (covering-done T N d (planOf (E .width) plan) place refl (omega (arith, s))))
 
         by-records : Dec (fault < whole (E .width) plan) → Objects E N d plan f
         by-records (yes l) =
-            it-is (Malformed fault) (refused-in (reading-malformed E N plan (covering T N d) start fault refl l)) (damaged fair opens fault l first)
+            it-is (Malformed fault) (refused-in (after-checking E N plan (covering T N d) (check-malformed E N plan (whole (E .width) plan) fault refl l ∙ check-opened E N plan start))) (damaged fair opens fault l first)
         by-records (no l) = by-cover (omega (arith, l)) (decLt place (N * N))
 
       by-number : length plan % (E .width + 4) ≡ 0 → Dec (E .records < whole (E .width) plan) → Objects E N d plan f

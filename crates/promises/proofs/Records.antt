@@ -58,7 +58,7 @@ module _ (hold N : ℕ) (outputs buf : List ℕ) (long : length outputs ≡ 64) 
     where
       by : (p q w : Bool)
           → let x = cond p (cond q (cond w (writes hold N outputs buf) (refuses (Malformed 0) buf)) (refuses (Room 1) buf)) (refuses Ports buf) in
-          Leaves (x .answer) (x .bytes) r after → after ≡ buf
+          Leaves (x .outcome) (x .bytes) r after → after ≡ buf
       by true true true m = absurd (n _ (m .0))
       by true true false m = m .1
       by true false w m = m .1

@@ -1,6 +1,6 @@
 -- A wave is marked before its holders are asked, so that fewer outputs are left to try: the search ends, with one handed on or with a closed set.
 use mathlib.Core.Path.{subst, _∙_}
-use Prim.Native.Nat.{ℕ, _+_, _*_}
+use Prim.Native.Nat.{ℕ, _+_, _*_, _<_}
 use borrow.Author.Needs.{needs}
 use native.Mathlib.Omega.{arith}
 use lib.ListN.{length}
