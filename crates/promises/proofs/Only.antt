@@ -8,6 +8,7 @@ use Rattle.switch.proofs.Answer.{determined}
 use Rattle.plans.specs.declared.Stepped.{Stepped}
 use Rattle.reader.specs.declared.Reader.{Reader}
 use Rattle.reader.specs.Reader.{movedTo}
+use Rattle.room.specs.declared.Planner.the-variants.{Exact, Doubled, Quick}
 use Rattle.promises.specs.Only.{OneAnswer, OneResult}
 use Rattle.promises.specs.Calls as call
 
@@ -74,6 +75,21 @@ join-one-result N plan buf = both _ _
 
 pub grating-report-one-result : (N : ℕ) (plan buf : List ℕ) → OneResult (call.GratingReport N plan buf)
 grating-report-one-result N plan buf = both _ _
+
+pub find-one-answer : (N : ℕ) (tonight standby : List ℕ) (slot : ℕ) → OneAnswer (call.FindInForce N tonight standby slot)
+find-one-answer N tonight standby slot = one _
+
+pub part-one-answer : (N : ℕ) (tonight standby : List ℕ) (slot : ℕ) → OneAnswer (call.PartInForce N tonight standby slot)
+part-one-answer N tonight standby slot = one _
+
+pub exact-room-one-answer : (N T : ℕ) → OneAnswer (call.RoomFor Exact N T)
+exact-room-one-answer N T = one _
+
+pub doubled-room-one-answer : (N T : ℕ) → OneAnswer (call.RoomFor Doubled N T)
+doubled-room-one-answer N T = one _
+
+pub quick-room-one-answer : (N T : ℕ) → OneAnswer (call.RoomFor Quick N T)
+quick-room-one-answer N T = one _
 
 pub listing-one-result : (input text : List ℕ) → OneResult (call.Listing input text)
 listing-one-result input text a b l m p q = (one _ a b (p .0) (q .0), one _ l m (p .1) (q .1))

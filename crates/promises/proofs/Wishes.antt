@@ -37,7 +37,7 @@ use Rattle.records.proofs.Every.{and-l, and-r}
 use borrow.Author.Tests.{lt-ltb, eq-eqb, ltb-true, eqb-true}
 use Rattle.promises.specs.Calls.{OfBits, WishList}
 use Rattle.promises.proofs.Outcomes.{never, not-zero}
-use Rattle.promises.specs.Wishes.{Wished, GoodWish, GoodList, Listed}
+use Rattle.promises.specs.Wishes.{Wished, GoodWish, GoodList, WishedAll}
 
 in-range : {x : Float} {w : Wish} → Answers x w → codeOf w ≡ 0 → InRange x
 in-range a-nan z = absurd (omega (arith, z))
@@ -192,7 +192,7 @@ module _ (N : ℕ) (list cells : List ℕ) (r : Outcome) (after : List ℕ) (met
       by (Refused x) e = met .1 ∙ ap (cellsOf N list cells) e
 
   -- a list of wishes
-  pub wishes-promise : Listed N list cells r after
+  pub wishes-promise : WishedAll N list cells r after
   wishes-promise = record {
     taken = list-taken;
     only-then = λ z. list-good (countsOf r) (code-done r z);

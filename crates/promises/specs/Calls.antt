@@ -21,6 +21,10 @@ use Rattle.plans.specs.Read.{opening, stepAt}
 use Rattle.reader.specs.declared.Reader.{Reader}
 use Rattle.reader.specs.declared.Opened.{Opened}
 use Rattle.reader.specs.Reader.{starting, movedTo}
+use Rattle.room.specs.declared.Planner.{Planner}
+use Rattle.room.specs.Room.{roomed}
+use Rattle.lookup.specs.declared.Found.{Found}
+use Rattle.lookup.specs.Lookup.{spotOf, partOf, foundOf}
 use Rattle.checker.specs.Check.{checkPlan}
 use Rattle.length.specs.Length.{planLength}
 use Rattle.joining.specs.Join.{joining}
@@ -108,6 +112,18 @@ JoinPlan N plan buf = let x = joining firstEdition N plan buf in Leaves (x .outc
 -- wavelengths::grating_report(n, plan, report)
 abbrev pub GratingReport : ℕ → List ℕ → List ℕ → Outcome → List ℕ → Type 0
 GratingReport N plan buf = let x = reported firstEdition N plan buf in Leaves (x .outcome) (x .bytes)
+
+-- lookup::find(n, tonight, standby, slot)
+abbrev pub FindInForce : ℕ → List ℕ → List ℕ → ℕ → Found → Type 0
+FindInForce N tonight standby slot r = r ≡ foundOf firstEdition (spotOf firstEdition N tonight standby slot)
+
+-- lookup::part_in_force(n, tonight, standby, slot), by the bytes of the part given back
+abbrev pub PartInForce : ℕ → List ℕ → List ℕ → ℕ → List ℕ → Type 0
+PartInForce N tonight standby slot r = r ≡ partOf firstEdition (spotOf firstEdition N tonight standby slot) tonight standby
+
+-- ---- room::exact_room(n, longest), doubled_room(n, longest) and quick_room(n, longest)
+abbrev pub RoomFor : Planner → ℕ → ℕ → Outcome → Type 0
+RoomFor planner N T r = r ≡ roomed firstEdition planner N T
 
 -- ---- listing::listing(input, text)
 abbrev pub Listing : List ℕ → List ℕ → ℕ → List ℕ → Type 0

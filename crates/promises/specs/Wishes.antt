@@ -44,7 +44,7 @@ pub record GoodList (N : ℕ) (list : List ℕ) (cells : ℕ) : Type 0 where
   pub each : (k : ℕ) → k < length list / 8 → GoodWish N list k
 
 -- the answer r, and the cells afterwards
-pub record Listed (N : ℕ) (list cells : List ℕ) (r : Outcome) (after : List ℕ) : Type 0 where
+pub record WishedAll (N : ℕ) (list cells : List ℕ) (r : Outcome) (after : List ℕ) : Type 0 where
   -- code 0 exactly when nothing is wrong, with the number of wish records
   pub taken : GoodList N list (length cells) → r ≡ Done (planCounts (length list / 8) 0 0)
   pub only-then : answer.codeOf r ≡ 0 → GoodList N list (length cells)
