@@ -158,6 +158,42 @@ fn exact() {
     compare_planner(1, chordvenus::exact, reference::exact, MOST_LINE as usize, &[0, 1, 2, 3, 5]);
 }
 
+/// A larger batch (§22): the same settings, each hold multiplied, and code 5 at the same place.
+#[test]
+fn exact_of_a_larger_batch() {
+    let mut rng = Rng::new(12);
+    let (mut refused, mut larger) = (0, 0);
+    for case in 0..CASES {
+        let line = rng.pick(&[1, 3, 17, 300, 4_000]);
+        let n = cases::ports(&mut rng);
+        let cells = cases::demand(&mut rng, n, line);
+        let k = rng.between(1, MOST_LINE as usize / line) as u32;
+        let times: Vec<u32> = cells.iter().map(|cell| cell * k).collect();
+        let mut plan = vec![0; 4_096 * RECORD_SIZE];
+        let records = chordvenus::exact(n as u64, &cells, &mut plan).records as usize;
+        plan.truncate(room(&mut rng, records));
+        let mut stretched = plan.clone();
+        let once = chordvenus::exact(n as u64, &cells, &mut plan);
+        let more = chordvenus::exact(n as u64, &times, &mut stretched);
+        let k = u64::from(k);
+        let wanted = Answer {
+            longest: once.longest * k,
+            total: once.total * k,
+            empty: once.empty * k,
+            ..once
+        };
+        assert_eq!(more, wanted, "case {case}: N = {n}, k = {k}, cells {cells:?}");
+        for record in plan[..once.records as usize * RECORD_SIZE].chunks_mut(RECORD_SIZE) {
+            let hold = u64::from(u16::from_le_bytes([record[0], record[1]])) * k;
+            record[..2].copy_from_slice(&(hold as u16).to_le_bytes());
+        }
+        assert!(plan == stretched, "other bytes, case {case}: N = {n}, k = {k}, cells {cells:?}");
+        refused += usize::from(once.code == 5);
+        larger += usize::from(k > 1 && once.records > 1);
+    }
+    assert!(refused >= ENOUGH && larger >= ENOUGH, "{refused} refused, {larger} larger");
+}
+
 #[test]
 fn doubled() {
     compare_planner(2, chordvenus::doubled, reference::doubled, MOST_LINE as usize, &[0, 1, 2, 3, 5]);
