@@ -25,8 +25,7 @@ use Rattle.switch.specs.Plan.{Record, total}
 use Rattle.demand.specs.Check.{checkDemand, Asked}
 use Rattle.demand.specs.declared.Checked.{Checked}
 use Rattle.demand.specs.declared.Checked.the-variants.{Fine, Faulty}
-use Rattle.demand.proofs.Check.{fine, fine-asked}
-use Rattle.switch.proofs.Check.{some-ports}
+use Rattle.demand.proofs.Check.{fine-asked}
 use Rattle.rules.specs.Exact.{exactPlan}
 use Rattle.rules.specs.Doubled.{unit, divide, stretch, opposite, turns, tight, doubledBy, Doubled}
 use Rattle.rules.proofs.Opposite.{opposite-joins, opposite-idle}
@@ -52,8 +51,10 @@ use Rattle.grating.proofs.Answer.{Both, short-answer, faulty-answer, fine-answe
 use Rattle.promises.specs.Spread.{allowed, Spread}
 use Rattle.promises.proofs.Spread.{second-spread}
 use Rattle.promises.specs.Calls.{CheckPlan, GratingReport, GratingDoubled}
+use Rattle.promises.specs.Planner.{Taken, Why, faulty, no-room}
+use Rattle.promises.proofs.Fair.{fair-fine, fine-fair, faulty-fault, not-fine}
 use Rattle.promises.specs.Grating.{GratingGiven}
-use Rattle.promises.proofs.Outcomes.{never, same-counts}
+use Rattle.promises.proofs.Outcomes.{never, same-counts, same-refusal}
 use Rattle.promises.proofs.Laid.{plan-front, plan-reads, plan-behind}
 
 -- ---- its parts
@@ -151,18 +152,19 @@ module _ (N : ℕ) (d buf : List ℕ) (r : Outcome) (after : List ℕ) (met : Gr
   abbrev T : ℕ
   T = longest N (cell N d)
 
-  refused : (x : Refusal) → Both (gratingPlanned 64 0 N d buf) (Refused x) buf → (Asked 64 N T d → length plan ≤ whole 64 buf → ⊥)
-      → GratingGiven N d buf r after
-  refused x e bad =
+  refused : (x : Refusal) → Both (gratingPlanned 64 0 N d buf) (Refused x) buf → (Taken firstEdition 65535 N d plan buf → ⊥)
+      → Why firstEdition 65535 N d plan buf x → GratingGiven N d buf r after
+  refused x e bad why =
       let is : r ≡ Refused x = met .0 ∙ sym (e .0) in
       record {
-        taken = λ a l. absurd (bad a l);
+        taken = λ t. absurd (bad t);
         only-then = λ z. never (sym is ∙ code-done r z);
         reads-back = λ z. never (sym is ∙ code-done r z);
         worth = λ z. never (sym is ∙ code-done r z);
         later = λ z. never (sym is ∙ code-done r z);
         passes = λ z. never (sym is ∙ code-done r z);
         reported = λ z. never (sym is ∙ code-done r z);
+        refuses = λ f q. subst (Why firstEdition 65535 N d plan buf) (same-refusal (sym is ∙ q)) why;
         unchanged = λ _. met .1 ∙ sym (e .1);
       }
 
@@ -219,8 +221,8 @@ module _ (N : ℕ) (d buf : List ℕ) (r : Outcome) (after : List ℕ) (met : Gr
 
     given : GratingGiven N d buf r after
     given = record {
-      taken = λ a l. is;
-      only-then = λ z. (asked, room);
+      taken = λ t. is;
+      only-then = λ z. record { fair = fine-fair firstEdition N d T 65535 (sym asks) (asked .small); room = room };
       reads-back = λ z. told z (λ (x : Counts). planOf 64 (take (x .records * 68) after) ≡ plan)
           (ap (λ (b : List ℕ). planOf 64 (take (length plan * 68) b)) lays ∙ plan-reads 0 N 64 (each-width 64 N sound) buf);
       worth = λ z. record {
@@ -235,6 +237,7 @@ module _ (N : ℕ) (d buf : List ℕ) (r : Outcome) (after : List ℕ) (met : Gr
       reported = λ z. told z (λ (x : Counts). (report : List ℕ) → x .records ≤ length report → (o : Outcome) (said : List ℕ)
           → GratingReport N (take (x .records * 68) after) report o said → (k : ℕ) → length (firstPart 64 N d) ≤ k → k < x .records → getD said k 0 ≤ allowed N)
           reported-less;
+      refuses = λ f q. never (sym q ∙ is);
       unchanged = λ n. absurd (n (ap codeOf is));
     }
       where
@@ -245,14 +248,13 @@ module _ (N : ℕ) (d buf : List ℕ) (r : Outcome) (after : List ℕ) (met : Gr
   pub grating-promise : GratingGiven N d buf r after
   grating-promise = by (checkDemand 64 N d) refl (decLt (whole 64 buf) (length plan))
     where
-      not-faulty : {x : Refusal} {t : ℕ} → Faulty x ≡ Fine t → ⊥
-      not-faulty q = let z : _≡_ {A = ℕ} 0 1 = cc in omega arith
-
       by : (x : Checked) → checkDemand 64 N d ≡ x → Dec (whole 64 buf < length plan) → GratingGiven N d buf r after
-      by (Faulty x) e _ = refused x (faulty-answer 64 0 N d buf x e)
-          (λ a l. not-faulty (sym e ∙ sym (fine 64 N d (some-ports 64 N (a .some) (a .few)) (a .size) (a .small))))
+      by (Faulty x) e _ =
+          refused x (faulty-answer 64 0 N d buf x e) (λ t. not-fine firstEdition N d (sym e ∙ sym (fair-fine firstEdition N d (omega arith) (t .fair))))
+          (faulty (faulty-fault firstEdition N d x (sym e)))
       by (Fine t) e (yes l) =
           let s = short-answer 64 0 N plan buf (length plan) refl l in
           let f = fine-answer 64 0 N d buf t e in
-          refused (Room (length plan)) (s .0 ∙ ap (λ (x : Result). x .outcome) f, s .1 ∙ ap (λ (x : Result). x .bytes) f) (λ a h. omega arith)
+          refused (Room (length plan)) (s .0 ∙ ap (λ (x : Result). x .outcome) f, s .1 ∙ ap (λ (x : Result). x .bytes) f)
+          (λ q. omega (arith, q .room)) (no-room (fine-fair firstEdition N d t 65535 (sym e) (fine-asked 64 N t d e .small)) l)
       by (Fine t) e (no l) = given (e ∙ ap Fine (fine-asked 64 N t d e .longest-is)) (omega (arith, l))

@@ -28,10 +28,11 @@ use Rattle.joining.proofs.Joined.{join-grant, join-total, join-sound}
 use Rattle.joining.proofs.Answer.{joining-refused, joining-short, joining-done}
 use Rattle.joining.proofs.Twice.{no-longer, twice}
 use Rattle.promises.specs.Calls.{Leaves, JoinPlan}
-use Rattle.promises.specs.Reading.{GoodPlan}
+use Rattle.promises.specs.Reading.{GoodPlan, Unwritten, unread, no-room}
 use Rattle.promises.specs.Joined.{part, JoinOf, Joined}
-use Rattle.promises.proofs.Outcomes.{never, same-counts}
+use Rattle.promises.proofs.Outcomes.{never, same-counts, same-refusal}
 use Rattle.promises.proofs.Reading.{good-checks, checks-good}
+use Rattle.promises.proofs.Reading as reading
 use Rattle.promises.proofs.Laid.{plan-reads, plan-behind}
 
 module _ (E : Edition) (bounds : Bounded E) (N : ℕ) (plan : List ℕ) (byte : (i : ℕ) → getD plan i 0 < 256) (buf : List ℕ)
@@ -41,8 +42,8 @@ module _ (E : Edition) (bounds : Bounded E) (N : ℕ) (plan : List ℕ) (byte : 
 
   -- what a refusal leaves to show
   refused : (x : Refusal) → refuses x buf ≡ joining E N plan buf → (GoodPlan E N plan → length (joinPlan p) ≤ whole (E .width) buf → ⊥)
-      → Joined E N plan buf r after
-  refused x e bad =
+      → Unwritten E N plan (whole (E .width) buf) (length (joinPlan p)) x → Joined E N plan buf r after
+  refused x e bad why =
       let is : r ≡ Refused x = met .0 ∙ ap (λ (y : Result). y .outcome) (sym e) in
       record {
         taken = λ g l. absurd (bad g l);
@@ -50,6 +51,7 @@ module _ (E : Edition) (bounds : Bounded E) (N : ℕ) (plan : List ℕ) (byte : 
         joins = λ z. never (sym is ∙ code-done r z);
         later = λ z. never (sym is ∙ code-done r z);
         twice = λ z. never (sym is ∙ code-done r z);
+        refuses = λ f q. subst (Unwritten E N plan (whole (E .width) buf) (length (joinPlan p))) (same-refusal (sym is ∙ q)) why;
         unchanged = λ _. met .1 ∙ ap (λ (y : Result). y .bytes) (sym e);
       }
 
@@ -92,6 +94,7 @@ module _ (E : Edition) (bounds : Bounded E) (N : ℕ) (plan : List ℕ) (byte : 
           (ap (drop (length (joinPlan p) * (E .width + 4))) lays ∙ plan-behind (E .byte) N (E .width) widths buf);
       twice = λ z next. ap (λ (b : List ℕ). joining E N (part E (countsOf r) b) next) (met .1)
           ∙ twice E bounds N plan byte buf (countsOf r) (sym (code-done r z) ∙ met .0) next;
+      refuses = λ f q. never (sym q ∙ is);
       unchanged = λ n. absurd (n (ap codeOf is));
     }
 
@@ -100,7 +103,9 @@ module _ (E : Edition) (bounds : Bounded E) (N : ℕ) (plan : List ℕ) (byte : 
     where
       by : (o : Outcome) → checking E N plan ≡ o → Dec (whole (E .width) buf < length (joinPlan p)) → Joined E N plan buf r after
       by (Refused x) e _ = refused x (joining-refused E N plan buf (sym e)) (λ g l. never (sym e ∙ good-checks E N plan bounds g))
+          (unread (reading.unread E bounds N plan x e))
       by (Done o) e (yes l) = refused _ (joining-short E N plan buf (sym e) l) (λ g h. omega arith)
+          (no-room (checks-good E N plan bounds o e) l)
       by (Done o) e (no l) = done o e (omega (arith, l))
 
 -- joining

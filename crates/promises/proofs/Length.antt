@@ -19,9 +19,10 @@ use Rattle.plans.specs.Reading.{reading}
 use Rattle.length.specs.Length.{charge, lengthOf, lengthCounts, planLength}
 use Rattle.length.proofs.Length.{charge-first, charge-moved, charge-kept, length-le, length-none}
 use Rattle.promises.specs.Calls.{PlanLength}
+use Rattle.promises.specs.Reading.{Unread}
 use Rattle.promises.specs.Length.{Lasts, Measured}
-use Rattle.promises.proofs.Outcomes.{never, same-counts}
-use Rattle.promises.proofs.Reading.{good-checks, checks-good}
+use Rattle.promises.proofs.Outcomes.{never, same-counts, same-refusal}
+use Rattle.promises.proofs.Reading.{good-checks, checks-good, unread}
 
 counted : (d : ℕ) (p : List Record) → Lasts d p (lengthCounts d p)
 unfolding lengthOf
@@ -53,6 +54,7 @@ module _ (E : Edition) (bounds : Bounded E) (N : ℕ) (plan : List ℕ) (d : ℕ
           record {
             taken = λ g. ap codeOf is;
             only-then = λ z. checks-good E N plan bounds o e;
+            refuses = λ f q. never (sym q ∙ is);
             lasts = λ z. subst (Lasts d p) (same-counts (sym is ∙ code-done r z)) (counted d p);
           }
       by (Refused x) e =
@@ -60,6 +62,7 @@ module _ (E : Edition) (bounds : Bounded E) (N : ℕ) (plan : List ℕ) (d : ℕ
           record {
             taken = λ g. never (sym e ∙ good-checks E N plan bounds g);
             only-then = λ z. never (sym is ∙ code-done r z);
+            refuses = λ f q. subst (Unread E N plan) (same-refusal (sym is ∙ q)) (unread E bounds N plan x e);
             lasts = λ z. never (sym is ∙ code-done r z);
           }
 

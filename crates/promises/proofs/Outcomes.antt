@@ -14,6 +14,9 @@ never e = let z : _≡_ {A = ℕ} 0 1 = cc in absurd (let f : ⊥ = omega arith 
 pub same-counts : {a b : Counts} → Done a ≡ Done b → a ≡ b
 same-counts e = cc
 
+pub same-refusal : {a b : Refusal} → Refused a ≡ Refused b → a ≡ b
+same-refusal e = cc
+
 -- an outcome that is no success is never done
 pub not-zero : {o : Outcome} → (codeOf o ≡ 0 → ⊥) → (c : Counts) → o ≡ Done c → ⊥
 not-zero n c e = n (ap codeOf e)

@@ -1,18 +1,23 @@
 -- A step gives the record at its place and goes on, up to the first that is damaged or the end, which it leaves no more.
-use mathlib.Core.Path.{_≡_, refl, sym, ap, _∙_}
+use mathlib.Core.Path.{_≡_, refl, sym, ap, _∙_, subst}
 use mathlib.Core.Bool.{Bool, true, false, true≢false}
 use mathlib.Core.List.{List}
-use Prim.Native.Nat.{ℕ, _+_, _<_, _≤_, min}
-use native.Mathlib.Decide.{decLt}
+use mathlib.Core.Logic.{dite}
+use Prim.Native.Nat.{ℕ, _+_, _%_, _<_, _≤_, min}
+use native.Mathlib.Decide.{decLt, ℕ-discrete}
 use native.Mathlib.Numerals.{add-one}
 use native.Mathlib.Omega.{arith}
 use lib.ListN.{length}
 use denote.Ref.{RefT, now}
 use Rattle.switch.specs.declared.Outcome.{Outcome}
 use Rattle.switch.specs.declared.Outcome.the-variants.{Done, Refused}
+use Rattle.switch.specs.declared.Refusal.{Refusal}
+use Rattle.switch.specs.declared.Refusal.the-variants.{Ports, Malformed}
 use Rattle.switch.specs.declared.Counts.{Counts}
 use Rattle.switch.specs.Answer.{countsOf, planCounts}
 use Rattle.switch.proofs.Answer.{code-done}
+use Rattle.switch.proofs.Check.{many-ports}
+use Rattle.switch.proofs.Check as check
 use Rattle.switch.specs.Plan.{total}
 use Rattle.records.specs.Record.{WellFormed}
 use Rattle.records.specs.Bytes.{recordAt, whole, planOf}
@@ -25,15 +30,16 @@ use Rattle.plans.specs.declared.Stepped.{Stepped}
 use Rattle.switch.specs.Editions.{firstEdition, Bounded}
 use Rattle.plans.specs.Read.{opening, given, nothing, stepIn, stepAt, malformed, checking}
 use Rattle.switch.proofs.Editions.{first-bounded}
-use Rattle.plans.proofs.Read.{opening-done, opened, opened-records}
+use Rattle.plans.proofs.Read.{opening-ports, opening-torn, opening-many, opening-done, opened, opened-records}
+use Rattle.plans.proofs.Read.{check-refused, check-opened, check-malformed}
 use Rattle.plans.proofs.Read.{step-end, step-malformed, step-record, step-opened, step-refused}
 use Rattle.plans.proofs.Plans.{passes, malformed-first, checked}
 use Rattle.reader.specs.declared.Reader.{Reader}
 use Rattle.reader.specs.declared.Opened.{Opened}
 use Rattle.reader.specs.Reader.{starting, movedTo}
 use Rattle.promises.specs.Calls.{OpenPlan, StepAt, OpenReader, ReaderStep}
-use Rattle.promises.specs.Reading.{Openable, GoodPlan, FirstDamaged, Opens, StepGives, ReadStep, Steps, none, more}
-use Rattle.promises.proofs.Outcomes.{not-zero}
+use Rattle.promises.specs.Reading.{Openable, GoodPlan, FirstDamaged, Unread, no-ports, torn, many, damaged, Opens, StepGives, ReadStep, Steps, none, more}
+use Rattle.promises.proofs.Outcomes.{never, same-refusal, not-zero}
 
 -- ---- opening
 
@@ -86,11 +92,39 @@ module _ (E : Edition) (N : ℕ) (plan : List ℕ) where
           each = λ k l. fine-means bounds (h .few) k l (h .formed k l);
         }
 
+-- why a plan is refused: the first test that fails
+module _ (E : Edition) (bounds : Bounded E) (N : ℕ) (plan : List ℕ) (f : Refusal) (e : checking E N plan ≡ Refused f) where
+  told : (g : Refusal) → Refused g ≡ checking E N plan → Unread E N plan g → Unread E N plan f
+  told g q = subst (Unread E N plan) (same-refusal (q ∙ e))
+
+  abbrev fault : ℕ
+  fault = malformed (E .width) (E .byte) N plan (whole (E .width) plan) 0
+
+  by-records : Openable E N plan → Dec (fault < whole (E .width) plan) → Unread E N plan f
+  by-records o (yes l) =
+      told (Malformed fault) (check-malformed E N plan (whole (E .width) plan) fault refl l ∙ check-opened E N plan (sym (openable-opens E N plan o)))
+      (damaged o fault l (first-damaged E N plan bounds (o .few)))
+  by-records o (no l) =
+      let all = first-damaged E N plan bounds (o .few) in
+      never (sym e ∙ good-checks E N plan bounds (record { opens = o; each = λ k h. all .before k (omega (arith, l)) }))
+
+  pub unread : Unread E N plan f
+  unread =
+      dite (decLt 0 N) (λ some. dite (decLt (E .ports) N)
+      (λ l. told Ports (check-refused E N plan (opening-ports E N plan (many-ports _ _ l))) (no-ports (λ _ h. omega arith)))
+      (λ g. let few : N ≤ E .ports = omega (arith, g) in dite (ℕ-discrete (length plan % (E .width + 4)) 0)
+      (λ even. dite (decLt (E .records) (whole (E .width) plan))
+      (λ l. told _ (check-refused E N plan (opening-many E N plan some few even l)) (many some few even l))
+      (λ h. by-records (record { some = some; few = few; even = even; most = omega (arith, h) }) (decLt fault (whole (E .width) plan))))
+      (λ t. told _ (check-refused E N plan (opening-torn E N plan some few t)) (torn some few t))))
+      (λ z. told Ports (check-refused E N plan (opening-ports E N plan (check.no-ports _ _ (omega (arith, z))))) (no-ports (λ s _. z s)))
+
 -- what opening answers
 pub open-promise : (N : ℕ) (plan : List ℕ) (r : Outcome) → OpenPlan N plan r → Opens N plan r
 open-promise N plan r met = record {
   taken = λ o. met ∙ openable-opens firstEdition N plan o;
   only-then = λ z. opens-openable firstEdition N plan (countsOf r) (sym met ∙ code-done r z);
+  refuses = λ f e. unread firstEdition first-bounded N plan f (sym (check-refused firstEdition N plan (sym e ∙ met)));
   ends = λ n at. by (opening firstEdition N plan) refl (not-zero n) at;
 }
   where
@@ -110,8 +144,8 @@ module _ (N : ℕ) (plan : List ℕ) (c : Counts) (opens : opening firstEdition 
   known : Openable firstEdition N plan
   known = opens-openable firstEdition N plan c opens
 
-  damaged : FirstDamaged firstEdition N plan f
-  damaged = first-damaged firstEdition N plan first-bounded (known .few)
+  scanned : FirstDamaged firstEdition N plan f
+  scanned = first-damaged firstEdition N plan first-bounded (known .few)
 
   count : c .records ≡ m
   count = opened-records firstEdition N plan c (sym opens)
@@ -140,10 +174,10 @@ module _ (N : ℕ) (plan : List ℕ) (c : Counts) (opens : opening firstEdition 
   here at = step-promise at (stepAt N plan at) refl
 
   at-record : (k : ℕ) → k < f → stepAt N plan k ≡ given (recordAt 64 plan k) (k + 1)
-  at-record k l = here k .gives (omega (arith, damaged .inside)) (damaged .before k l)
+  at-record k l = here k .gives (omega (arith, scanned .inside)) (scanned .before k l)
 
   at-damage : f < m → stepAt N plan f ≡ nothing (step.Malformed f) f
-  at-damage l = here f .damage l (damaged .here l)
+  at-damage l = here f .damage l (scanned .here l)
 
   at-end : f ≡ m → stepAt N plan f ≡ nothing step.End f
   at-end e = here f .end (omega (arith, e))
@@ -157,12 +191,12 @@ module _ (N : ℕ) (plan : List ℕ) (c : Counts) (opens : opening firstEdition 
       by : Dec (k < f) → Dec (f < m) → stepAt N plan (place k) .next ≡ place (k + 1)
       by (yes l) _ = from k (omega arith) (at-record k l) ∙ omega arith
       by (no g) (yes l) = from f (omega (arith, g)) (at-damage l) ∙ omega (arith, g)
-      by (no g) (no h) = from f (omega (arith, g)) (at-end (omega (arith, h, damaged .inside))) ∙ omega (arith, g)
+      by (no g) (no h) = from f (omega (arith, g)) (at-end (omega (arith, h, scanned .inside))) ∙ omega (arith, g)
 
   read-step : (k : ℕ) (s : Stepped) → s ≡ stepAt N plan (place k) → ReadStep N plan k s
   read-step k s e = record {
     first = f;
-    damaged = damaged;
+    damaged = scanned;
     gives = λ l. e ∙ ap (stepAt N plan) (let q : place k ≡ k = omega arith in q) ∙ at-record k l;
     damage = λ l h. e ∙ ap (stepAt N plan) (let q : place k ≡ f = omega arith in q) ∙ at-damage h;
     end = λ l h. e ∙ ap (stepAt N plan) (let q : place k ≡ f = omega arith in q) ∙ at-end h;

@@ -1,14 +1,19 @@
 -- A record is written as its bytes, and read from them again; a record that was read is written as the bytes that it was read from.
-use mathlib.Core.Path.{_≡_, sym, ap, _∙_, subst}
-use mathlib.Core.Bool.{Bool, true, false, cond}
+use mathlib.Core.Path.{_≡_, refl, sym, ap, _∙_, subst}
+use mathlib.Core.Bool.{Bool, true, false, cond, true≢false}
 use mathlib.Core.List.{List}
+use mathlib.Core.Logic.{dite}
 use Prim.Native.Nat.{ℕ, _<_, _≤_}
+use native.Mathlib.Decide.{decLt}
 use native.Mathlib.Omega.{arith}
 use lib.Dec.{leb}
 use lib.ListN.{length, getD, take, drop}
 use Rattle.switch.specs.declared.Outcome.{Outcome}
-use Rattle.switch.specs.declared.Outcome.the-variants.{Done}
+use Rattle.switch.specs.declared.Outcome.the-variants.{Done, Refused}
 use Rattle.switch.specs.Check.{portsFine}
+use Rattle.switch.proofs.Check.{many-ports}
+use Rattle.switch.proofs.Check as check
+use Rattle.switch.specs.declared.Refusal.{Refusal}
 use Rattle.switch.specs.declared.Refusal.the-variants.{Ports, Room, Malformed}
 use Rattle.switch.specs.declared.Counts.{Counts}
 use Rattle.switch.specs.Answer.{countsOf, planCounts}
@@ -21,15 +26,15 @@ use Rattle.records.specs.Write.{writes, written}
 use Rattle.records.proofs.Meaning.{means, encode-sound}
 use Rattle.records.proofs.Part.{record-size, record-fits, whole-fits}
 use Rattle.records.proofs.Round.{decoded-encode}
-use Rattle.records.proofs.Write.{write-done}
+use Rattle.records.proofs.Write.{write-ports, write-room, write-malformed, write-done}
 use Rattle.plans.specs.declared.Step.the-variants as step
 use Rattle.plans.specs.declared.Stepped.{Stepped}
 use Rattle.plans.specs.Read.{stepAt}
 use Rattle.plans.proofs.Trips.{wrote, written-bytes, write-read, gave, read-write}
 use Rattle.promises.specs.Calls.{Leaves, WriteRecord, StepAt}
-use Rattle.promises.proofs.Outcomes.{not-zero}
+use Rattle.promises.proofs.Outcomes.{never, same-refusal, not-zero}
 use Rattle.promises.proofs.Laid.{laid-front, laid-behind}
-use Rattle.promises.specs.Records.{GoodRecord, RecordWritten, WrittenAgain}
+use Rattle.promises.specs.Records.{GoodRecord, Unwritable, no-ports, no-room, unsound, RecordWritten, WrittenAgain}
 
 -- ---- written, then read
 
@@ -64,12 +69,33 @@ module _ (hold N : ℕ) (outputs buf : List ℕ) (long : length outputs ≡ 64) 
       by true false w m = m .1
       by false q w m = m .1
 
+  -- the first test that fails
+  module _ (f : Refusal) (e : r ≡ Refused f) where
+    told : (g : Refusal) → refuses g buf ≡ written hold N outputs buf → Unwritable hold N outputs (length buf) g → Unwritable hold N outputs (length buf) f
+    told g q = subst (Unwritable hold N outputs (length buf)) (same-refusal (ap (λ (w : Result). w .outcome) q ∙ sym (met .0) ∙ e))
+
+    why : Unwritable hold N outputs (length buf) f
+    why =
+        dite (decLt 0 N) (λ some. dite (decLt 64 N)
+        (λ l. told Ports (write-ports hold N outputs buf (many-ports _ _ l)) (no-ports (λ _ h. omega arith)))
+        (λ g. let few : N ≤ 64 = omega (arith, g) in dite (decLt (length buf) 68)
+        (λ l. told (Room 1) (write-room hold N outputs buf some few l) (no-room some few l))
+        (λ h. let room : 68 ≤ length buf = omega (arith, h) in by some few room (wellFormed 64 0 N (encode 0 hold N outputs)) refl)))
+        (λ z. told Ports (write-ports hold N outputs buf (check.no-ports _ _ (omega (arith, z)))) (no-ports (λ s _. z s)))
+      where
+        by : 0 < N → N ≤ 64 → 68 ≤ length buf → (b : Bool) → wellFormed 64 0 N (encode 0 hold N outputs) ≡ b → Unwritable hold N outputs (length buf) f
+        by some few room true w = never (sym e ∙ met .0 ∙ sym (ap (λ (x : Result). x .outcome) (write-done hold N outputs buf some few room w)))
+        by some few room false w =
+            told (Malformed 0) (write-malformed hold N outputs buf some few room w)
+            (unsound some few room (λ s. true≢false (sym (encode-sound 64 0 N _ few (omega arith) s) ∙ w)))
+
   pub write-promise : RecordWritten hold N outputs buf r after
   write-promise = record {
     taken = taken;
     only-then = λ z. good (countsOf r) (code-done r z);
     reads-back = λ z. reads-back (countsOf r) (code-done r z);
     later = λ z. later (countsOf r) (code-done r z);
+    refuses = why;
     unchanged = λ n. unchanged (not-zero n);
   }
 

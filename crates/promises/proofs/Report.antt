@@ -8,6 +8,7 @@ use lib.ListN.{length, getD}
 use Rattle.switch.specs.declared.Outcome.{Outcome}
 use Rattle.switch.specs.declared.Outcome.the-variants.{Done, Refused}
 use Rattle.switch.specs.declared.Refusal.{Refusal}
+use Rattle.switch.specs.declared.Refusal.the-variants.{Room}
 use Rattle.switch.specs.declared.Counts.{Counts}
 use Rattle.switch.specs.Answer.{codeOf}
 use Rattle.switch.proofs.Answer.{code-done}
@@ -29,15 +30,17 @@ use Rattle.wavelengths.proofs.Shared.{rotation-shares}
 use Rattle.wavelengths.proofs.Report.{report-refused, report-short, report-done}
 use Rattle.wavelengths.proofs.Promise.{says, later-untouched, same-size}
 use Rattle.promises.specs.Calls.{Leaves, GratingReport}
-use Rattle.promises.specs.Reading.{GoodPlan}
+use Rattle.promises.specs.Reading.{GoodPlan, Unwritten, unread, no-room}
 use Rattle.promises.specs.Report.{Reported}
-use Rattle.promises.proofs.Outcomes.{never, same-counts}
+use Rattle.promises.proofs.Outcomes.{never, same-counts, same-refusal}
+use Rattle.promises.proofs.Reading as reading
 use Rattle.promises.proofs.Reading.{good-checks, checks-good}
 
 module _ (E : Edition) (bounds : Bounded E) (N : ℕ) (plan buf : List ℕ) (r : Outcome) (after : List ℕ)
     (met : let x = reported E N plan buf in Leaves (x .outcome) (x .bytes) r after) where
-  refused : (x : Refusal) → refuses x buf ≡ reported E N plan buf → (GoodPlan E N plan → whole (E .width) plan ≤ length buf → ⊥) → Reported E N plan buf r after
-  refused x e bad =
+  refused : (x : Refusal) → refuses x buf ≡ reported E N plan buf → (GoodPlan E N plan → whole (E .width) plan ≤ length buf → ⊥)
+      → Unwritten E N plan (length buf) (whole (E .width) plan) x → Reported E N plan buf r after
+  refused x e bad why =
       let is : r ≡ Refused x = met .0 ∙ ap (λ (y : Result). y .outcome) (sym e) in
       let same : after ≡ buf = met .1 ∙ ap (λ (y : Result). y .bytes) (sym e) in
       record {
@@ -46,6 +49,7 @@ module _ (E : Edition) (bounds : Bounded E) (N : ℕ) (plan buf : List ℕ) (r :
         says = λ z. never (sym is ∙ code-done r z);
         later = λ z. never (sym is ∙ code-done r z);
         size = ap length same;
+        refuses = λ f q. subst (Unwritten E N plan (length buf) (whole (E .width) plan)) (same-refusal (sym is ∙ q)) why;
         unchanged = λ _. same;
       }
 
@@ -66,6 +70,7 @@ module _ (E : Edition) (bounds : Bounded E) (N : ℕ) (plan buf : List ℕ) (r :
         later = λ z k l. ap (λ (b : List ℕ). getD b k 0) (met .1)
             ∙ later-untouched E bounds N plan buf (sym fine) room k (omega (arith, ap (λ (x : Counts). x .records) (same-counts (sym is ∙ code-done r z))));
         size = ap length (met .1) ∙ same-size E bounds N plan buf (sym fine) room;
+        refuses = λ f q. never (sym q ∙ is);
         unchanged = λ n. absurd (n (ap codeOf is));
       }
 
@@ -74,10 +79,13 @@ module _ (E : Edition) (bounds : Bounded E) (N : ℕ) (plan buf : List ℕ) (r :
     where
       by : (o : Outcome) → checking E N plan ≡ o → Reported E N plan buf r after
       by (Refused x) e = refused x (report-refused E N plan buf (sym e)) (λ g l. never (sym e ∙ good-checks E N plan bounds g))
+          (unread (reading.unread E bounds N plan x e))
       by (Done o) e = room (decLt (length buf) (o .records))
         where
           room : Dec (length buf < o .records) → Reported E N plan buf r after
           room (yes l) = refused _ (report-short E N plan buf (sym e) l) (λ g h. omega (arith, count o e))
+              (subst (λ (n : ℕ). Unwritten E N plan (length buf) (whole (E .width) plan) (Room n)) (sym (count o e))
+              (no-room (checks-good E N plan bounds o e) (omega (arith, count o e))))
           room (no l) = done o e (omega (arith, l))
 
 -- the report of a plan

@@ -19,6 +19,7 @@ use Rattle.wish.proofs.Above.{above-two}
 use Rattle.switch.specs.declared.Outcome.{Outcome}
 use Rattle.switch.specs.declared.Outcome.the-variants.{Done, Refused}
 use Rattle.switch.specs.declared.Refusal.{Refusal}
+use Rattle.switch.specs.declared.Refusal.the-variants.{Ports}
 use Rattle.switch.specs.declared.Counts.{Counts}
 use Rattle.switch.specs.Answer.{countsOf, planCounts}
 use Rattle.switch.proofs.Answer.{code-done}
@@ -29,15 +30,16 @@ use Rattle.wishes.specs.declared.Fault.the-variants.{At, Nothing}
 use Rattle.wishes.specs.Record.{recordAt, wellFormed}
 use Rattle.wishes.specs.Fault.{named, wishFault, faultAt, firstFault}
 use Rattle.wishes.specs.Wishes.{Demanded, cellsOf, cellsAfter, outcome}
-use Rattle.wishes.proofs.Faults.{its-wish, sound, no-fault}
+use Rattle.wishes.proofs.Faults.{its-wish, sound, no-fault, first-at}
 use Rattle.wishes.proofs.Pairs.{named-by, by-named}
 use Rattle.wishes.proofs.Cells.{demanded}
 use Rattle.wishes.proofs.Answers.{bad-ports, bad-cells, torn, searched}
 use Rattle.records.proofs.Every.{and-l, and-r}
 use borrow.Author.Tests.{lt-ltb, eq-eqb, ltb-true, eqb-true}
 use Rattle.promises.specs.Calls.{OfBits, WishList}
-use Rattle.promises.proofs.Outcomes.{never, not-zero}
-use Rattle.promises.specs.Wishes.{Wished, GoodWish, GoodList, WishedAll}
+use Rattle.promises.proofs.Outcomes.{never, same-refusal, not-zero}
+use Rattle.promises.specs.Wishes.{Wished, GoodWish, GoodList, Untaken, WishedAll}
+use Rattle.promises.specs.Wishes as untaken
 
 in-range : {x : Float} {w : Wish} → Answers x w → codeOf w ≡ 0 → InRange x
 in-range a-nan z = absurd (omega (arith, z))
@@ -191,11 +193,33 @@ module _ (N : ℕ) (list cells : List ℕ) (r : Outcome) (after : List ℕ) (met
       by (Done c) e = absurd (n c (met .0 ∙ e))
       by (Refused x) e = met .1 ∙ ap (cellsOf N list cells) e
 
+  -- the first test that fails
+  module _ (f : Refusal) (e : r ≡ Refused f) where
+    told : (g : Refusal) → outcome 64 N list (length cells) ≡ Refused g → Untaken N list (length cells) g → Untaken N list (length cells) f
+    told g q = subst (Untaken N list (length cells)) (same-refusal (sym q ∙ sym (met .0) ∙ e))
+
+    why : Untaken N list (length cells) f
+    why =
+        dite (decLt 0 N) (λ some. dite (decLt 64 N)
+        (λ l. told Ports (bad-ports 64 N list (length cells) (many-ports 64 N l)) (untaken.no-ports (λ _ h. omega arith)))
+        (λ g. let few : N ≤ 64 = omega (arith, g) in dite (ℕ-discrete (length cells) (N * N)) (λ square. dite (ℕ-discrete (length list % 8) 0)
+        (λ even. by some few square even (firstFault N list count) refl)
+        (λ t. told _ (torn 64 N list (length cells) (some-ports 64 N some few) square t) (untaken.torn some few square t)))
+        (λ b. told _ (bad-cells 64 N list (length cells) (some-ports 64 N some few) b) (untaken.no-square some few b))))
+        (λ z. told Ports (bad-ports 64 N list (length cells) (no-ports 64 N (omega (arith, z)))) (untaken.no-ports (λ s _. z s)))
+      where
+        by : 0 < N → N ≤ 64 → length cells ≡ N * N → length list % 8 ≡ 0 → (x : Fault) → firstFault N list count ≡ x → Untaken N list (length cells) f
+        by some few square even (At x) q =
+            told x (searched 64 N list (length cells) (some-ports 64 N some few) square even (At x) q)
+            (untaken.faulty some few square even (first-at N list count x q))
+        by some few square even Nothing q = never (sym e ∙ met .0 ∙ searched 64 N list (length cells) (some-ports 64 N some few) square even Nothing q)
+
   -- a list of wishes
   pub wishes-promise : WishedAll N list cells r after
   wishes-promise = record {
     taken = list-taken;
     only-then = λ z. list-good (countsOf r) (code-done r z);
     demand = λ z. list-demand (countsOf r) (code-done r z);
+    refuses = why;
     unchanged = λ n. list-unchanged (not-zero n);
   }

@@ -1,12 +1,11 @@
 -- What a caller of the checker gets. Definitions only.
 use mathlib.Core.Path.{_≡_}
 use mathlib.Core.List.{List}
-use Prim.Native.Nat.{ℕ, _+_, _%_, _<_, _≤_}
-use lib.ListN.{length}
+use Prim.Native.Nat.{ℕ, _≤_}
 use Rattle.switch.specs.declared.Outcome.{Outcome}
 use Rattle.switch.specs.declared.Outcome.the-variants.{Refused}
 use Rattle.switch.specs.declared.Refusal.{Refusal}
-use Rattle.switch.specs.declared.Refusal.the-variants.{Torn, Records, Malformed, Uncovered}
+use Rattle.switch.specs.declared.Refusal.the-variants.{Uncovered}
 use Rattle.switch.specs.Answer.{codeOf, countsOf, demandCounts}
 use Rattle.switch.specs.Demand.{cell, longest}
 use Rattle.switch.specs.Plan.{grant, total, Covers}
@@ -14,7 +13,7 @@ use Rattle.switch.specs.Empty.{emptySlots}
 use Rattle.records.specs.Bytes.{whole, planOf}
 use Rattle.switch.specs.declared.Edition.{Edition}
 use Rattle.checker.specs.Check.{Short}
-use Rattle.promises.specs.Reading.{Openable, GoodPlan, FirstDamaged}
+use Rattle.promises.specs.Reading.{GoodPlan, Unread}
 use Rattle.promises.specs.Planner.{Fair, Fault}
 
 -- a demand that is fair, and a plan with nothing wrong that covers it
@@ -27,12 +26,8 @@ pub record Good (E : Edition) (N : ℕ) (d plan : List ℕ) : Type 0 where
 pub data Objects (E : Edition) (N : ℕ) (d plan : List ℕ) : Refusal → Type 0 where
   -- codes 1, 2 and 3
   faulty : {f : Refusal} → Fault E N d f → Objects E N d plan f
-  -- code 9: the bytes are not whole records
-  torn : Fair E 65535 N d → (length plan % (E .width + 4) ≡ 0 → ⊥) → Objects E N d plan (Torn (whole (E .width) plan))
-  -- code 10: there are more records than the edition takes
-  many : Fair E 65535 N d → length plan % (E .width + 4) ≡ 0 → E .records < whole (E .width) plan → Objects E N d plan (Records (E .records))
-  -- code 11: record k is the first that is not well formed
-  damaged : Fair E 65535 N d → Openable E N plan → (k : ℕ) → k < whole (E .width) plan → FirstDamaged E N plan k → Objects E N d plan (Malformed k)
+  -- codes 9, 10 and 11
+  unread : {f : Refusal} → Fair E 65535 N d → Unread E N plan f → Objects E N d plan f
   -- code 13: cell k is the first that is granted less than it asks
   falls-short : Fair E 65535 N d → GoodPlan E N plan → (k : ℕ) → Short N (cell N d) (grant (planOf (E .width) plan)) k → Objects E N d plan (Uncovered k)
 

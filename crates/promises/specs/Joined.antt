@@ -4,7 +4,8 @@ use mathlib.Core.List.{List}
 use Prim.Native.Nat.{ℕ, _+_, _*_, _≤_}
 use lib.ListN.{length, take, drop}
 use Rattle.switch.specs.declared.Outcome.{Outcome}
-use Rattle.switch.specs.declared.Outcome.the-variants.{Done}
+use Rattle.switch.specs.declared.Outcome.the-variants.{Done, Refused}
+use Rattle.switch.specs.declared.Refusal.{Refusal}
 use Rattle.switch.specs.declared.Counts.{Counts}
 use Rattle.switch.specs.Answer.{codeOf, countsOf, planCounts}
 use Rattle.switch.specs.Plan.{Record, grant, total}
@@ -12,7 +13,7 @@ use Rattle.records.specs.Bytes.{whole, planOf}
 use Rattle.switch.specs.declared.Edition.{Edition}
 use Rattle.settings.specs.Sums.{sums, Summed}
 use Rattle.joining.specs.Join.{cut, joinPlan, joining}
-use Rattle.promises.specs.Reading.{GoodPlan}
+use Rattle.promises.specs.Reading.{GoodPlan, Unwritten}
 
 -- the plan q does what p did, with no more records; its records are the settings of p in order of first appearance, each with its holds summed
 -- and the sums cut into records of at most 65,535
@@ -41,5 +42,6 @@ pub record Joined (E : Edition) (N : ℕ) (plan buf : List ℕ) (r : Outcome) (a
   pub later : codeOf r ≡ 0 → drop (countsOf r .records * (E .width + 4)) after ≡ drop (countsOf r .records * (E .width + 4)) buf
   -- joined once more, into any buffer, they give there what the plan itself gives
   pub twice : codeOf r ≡ 0 → (next : List ℕ) → joining E N (part E (countsOf r) after) next ≡ joining E N plan next
-  -- and else no byte is touched
+  -- and else it has its reason, and no byte is touched
+  pub refuses : (f : Refusal) → r ≡ Refused f → Unwritten E N plan (whole (E .width) buf) (length (joinedOf E plan)) f
   pub unchanged : (codeOf r ≡ 0 → ⊥) → after ≡ buf

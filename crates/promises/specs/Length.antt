@@ -5,13 +5,15 @@ use Prim.Native.Nat.{ℕ, suc, _+_, _*_, _≤_}
 use lib.ListN.{length}
 use Rattle.counting.specs.Sum.{sum}
 use Rattle.switch.specs.declared.Outcome.{Outcome}
+use Rattle.switch.specs.declared.Outcome.the-variants.{Refused}
+use Rattle.switch.specs.declared.Refusal.{Refusal}
 use Rattle.switch.specs.declared.Counts.{Counts}
 use Rattle.switch.specs.Answer.{codeOf, countsOf}
 use Rattle.switch.specs.Plan.{Record, total}
 use Rattle.records.specs.Bytes.{planOf}
 use Rattle.switch.specs.declared.Edition.{Edition}
 use Rattle.settings.specs.Sums.{settingAt}
-use Rattle.promises.specs.Reading.{GoodPlan}
+use Rattle.promises.specs.Reading.{GoodPlan, Unread}
 
 -- what each record of p is charged at a switching time of d: d for the first and where the mirrors move, and nothing where they stay
 pub record Charges (d : ℕ) (p : List Record) (charge : ℕ → ℕ) : Type 0 where
@@ -33,7 +35,8 @@ pub record Lasts (d : ℕ) (p : List Record) (c : Counts) : Type 0 where
 
 -- the answer r
 pub record Measured (E : Edition) (N : ℕ) (plan : List ℕ) (d : ℕ) (r : Outcome) : Type 0 where
-  -- code 0 exactly when nothing is wrong with the plan
+  -- code 0 exactly when nothing is wrong with the plan, and any other for its reason
   pub taken : GoodPlan E N plan → codeOf r ≡ 0
   pub only-then : codeOf r ≡ 0 → GoodPlan E N plan
+  pub refuses : (f : Refusal) → r ≡ Refused f → Unread E N plan f
   pub lasts : codeOf r ≡ 0 → Lasts d (planOf (E .width) plan) (countsOf r)

@@ -4,7 +4,9 @@ use mathlib.Core.List.{List}
 use Prim.Native.Nat.{ℕ, zero, suc, _+_, _%_, _<_, _≤_}
 use lib.ListN.{length}
 use Rattle.switch.specs.declared.Outcome.{Outcome}
-use Rattle.switch.specs.declared.Outcome.the-variants.{Done}
+use Rattle.switch.specs.declared.Outcome.the-variants.{Done, Refused}
+use Rattle.switch.specs.declared.Refusal.{Refusal}
+use Rattle.switch.specs.declared.Refusal.the-variants.{Ports, Room, Torn, Records, Malformed}
 use Rattle.switch.specs.Answer.{codeOf, planCounts}
 use Rattle.records.specs.Record.{WellFormed}
 use Rattle.records.specs.Bytes.{recordAt, whole}
@@ -34,12 +36,30 @@ pub record FirstDamaged (E : Edition) (N : ℕ) (plan : List ℕ) (f : ℕ) : Ty
   pub before : (k : ℕ) → k < f → WellFormed (E .width) (E .byte) N (recordAt (E .width) plan k)
   pub here : f < whole (E .width) plan → WellFormed (E .width) (E .byte) N (recordAt (E .width) plan f) → ⊥
 
+-- why a plan is not opened, or not read to its end, each reason only where none before it holds
+pub data Unread (E : Edition) (N : ℕ) (plan : List ℕ) : Refusal → Type 0 where
+  -- code 1: N is 0 or over the edition's most
+  no-ports : (0 < N → N ≤ E .ports → ⊥) → Unread E N plan Ports
+  -- code 9: the bytes are not whole records
+  torn : 0 < N → N ≤ E .ports → (length plan % (E .width + 4) ≡ 0 → ⊥) → Unread E N plan (Torn (whole (E .width) plan))
+  -- code 10: there are more records than the edition takes
+  many : 0 < N → N ≤ E .ports → length plan % (E .width + 4) ≡ 0 → E .records < whole (E .width) plan → Unread E N plan (Records (E .records))
+  -- code 11: record k is the first that is damaged
+  damaged : Openable E N plan → (k : ℕ) → k < whole (E .width) plan → FirstDamaged E N plan k → Unread E N plan (Malformed k)
+
+-- why a plan is read and nothing of it written, where `room` is there and `need` is needed
+pub data Unwritten (E : Edition) (N : ℕ) (plan : List ℕ) (room need : ℕ) : Refusal → Type 0 where
+  unread : {f : Refusal} → Unread E N plan f → Unwritten E N plan room need f
+  -- code 5
+  no-room : GoodPlan E N plan → room < need → Unwritten E N plan room need (Room need)
+
 -- what opening answers
 pub record Opens (N : ℕ) (plan : List ℕ) (r : Outcome) : Type 0 where
   -- code 0 exactly when the plan can be opened, with its records alone
   pub taken : Openable firstEdition N plan → r ≡ Done (planCounts (whole 64 plan) 0 0)
   pub only-then : codeOf r ≡ 0 → Openable firstEdition N plan
-  -- and else every step is the end
+  -- and else it has its reason, and every step is the end
+  pub refuses : (f : Refusal) → r ≡ Refused f → Unread firstEdition N plan f
   pub ends : (codeOf r ≡ 0 → ⊥) → (at : ℕ) → stepAt N plan at ≡ nothing step.End at
 
 -- the step at a record of a plan that can be opened: the record, or its damage, or the end; the last two leave the place, and so come again

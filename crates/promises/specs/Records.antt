@@ -4,7 +4,9 @@ use mathlib.Core.List.{List}
 use Prim.Native.Nat.{ℕ, _<_, _≤_}
 use lib.ListN.{length, take, drop}
 use Rattle.switch.specs.declared.Outcome.{Outcome}
-use Rattle.switch.specs.declared.Outcome.the-variants.{Done}
+use Rattle.switch.specs.declared.Outcome.the-variants.{Done, Refused}
+use Rattle.switch.specs.declared.Refusal.{Refusal}
+use Rattle.switch.specs.declared.Refusal.the-variants.{Ports, Room, Malformed}
 use Rattle.switch.specs.Answer.{codeOf, planCounts}
 use Rattle.switch.specs.Sound.{Sound}
 use Rattle.records.specs.Bytes.{recordAt}
@@ -19,6 +21,15 @@ pub record GoodRecord (hold N : ℕ) (outputs : List ℕ) (size : ℕ) : Type 0 
   pub room : 68 ≤ size
   pub sound : Sound 64 N (record { hold = hold; outputs = outputs })
 
+-- why a record is not written, each reason only where none before it holds
+pub data Unwritable (hold N : ℕ) (outputs : List ℕ) (size : ℕ) : Refusal → Type 0 where
+  -- code 1: N is 0 or over 64
+  no-ports : (0 < N → N ≤ 64 → ⊥) → Unwritable hold N outputs size Ports
+  -- code 5: fewer than 68 bytes are lent
+  no-room : 0 < N → N ≤ 64 → size < 68 → Unwritable hold N outputs size (Room 1)
+  -- code 11: the hold or the outputs are not well formed
+  unsound : 0 < N → N ≤ 64 → 68 ≤ size → (Sound 64 N (record { hold = hold; outputs = outputs }) → ⊥) → Unwritable hold N outputs size (Malformed 0)
+
 -- the answer r, and the buffer afterwards
 pub record RecordWritten (hold N : ℕ) (outputs buf : List ℕ) (r : Outcome) (after : List ℕ) : Type 0 where
   -- code 0 exactly when nothing is wrong, with 1 record and its hold as total
@@ -27,7 +38,8 @@ pub record RecordWritten (hold N : ℕ) (outputs buf : List ℕ) (r : Outcome) (
   -- then the first 68 bytes read back as the same hold and outputs, and no byte behind them is touched
   pub reads-back : codeOf r ≡ 0 → stepAt N (take 68 after) 0 ≡ record { step = step.Record; hold = hold; outputs = outputs; next = 1 }
   pub later : codeOf r ≡ 0 → drop 68 after ≡ drop 68 buf
-  -- and else no byte is
+  -- and else it has its reason, and no byte is
+  pub refuses : (f : Refusal) → r ≡ Refused f → Unwritable hold N outputs (length buf) f
   pub unchanged : (codeOf r ≡ 0 → ⊥) → after ≡ buf
 
 -- record `at` of a plan, read as s and written again

@@ -4,14 +4,15 @@ use mathlib.Core.List.{List}
 use Prim.Native.Nat.{ℕ, _<_, _≤_}
 use lib.ListN.{length, getD}
 use Rattle.switch.specs.declared.Outcome.{Outcome}
-use Rattle.switch.specs.declared.Outcome.the-variants.{Done}
+use Rattle.switch.specs.declared.Outcome.the-variants.{Done, Refused}
+use Rattle.switch.specs.declared.Refusal.{Refusal}
 use Rattle.switch.specs.Answer.{codeOf, countsOf, planCounts}
 use Rattle.switch.specs.Plan.{total}
 use Rattle.records.specs.Record.{decoded}
 use Rattle.records.specs.Bytes.{recordAt, whole, planOf}
 use Rattle.switch.specs.declared.Edition.{Edition}
 use Rattle.wavelengths.specs.Shared.{MostShared}
-use Rattle.promises.specs.Reading.{GoodPlan}
+use Rattle.promises.specs.Reading.{GoodPlan, Unwritten}
 
 -- the answer r for a plan, and the report's buffer afterwards
 pub record Reported (E : Edition) (N : ℕ) (plan buf : List ℕ) (r : Outcome) (after : List ℕ) : Type 0 where
@@ -22,5 +23,6 @@ pub record Reported (E : Edition) (N : ℕ) (plan buf : List ℕ) (r : Outcome) 
   pub says : codeOf r ≡ 0 → (k : ℕ) → k < countsOf r .records → MostShared N (decoded (recordAt (E .width) plan k)) (getD after k 0)
   pub later : codeOf r ≡ 0 → (k : ℕ) → countsOf r .records ≤ k → getD after k 0 ≡ getD buf k 0
   pub size : length after ≡ length buf
-  -- and else no byte is
+  -- and else it has its reason, and no byte is
+  pub refuses : (f : Refusal) → r ≡ Refused f → Unwritten E N plan (length buf) (whole (E .width) plan) f
   pub unchanged : (codeOf r ≡ 0 → ⊥) → after ≡ buf

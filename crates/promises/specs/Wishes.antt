@@ -5,14 +5,16 @@ use Prim.Native.Nat.{ℕ, _*_, _/_, _%_, _<_, _≤_}
 use lib.ListN.{length}
 use lib.Ieee.{ofBits, binary32}
 use Rattle.switch.specs.declared.Outcome.{Outcome}
-use Rattle.switch.specs.declared.Outcome.the-variants.{Done}
+use Rattle.switch.specs.declared.Outcome.the-variants.{Done, Refused}
+use Rattle.switch.specs.declared.Refusal.{Refusal}
+use Rattle.switch.specs.declared.Refusal.the-variants.{Ports, Cells, Torn}
 use Rattle.switch.specs.Answer.{planCounts}
 use Rattle.switch.specs.Answer as answer
 use Rattle.wish.specs.declared.Wish.{Wish}
 use Rattle.wish.specs.Wish.{wishBits, codeOf, slotsOf, InRange}
 use Rattle.wish.specs.Meaning.{Answers, AboveZero}
 use Rattle.wishes.specs.Record.{recordAt}
-use Rattle.wishes.specs.Fault.{NamedBy}
+use Rattle.wishes.specs.Fault.{NamedBy, FirstAt}
 use Rattle.wishes.specs.Wishes.{Demanded}
 
 -- the answer w for the wish of 32 bits
@@ -43,6 +45,17 @@ pub record GoodList (N : ℕ) (list : List ℕ) (cells : ℕ) : Type 0 where
   pub even : length list % 8 ≡ 0
   pub each : (k : ℕ) → k < length list / 8 → GoodWish N list k
 
+-- why a wish list is not taken, each reason only where none before it holds
+pub data Untaken (N : ℕ) (list : List ℕ) (cells : ℕ) : Refusal → Type 0 where
+  -- code 1: N is 0 or over 64
+  no-ports : (0 < N → N ≤ 64 → ⊥) → Untaken N list cells Ports
+  -- code 2: the cells are not N²
+  no-square : 0 < N → N ≤ 64 → (cells ≡ N * N → ⊥) → Untaken N list cells (Cells (N * N))
+  -- code 9: the bytes are not whole records
+  torn : 0 < N → N ≤ 64 → cells ≡ N * N → (length list % 8 ≡ 0 → ⊥) → Untaken N list cells (Torn (length list / 8))
+  -- the first faulty record's code, 11, 12, 6, 7 or 8 in this order
+  faulty : {f : Refusal} → 0 < N → N ≤ 64 → cells ≡ N * N → length list % 8 ≡ 0 → FirstAt N list (length list / 8) f → Untaken N list cells f
+
 -- the answer r, and the cells afterwards
 pub record WishedAll (N : ℕ) (list cells : List ℕ) (r : Outcome) (after : List ℕ) : Type 0 where
   -- code 0 exactly when nothing is wrong, with the number of wish records
@@ -50,5 +63,6 @@ pub record WishedAll (N : ℕ) (list cells : List ℕ) (r : Outcome) (after : Li
   pub only-then : answer.codeOf r ≡ 0 → GoodList N list (length cells)
   -- then each named pair has its wish's slots, and every other pair 0
   pub demand : answer.codeOf r ≡ 0 → Demanded N list (length list / 8) after
-  -- and else no cell is changed
+  -- and else it has its reason, and no cell is changed
+  pub refuses : (f : Refusal) → r ≡ Refused f → Untaken N list (length cells) f
   pub unchanged : (answer.codeOf r ≡ 0 → ⊥) → after ≡ cells
