@@ -4,6 +4,7 @@ use mathlib.Core.List.{List}
 use Prim.Native.Nat.{ℕ}
 use lib.Ieee.{Float}
 use denote.Ref.{RefT}
+use Rattle.switch.specs.declared.Edition.{Edition}
 use Rattle.switch.proofs.Answer.{determined}
 use Rattle.plans.specs.declared.Stepped.{Stepped}
 use Rattle.reader.specs.declared.Reader.{Reader}
@@ -82,14 +83,14 @@ find-one-answer N tonight standby slot = one _
 pub part-one-answer : (N : ℕ) (tonight standby : List ℕ) (slot : ℕ) → OneAnswer (call.PartInForce N tonight standby slot)
 part-one-answer N tonight standby slot = one _
 
-pub exact-room-one-answer : (N T : ℕ) → OneAnswer (call.RoomFor Exact N T)
-exact-room-one-answer N T = one _
+pub exact-room-one-answer : (E : Edition) (N T : ℕ) → OneAnswer (call.RoomFor E Exact N T)
+exact-room-one-answer E N T = one _
 
-pub doubled-room-one-answer : (N T : ℕ) → OneAnswer (call.RoomFor Doubled N T)
-doubled-room-one-answer N T = one _
+pub doubled-room-one-answer : (E : Edition) (N T : ℕ) → OneAnswer (call.RoomFor E Doubled N T)
+doubled-room-one-answer E N T = one _
 
-pub quick-room-one-answer : (N T : ℕ) → OneAnswer (call.RoomFor Quick N T)
-quick-room-one-answer N T = one _
+pub quick-room-one-answer : (E : Edition) (N T : ℕ) → OneAnswer (call.RoomFor E Quick N T)
+quick-room-one-answer E N T = one _
 
 pub listing-one-result : (input text : List ℕ) → OneResult (call.Listing input text)
 listing-one-result input text a b l m p q = (one _ a b (p .0) (q .0), one _ l m (p .1) (q .1))

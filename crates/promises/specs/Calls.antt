@@ -16,6 +16,7 @@ use Rattle.planner.specs.Planned.{planned, plannedUpTo}
 use Rattle.records.specs.Bytes.{laid}
 use Rattle.records.specs.Write.{written}
 use Rattle.plans.specs.declared.Stepped.{Stepped}
+use Rattle.switch.specs.declared.Edition.{Edition}
 use Rattle.switch.specs.Editions.{firstEdition}
 use Rattle.plans.specs.Read.{opening, stepAt}
 use Rattle.reader.specs.declared.Reader.{Reader}
@@ -121,9 +122,9 @@ FindInForce N tonight standby slot r = r ≡ foundOf firstEdition (spotOf firstE
 abbrev pub PartInForce : ℕ → List ℕ → List ℕ → ℕ → List ℕ → Type 0
 PartInForce N tonight standby slot r = r ≡ partOf firstEdition (spotOf firstEdition N tonight standby slot) tonight standby
 
--- ---- room::exact_room(n, longest), doubled_room(n, longest) and quick_room(n, longest)
-abbrev pub RoomFor : Planner → ℕ → ℕ → Outcome → Type 0
-RoomFor planner N T r = r ≡ roomed firstEdition planner N T
+-- ---- room::exact_room(n, longest), doubled_room(n, longest) and quick_room(n, longest), and those of the second edition
+abbrev pub RoomFor : Edition → Planner → ℕ → ℕ → Outcome → Type 0
+RoomFor E planner N T r = r ≡ roomed E planner N T
 
 -- ---- listing::listing(input, text)
 abbrev pub Listing : List ℕ → List ℕ → ℕ → List ℕ → Type 0
