@@ -4,7 +4,6 @@ use mathlib.Core.List.{List}
 use mathlib.Core.Bool.{Bool, true, false, cond}
 use lib.Dec.{ltb}
 use Prim.Native.Nat.{ℕ, zero, suc, _+_, _*_, _-_, _/_, _%_, _<_, _≤_}
-use native.Mathlib.Nat.{div-add-mod'}
 use native.Mathlib.Decide.{decLt}
 use native.Mathlib.Omega.{arith}
 use lib.ListN.{length, getD}
@@ -27,11 +26,6 @@ use Rattle.demand.proofs.Lines.{over-first}
 use Rattle.checker.specs.declared.Meeting.{Meeting}
 use Rattle.checker.specs.declared.Meeting.the-variants.{Misses, Meets}
 use Rattle.checker.specs.Check.{missing, uncovered, Short, meeting, covering}
-
--- a cell's index tells its pair
-pub cell-index : (N : ℕ) (d : List ℕ) (k : ℕ) → cell N d (k / N) (k % N) ≡ getD d k 0
-unfolding cell
-cell-index N d k = ap (λ (i : ℕ). getD d i 0) (div-add-mod' k N)
 
 -- ---- the scan
 

@@ -1,5 +1,5 @@
 -- The checks of a demand case by case: each refusal is given exactly where its test is the first that fails.
-use mathlib.Core.Path.{_≡_, refl}
+use mathlib.Core.Path.{_≡_, refl, _∙_}
 use mathlib.Core.Bool.{Bool, true, false, cond, _&&_}
 use mathlib.Core.List.{List}
 use Prim.Native.Nat.{ℕ, _*_, _<_, _≤_}
@@ -12,8 +12,16 @@ use Rattle.switch.specs.Demand.{cell, longest}
 use Rattle.switch.specs.Check.{portsFine}
 use Rattle.switch.specs.declared.Refusal.the-variants.{Ports, Cells, Line}
 use Rattle.demand.specs.Lines.{lineOver}
-use Rattle.demand.specs.Check.{checkDemand, Asked}
+use Rattle.demand.specs.Check.{checkLines, checkDemand, Asked}
 use Rattle.demand.specs.declared.Checked.the-variants.{Fine, Faulty}
+
+-- code 3
+module _ (N : ℕ) (d : List ℕ) where
+  pub lines-long : 65535 < longest N (cell N d) → Faulty (Line (lineOver N d)) ≡ checkLines N d
+  lines-long l = rw (lt-leb _ _ l)
+
+  pub lines-fine : longest N (cell N d) ≤ 65535 → Fine (longest N (cell N d)) ≡ checkLines N d
+  lines-fine l = rw (le-leb _ _ l)
 
 module _ (most N : ℕ) (d : List ℕ) where
   -- code 1
@@ -28,14 +36,12 @@ module _ (most N : ℕ) (d : List ℕ) where
     bad-cells h = rw (ports, ne-eqb _ _ h)
 
     module _ (s : length d ≡ N * N) where
-      -- code 3
-      pub long-line : 65535 < longest N (cell N d) → Faulty (Line (lineOver N d)) ≡ checkDemand most N d
+      pub lines-left : checkLines N d ≡ checkDemand most N d
       unfolding checkDemand
-      long-line l = rw (ports, eq-eqb _ _ s, lt-leb _ _ l)
+      lines-left = rw (ports, eq-eqb _ _ s)
 
       pub fine : longest N (cell N d) ≤ 65535 → Fine (longest N (cell N d)) ≡ checkDemand most N d
-      unfolding checkDemand
-      fine l = rw (ports, eq-eqb _ _ s, le-leb _ _ l)
+      fine l = lines-fine N d l ∙ lines-left
 
 -- a demand that is not refused has 1 to `most` ports, N² cells, and its longest line is T, at most 65,535
 pub fine-asked : (most N T : ℕ) (d : List ℕ) → checkDemand most N d ≡ Fine T → Asked most N T d

@@ -12,12 +12,16 @@ use Rattle.demand.specs.declared.Checked.{Checked}
 use Rattle.demand.specs.declared.Checked.the-variants.{Fine, Faulty}
 use Rattle.demand.specs.Lines.{lineOver}
 
--- code 1: N is no number of ports; 2: cells lent are not N²; 3: a line sums over 65,535
+-- code 3: a line sums over 65,535; else T
+abbrev pub checkLines : (N : ℕ) (d : List ℕ) → Checked
+checkLines N d = unless (leb (longest N (cell N d)) 65535) (Faulty (Line (lineOver N d))) (Fine (longest N (cell N d)))
+
+-- code 1: N is no number of ports; 2: cells lent are not N²; then 3
 unfoldable pub checkDemand : ℕ → ℕ → List ℕ → Checked
 checkDemand most N d =
     unless (portsFine most N) (Faulty Ports)
     (unless (eqb (length d) (N * N)) (Faulty (Cells (N * N)))
-    (unless (leb (longest N (cell N d)) 65535) (Faulty (Line (lineOver N d))) (Fine (longest N (cell N d)))))
+    (checkLines N d))
 
 -- a demand that no check refuses, and its longest line
 pub record Asked (most N T : ℕ) (d : List ℕ) : Type 0 where

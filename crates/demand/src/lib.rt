@@ -12,7 +12,7 @@ ghost use lib.ListN.{length};
 ghost use Rattle.switch.specs.Demand.{cell, line, longest};
 ghost use Rattle.switch.specs.Empty.{allSlots};
 ghost use Rattle.demand.specs.Lines.{strided, over, lineOver, Sized, Short};
-ghost use Rattle.demand.specs.Check.{checkDemand};
+ghost use Rattle.demand.specs.Check.{checkLines, checkDemand};
 
 // What the checks of a demand find: its longest line, or why it is refused.
 pub enum Checked {
@@ -35,6 +35,14 @@ pub fn check_demand(n: usize, most: usize, cells: &[u32]) -> Checked
     if cells.len() != square {
         return Checked::Faulty(Refusal::Cells(square));
     }
+    check_lines(n, cells)
+}
+
+// Code 3 by itself, for calls that have other codes before it; else T.
+pub fn check_lines(n: usize, cells: &[u32]) -> Checked
+    requires { ⌜ Sized n (now cells) ⌝ }
+    ensures { λ r. ⌜ r ≡ checkLines n (now (cells .entry)) ⌝ }
+{
     let longest = longest_line(cells, n);
     if LONGEST < longest {
         return Checked::Faulty(Refusal::Line(line_over(cells, n)));

@@ -2,9 +2,9 @@
 use mathlib.Core.Path.{_≡_, sym, ap, _∙_}
 use mathlib.Core.List.{List, [], _∷_, _++_}
 use mathlib.Core.Logic.{dite}
-use Prim.Native.Nat.{ℕ, zero, suc, _+_, _*_, _<_, _≤_}
+use Prim.Native.Nat.{ℕ, zero, suc, _+_, _*_, _/_, _%_, _<_, _≤_}
 use native.Mathlib.Decide.{ℕ-discrete, decLt}
-use native.Mathlib.Nat.{mul-le-mul-left}
+use native.Mathlib.Nat.{mul-le-mul-left, div-add-mod'}
 use native.Mathlib.Omega.{arith}
 use lib.ListN.{length, getD, set, length-set, replicate, length-replicate, getD-replicate, List·getD-eq-default}
 use lib.Seq.{getD-drop}
@@ -29,6 +29,11 @@ pub grant-le-total : (p : List Record) (i j : ℕ) → grant p i j ≤ total p
 unfolding grant total
 grant-le-total [] i j = omega arith
 grant-le-total (r ∷ p) i j = omega (arith, mul-le-mul-left (r .hold) (δ-le (output r i) j), grant-le-total p i j)
+
+-- a cell's index tells its pair
+pub cell-index : (N : ℕ) (d : List ℕ) (k : ℕ) → cell N d (k / N) (k % N) ≡ getD d k 0
+unfolding cell
+cell-index N d k = ap (λ (i : ℕ). getD d i 0) (div-add-mod' k N)
 
 -- past its end only is a list what it is said to be there
 getD-inside : (l : List ℕ) (i a b : ℕ) → i < length l → getD l i a ≡ getD l i b

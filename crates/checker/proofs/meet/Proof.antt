@@ -10,8 +10,9 @@ use Rattle.counting.proofs.Sum.{sum-zero, sum-next}
 use Rattle.switch.specs.Demand.{cell}
 use Rattle.demand.specs.Lines.{over}
 use Rattle.demand.proofs.Lines.{over-here, over-next, over-end, over-start}
+use Rattle.grants.proofs.Grant.{cell-index}
 use Rattle.checker.specs.Check.{missing, uncovered}
-use Rattle.checker.proofs.Cover.{cell-index, missing-some, missing-none, meeting-misses, meeting-meets, beyond-cells}
+use Rattle.checker.proofs.Cover.{missing-some, missing-none, meeting-misses, meeting-meets, beyond-cells}
 use borrow.Author.Needs.{needs}
 use Rattle.checker.proofs.meet.Statement.{statement}
 use Rattle.checker.proofs.meet.Tie as tie

@@ -1,14 +1,10 @@
 -- Each return is the case of the definition whose tests led there.
-use mathlib.Core.Path.{ap, _∙_}
-use Prim.Native.Nat.{ℕ, _≤_}
+use mathlib.Core.Path.{_∙_}
+use Prim.Native.Nat.{_≤_}
 use native.Mathlib.Omega.{arith}
 use native.Mathlib.Nat.{mul-le-mul}
-use Rattle.switch.specs.declared.Side.{Side}
-use Rattle.switch.specs.declared.Refusal.the-variants.{Line}
-use Rattle.demand.specs.declared.Checked.{Checked}
-use Rattle.demand.specs.declared.Checked.the-variants.{Fine, Faulty}
 use Rattle.switch.proofs.Check.{no-ports, many-ports, some-ports}
-use Rattle.demand.proofs.Check.{bad-ports, bad-cells, long-line, fine}
+use Rattle.demand.proofs.Check.{bad-ports, bad-cells, lines-left}
 use borrow.Author.Needs.{needs}
 use Rattle.demand.proofs.check_demand.Statement.{statement}
 use Rattle.demand.proofs.check_demand.Tie as tie
@@ -25,23 +21,11 @@ mul-square c = let l : c .before .before .before .args .n ≤ 128 = omega arith 
 returns-3 : tie.Need-returns-3
 returns-3 c = bad-cells _ _ _ (some-ports _ _ (omega arith) (c .before .if2 .left)) (c .if3 .taken)
 
-longest-line-requires : tie.Need-longest-line-requires
-longest-line-requires c κs = search needs
-
-line-over-requires : tie.Need-line-over-requires
-line-over-requires c κs = search needs
+check-lines-requires : tie.Need-check-lines-requires
+check-lines-requires c κs = search needs
 
 returns-4 : tie.Need-returns-4
-returns-4 c =
-    ap {B = Checked} (λ (s : Side). Faulty (Line s)) (c .line-over .ensures)
-    ∙ long-line _ _ _ (some-ports _ _ (omega arith) (c .before .before .before .before .if2 .left)) (c .before .before .before .if3 .left)
-    (omega (arith, c .before .before .longest-line .ensures, c .before .if4 .taken))
-
-returns-5 : tie.Need-returns-5
-returns-5 c =
-    ap {B = Checked} (λ (t : ℕ). Fine t) (c .before .longest-line .ensures)
-    ∙ fine _ _ _ (some-ports _ _ (omega arith) (c .before .before .before .if2 .left)) (c .before .before .if3 .left)
-    (omega (arith, c .before .longest-line .ensures, c .if4 .left))
+returns-4 c = c .check-lines .ensures ∙ lines-left _ _ _ (some-ports _ _ (omega arith) (c .before .before .if2 .left)) (c .before .if3 .left)
 
 pub check-demand-spec : {M : Type 1} → statement M
 check-demand-spec =
@@ -51,7 +35,5 @@ check-demand-spec =
     returns-2
     mul-square
     returns-3
-    longest-line-requires
-    line-over-requires
-    returns-4
-    returns-5)
+    check-lines-requires
+    returns-4)
