@@ -1,0 +1,43 @@
+-- Each return is the case of the definition whose tests led there.
+use mathlib.Core.Path.{sym, _∙_}
+use Rattle.carry.proofs.Carry.{first-over, asked-refused, asked-done}
+use borrow.Author.Needs.{needs}
+use Rattle.carry.proofs.fault_after.Statement.{statement}
+use Rattle.carry.proofs.fault_after.Tie as tie
+
+returns : tie.Need-returns
+returns c = first-over _ _ _ _ _ (c .if1 .taken)
+
+lines-of-requires : tie.Need-lines-of-requires
+lines-of-requires c κs = search needs
+
+enum-told : tie.Need-enum-told
+enum-told c = search needs
+
+enum-told-2 : tie.Need-enum-told-2
+enum-told-2 c = search needs
+
+returns-2 : tie.Need-returns-2
+returns-2 c =
+    let e = c .enum-told2 .given .1 in
+    e ∙ asked-refused _ _ _ _ _ (c .before .before .before .if1 .left) _ _ (sym e ∙ c .before .before .lines-of .ensures)
+
+lines-of-requires-2 : tie.Need-lines-of-requires-2
+lines-of-requires-2 c κs = search needs
+
+returns-3 : tie.Need-returns-3
+returns-3 c =
+    let p4 = c .before .before .before .before in
+    c .lines-of2 .ensures ∙ asked-done _ _ _ _ _ (p4 .if1 .left) (sym (c .before .enum-told .given .1) ∙ c .before .before .before .lines-of .ensures)
+
+pub fault-after-spec : {M : Type 1} → statement M
+fault-after-spec =
+    tie.close
+    (tie.spec
+    returns
+    lines-of-requires
+    enum-told
+    enum-told-2
+    returns-2
+    lines-of-requires-2
+    returns-3)
