@@ -1,9 +1,12 @@
 -- Answers and steps as the numbers that cross the edge. Definitions only.
+use mathlib.Core.Path.{_≡_}
 use mathlib.Core.Bool.{cond}
+use mathlib.Core.List.{List}
 use Prim.Native.Nat.{ℕ}
 use lib.Dec.{eqb}
 use Rattle.switch.specs.declared.Outcome.{Outcome}
 use Rattle.switch.specs.Answer.{codeOf, placeOf, sideOf, countsOf}
+use Rattle.switch.specs.Result.{Result}
 use Rattle.wish.specs.declared.Wish.{Wish}
 use Rattle.wish.specs.Wish as wish
 use Rattle.plans.specs.declared.Step.{Step}
@@ -33,6 +36,11 @@ flat o =
       dropped = 0;
       about = 0;
     }
+
+-- what crosses the edge is what a call gives: the numbers of its outcome, and the bytes that it leaves
+pub record Crosses (given : Result) (r : CvAnswer) (after : List ℕ) : Type 0 where
+  pub answer : r ≡ flat (given .outcome)
+  pub bytes : after ≡ given .bytes
 
 -- one wish: its code, and its slots as total
 abbrev pub flatWish : Wish → CvAnswer

@@ -19,7 +19,7 @@ ghost use Rattle.length.specs.Length.{planLength};
 ghost use Rattle.joining.specs.Join.{joining};
 ghost use Rattle.wavelengths.specs.Report.{reported};
 ghost use Rattle.grating.specs.Grating.{gratingPlanned};
-ghost use Rattle.chordvenus.specs.Flat.{version, flat, kindOf, flatStep, flatWish};
+ghost use Rattle.chordvenus.specs.Flat.{version, flat, kindOf, flatStep, flatWish, Crosses};
 
 // The version of the structs and functions below. A struct that is returned by value cannot grow: whoever adds a field makes it one more.
 const VERSION: u64 = 1;
@@ -91,7 +91,7 @@ pub extern "C" fn cv_wishes(n: usize, list: &[u8], cells: &mut [u32]) -> CvAnswe
 // The exact plan.
 #[no_mangle]
 pub extern "C" fn cv_exact(n: usize, cells: &[u32], plan: &mut [u8]) -> CvAnswer
-    ensures { λ r. ⌜ (r ≡ flat (planned 64 0 n (now (cells .entry)) (exactPlan 64 n (now (cells .entry))) (now (plan .entry)) .outcome)) × (now (plan .exit) ≡ planned 64 0 n (now (cells .entry)) (exactPlan 64 n (now (cells .entry))) (now (plan .entry)) .bytes) ⌝ }
+    ensures { λ r. ⌜ Crosses (planned 64 0 n (now (cells .entry)) (exactPlan 64 n (now (cells .entry))) (now (plan .entry))) r (now (plan .exit)) ⌝ }
 {
     flatten(exact::exact_plan(n, cells, plan))
 }
@@ -99,7 +99,7 @@ pub extern "C" fn cv_exact(n: usize, cells: &[u32], plan: &mut [u8]) -> CvAnswer
 // The doubled plan.
 #[no_mangle]
 pub extern "C" fn cv_doubled(n: usize, cells: &[u32], plan: &mut [u8]) -> CvAnswer
-    ensures { λ r. ⌜ (r ≡ flat (planned 64 0 n (now (cells .entry)) (tightPlan 64 n (now (cells .entry))) (now (plan .entry)) .outcome)) × (now (plan .exit) ≡ planned 64 0 n (now (cells .entry)) (tightPlan 64 n (now (cells .entry))) (now (plan .entry)) .bytes) ⌝ }
+    ensures { λ r. ⌜ Crosses (planned 64 0 n (now (cells .entry)) (tightPlan 64 n (now (cells .entry))) (now (plan .entry))) r (now (plan .exit)) ⌝ }
 {
     flatten(doubled::doubled_plan(n, cells, plan))
 }
@@ -107,7 +107,7 @@ pub extern "C" fn cv_doubled(n: usize, cells: &[u32], plan: &mut [u8]) -> CvAnsw
 // The doubled plan by the rule of every rotation.
 #[no_mangle]
 pub extern "C" fn cv_doubled_every_rotation(n: usize, cells: &[u32], plan: &mut [u8]) -> CvAnswer
-    ensures { λ r. ⌜ (r ≡ flat (planned 64 0 n (now (cells .entry)) (doubledPlan 64 n (now (cells .entry))) (now (plan .entry)) .outcome)) × (now (plan .exit) ≡ planned 64 0 n (now (cells .entry)) (doubledPlan 64 n (now (cells .entry))) (now (plan .entry)) .bytes) ⌝ }
+    ensures { λ r. ⌜ Crosses (planned 64 0 n (now (cells .entry)) (doubledPlan 64 n (now (cells .entry))) (now (plan .entry))) r (now (plan .exit)) ⌝ }
 {
     flatten(doubled::doubled_plan_every_rotation(n, cells, plan))
 }
@@ -115,7 +115,7 @@ pub extern "C" fn cv_doubled_every_rotation(n: usize, cells: &[u32], plan: &mut 
 // The quick cover.
 #[no_mangle]
 pub extern "C" fn cv_quick(n: usize, cells: &[u32], plan: &mut [u8]) -> CvAnswer
-    ensures { λ r. ⌜ (r ≡ flat (plannedUpTo 1024 64 0 n (now (cells .entry)) (quickPlan 64 n (now (cells .entry))) (now (plan .entry)) .outcome)) × (now (plan .exit) ≡ plannedUpTo 1024 64 0 n (now (cells .entry)) (quickPlan 64 n (now (cells .entry))) (now (plan .entry)) .bytes) ⌝ }
+    ensures { λ r. ⌜ Crosses (plannedUpTo 1024 64 0 n (now (cells .entry)) (quickPlan 64 n (now (cells .entry))) (now (plan .entry))) r (now (plan .exit)) ⌝ }
 {
     flatten(quick::quick_plan(n, cells, plan))
 }
@@ -123,7 +123,7 @@ pub extern "C" fn cv_quick(n: usize, cells: &[u32], plan: &mut [u8]) -> CvAnswer
 // The doubled plan for the grating fabric.
 #[no_mangle]
 pub extern "C" fn cv_grating_doubled(n: usize, cells: &[u32], plan: &mut [u8]) -> CvAnswer
-    ensures { λ r. ⌜ (r ≡ flat (gratingPlanned 64 0 n (now (cells .entry)) (now (plan .entry)) .outcome)) × (now (plan .exit) ≡ gratingPlanned 64 0 n (now (cells .entry)) (now (plan .entry)) .bytes) ⌝ }
+    ensures { λ r. ⌜ Crosses (gratingPlanned 64 0 n (now (cells .entry)) (now (plan .entry))) r (now (plan .exit)) ⌝ }
 {
     flatten(grating::grating_doubled(n, cells, plan))
 }
@@ -131,7 +131,7 @@ pub extern "C" fn cv_grating_doubled(n: usize, cells: &[u32], plan: &mut [u8]) -
 // What the records of a plan do on the grating fabric.
 #[no_mangle]
 pub extern "C" fn cv_grating_report(n: usize, plan: &[u8], report: &mut [u8]) -> CvAnswer
-    ensures { λ r. ⌜ (r ≡ flat (reported firstEdition n (now (plan .entry)) (now (report .entry)) .outcome)) × (now (report .exit) ≡ reported firstEdition n (now (plan .entry)) (now (report .entry)) .bytes) ⌝ }
+    ensures { λ r. ⌜ Crosses (reported firstEdition n (now (plan .entry)) (now (report .entry))) r (now (report .exit)) ⌝ }
 {
     flatten(wavelengths::grating_report(n, plan, report))
 }
@@ -155,7 +155,7 @@ pub extern "C" fn cv_length(n: usize, plan: &[u8], d: u16) -> CvAnswer
 // A plan with its equal settings joined, into a second buffer.
 #[no_mangle]
 pub extern "C" fn cv_join(n: usize, plan: &[u8], joined: &mut [u8]) -> CvAnswer
-    ensures { λ r. ⌜ (r ≡ flat (joining firstEdition n (now (plan .entry)) (now (joined .entry)) .outcome)) × (now (joined .exit) ≡ joining firstEdition n (now (plan .entry)) (now (joined .entry)) .bytes) ⌝ }
+    ensures { λ r. ⌜ Crosses (joining firstEdition n (now (plan .entry)) (now (joined .entry))) r (now (joined .exit)) ⌝ }
 {
     flatten(joining::join_plan(n, plan, joined))
 }
@@ -163,7 +163,7 @@ pub extern "C" fn cv_join(n: usize, plan: &[u8], joined: &mut [u8]) -> CvAnswer
 // One record written at the start of a lent buffer.
 #[no_mangle]
 pub extern "C" fn cv_write(hold: u16, n: usize, outputs: &[u8; 64], plan: &mut [u8]) -> CvAnswer
-    ensures { λ r. ⌜ (r ≡ flat (written hold n (now (outputs .entry)) (now (plan .entry)) .outcome)) × (now (plan .exit) ≡ written hold n (now (outputs .entry)) (now (plan .entry)) .bytes) ⌝ }
+    ensures { λ r. ⌜ Crosses (written hold n (now (outputs .entry)) (now (plan .entry))) r (now (plan .exit)) ⌝ }
 {
     flatten(records::write_record(hold, n, outputs, plan))
 }

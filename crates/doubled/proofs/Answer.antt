@@ -1,5 +1,5 @@
 -- Each return of the planner is a case of what a planner answers: nothing asked for, no room for both parts, or both parts laid.
-use mathlib.Core.Path.{_≡_, sym, ap, _∙_}
+use mathlib.Core.Path.{_≡_, refl, sym, ap, _∙_}
 use mathlib.Core.List.{List, []}
 use Prim.Native.Nat.{ℕ, _+_, _*_, _-_, _≤_, _<_}
 use native.Mathlib.Omega.{arith}
@@ -24,7 +24,8 @@ use Rattle.rules.proofs.Empty.{parts-full}
 use Rattle.records.specs.Bytes.{whole, bytes, laid}
 use Rattle.records.proofs.Laid.{laid-none}
 use Rattle.records.proofs.Bytes.{bytes-none}
-use Rattle.switch.specs.Result.{Result}
+use Rattle.switch.specs.Result.{Gives}
+use Rattle.switch.proofs.Result.{gives}
 use Rattle.planner.specs.Planned.{planned}
 use Rattle.planner.proofs.Planned.{planned-short, planned-done, written-outcome, written-bytes}
 use Rattle.turns.specs.declared.Rule.{Rule}
@@ -40,16 +41,14 @@ use Rattle.doubled.proofs.Divided.{quotient-cells}
 -- a plan of r records, total t and x empty slots that is laid is the answer
 laid-answer : (W e N T r t x : ℕ) (d : List ℕ) (p : List Record) (plan plan' : List ℕ) → checkDemand W N d ≡ Fine T → length p ≤ whole W plan
     → r ≡ length p → t ≡ total p → x ≡ emptySlots N (cell N d) p → plan' ≡ laid plan 0 (bytes e N p)
-    → (Done (demandCounts r T t x) ≡ planned W e N d p plan .outcome) × (plan' ≡ planned W e N d p plan .bytes)
+    → Gives (planned W e N d p plan) (Done (demandCounts r T t x)) plan'
 laid-answer W e N T r t x d p plan plan' fine fits a b f c =
-    let s = sym (planned-done W e N d p plan T fine fits) in (
-      written-outcome e N T (emptySlots N (cell N d) p) r t x p plan a b f ∙ ap (λ (y : Result). y .outcome) s,
-      c ∙ written-bytes e N T (emptySlots N (cell N d) p) p plan ∙ ap (λ (y : Result). y .bytes) s,
-    )
+    gives (planned-done W e N d p plan T fine fits) (written-outcome e N T (emptySlots N (cell N d) p) r t x p plan a b f)
+    (c ∙ written-bytes e N T (emptySlots N (cell N d) p) p plan)
 
 -- T is 0
 pub empty-answer : (r : Rule) (W e N : ℕ) (d plan : List ℕ) → checkDemand W N d ≡ Fine 0
-    → (Done (planCounts 0 0 0) ≡ planned W e N d (doubledRule r Forward W N d) plan .outcome) × (plan ≡ planned W e N d (doubledRule r Forward W N d) plan .bytes)
+    → Gives (planned W e N d (doubledRule r Forward W N d) plan) (Done (planCounts 0 0 0)) plan
 empty-answer r W e N d plan fine = laid-answer W e N 0 0 0 0 d (doubledRule r Forward W N d) plan plan fine
     (omega (arith, ap length none)) (sym (ap length none)) (unfold total in sym (ap total none))
     (sym (ap (emptySlots N (cell N d)) none ∙ empty-none N (cell N d) [] (λ i j _ _. unfold grant in omega arith)))
@@ -65,11 +64,10 @@ module _ {W N T u : ℕ} {d q H : List ℕ} (v : Divided W N T u d q) {turns sum
   module _ {need : ℕ} (s : Needs (whole W plan) need (length (exactPlan W N q) + turns)) where
     -- code 5, with the records needed
     pub short-answer : whole W plan < need
-        → (Refused (Room need) ≡ planned W e N d (parts Forward W N u q H) plan .outcome) × (plan ≡ planned W e N d (parts Forward W N u q H) plan .bytes)
+        → Gives (planned W e N d (parts Forward W N u q H) plan) (Refused (Room need)) plan
     short-answer l =
         let n : need ≡ length (parts Forward W N u q H) = omega (arith, s .short l, records) in
-        let r = sym (planned-short W e N d (parts Forward W N u q H) plan T (v .fine) (omega (arith, n))) in
-        (ap (λ (k : ℕ). Refused (Room k)) n ∙ ap (λ (x : Result). x .outcome) r, ap (λ (x : Result). x .bytes) r)
+        gives (planned-short W e N d (parts Forward W N u q H) plan T (v .fine) (omega (arith, n))) (ap (λ (k : ℕ). Refused (Room k)) n) refl
 
     -- there is room, and the quotients are as they were
     module _ (l : need ≤ whole W plan) {S : ℕ} (longest-is : S ≡ longest N (cell N q)) {q' : List ℕ} (same : q' ≡ q) where
@@ -106,7 +104,7 @@ module _ {W N T u : ℕ} {d q H : List ℕ} (v : Divided W N T u d q) {turns sum
       -- both parts are laid, and x slots of them are empty
       pub both-answer : Doubled N d (parts Forward W N u q H) → {r : ℕ} → r ≡ length (exactPlan W N q')
           → {plan' : List ℕ} → plan' ≡ laid plan 0 (bytes e N (parts Forward W N u q' H)) → {x : ℕ} → x ≡ N * (S * u + sum) - allSlots N (cell N d)
-          → (Done (demandCounts (r + turns) T (S * u + sum) x) ≡ planned W e N d (parts Forward W N u q H) plan .outcome) × (plan' ≡ planned W e N d (parts Forward W N u q H) plan .bytes)
+          → Gives (planned W e N d (parts Forward W N u q H) plan) (Done (demandCounts (r + turns) T (S * u + sum) x)) plan'
       both-answer k {r} count {plan'} put {x} f = laid-answer W e N T (r + turns) (S * u + sum) x d (parts Forward W N u q H) plan plan' (v .fine) fits
           (omega (arith, count ∙ ap (λ (x : List ℕ). length (exactPlan W N x)) same, records))
           counted-total

@@ -19,6 +19,7 @@ use turns::Turning;
 ghost use mathlib.Core.Path.{_≡_};
 ghost use Prim.Native.Nat.{ℕ, _+_, _<_, _≤_};
 ghost use lib.ListN.{length};
+ghost use Rattle.switch.specs.Result.{Gives};
 ghost use Rattle.demand.specs.Check.{checkDemand};
 ghost use Rattle.demand.specs.declared.Checked.the-variants.{Fine};
 ghost use Rattle.rules.specs.Exact.{exactPlan};
@@ -36,21 +37,21 @@ const CELLS: usize = 4096;
 
 // The doubled plan of a demand, written at the start of a lent plan. Each rotation is held for the largest remainder among its pairs.
 pub fn doubled_plan(n: usize, cells: &[u32], plan: &mut [u8]) -> Outcome
-    ensures { λ r. ⌜ (r ≡ planned 64 0 n (now (cells .entry)) (tightPlan 64 n (now (cells .entry))) (now (plan .entry)) .outcome) × (now (plan .exit) ≡ planned 64 0 n (now (cells .entry)) (tightPlan 64 n (now (cells .entry))) (now (plan .entry)) .bytes) ⌝ }
+    ensures { λ r. ⌜ Gives (planned 64 0 n (now (cells .entry)) (tightPlan 64 n (now (cells .entry))) (now (plan .entry))) r (now (plan .exit)) ⌝ }
 {
     plan_by(Rule::Tight, n, cells, plan)
 }
 
 // The doubled plan by the old rule: if u is at least 2, every rotation is there, held for u - 1.
 pub fn doubled_plan_every_rotation(n: usize, cells: &[u32], plan: &mut [u8]) -> Outcome
-    ensures { λ r. ⌜ (r ≡ planned 64 0 n (now (cells .entry)) (doubledPlan 64 n (now (cells .entry))) (now (plan .entry)) .outcome) × (now (plan .exit) ≡ planned 64 0 n (now (cells .entry)) (doubledPlan 64 n (now (cells .entry))) (now (plan .entry)) .bytes) ⌝ }
+    ensures { λ r. ⌜ Gives (planned 64 0 n (now (cells .entry)) (doubledPlan 64 n (now (cells .entry))) (now (plan .entry))) r (now (plan .exit)) ⌝ }
 {
     plan_by(Rule::Every, n, cells, plan)
 }
 
 // The doubled plan by either rule.
 fn plan_by(rule: Rule, n: usize, cells: &[u32], plan: &mut [u8]) -> Outcome
-    ensures { λ r. ⌜ (r ≡ planned 64 0 n (now (cells .entry)) (doubledRule rule Forward 64 n (now (cells .entry))) (now (plan .entry)) .outcome) × (now (plan .exit) ≡ planned 64 0 n (now (cells .entry)) (doubledRule rule Forward 64 n (now (cells .entry))) (now (plan .entry)) .bytes) ⌝ }
+    ensures { λ r. ⌜ Gives (planned 64 0 n (now (cells .entry)) (doubledRule rule Forward 64 n (now (cells .entry))) (now (plan .entry))) r (now (plan .exit)) ⌝ }
 {
     match check_demand(n, PORTS, cells) {
         Checked::Faulty(r) => Outcome::Refused(r),
@@ -86,7 +87,7 @@ fn plan_fine(
     plan: &mut [u8],
 ) -> Outcome
     requires { ⌜ (checkDemand width n (now cells) ≡ Fine longest) × (width ≤ 128) × (length (now work) ≡ length (now cells)) × (length (now holds) ≡ n) ⌝ }
-    ensures { λ r. ⌜ (r ≡ planned width edition n (now (cells .entry)) (doubledRule rule Forward width n (now (cells .entry))) (now (plan .entry)) .outcome) × (now (plan .exit) ≡ planned width edition n (now (cells .entry)) (doubledRule rule Forward width n (now (cells .entry))) (now (plan .entry)) .bytes) ⌝ }
+    ensures { λ r. ⌜ Gives (planned width edition n (now (cells .entry)) (doubledRule rule Forward width n (now (cells .entry))) (now (plan .entry))) r (now (plan .exit)) ⌝ }
 {
     if longest == 0 {
         return Outcome::Done(Counts {
@@ -114,7 +115,7 @@ fn plan_parts(
     plan: &mut [u8],
 ) -> Outcome
     requires { ⌜ Divided width n longest unit (now cells) (now work) × Table n (now holds) × Doubled n (now cells) (parts Forward width n unit (now work) (now holds)) ⌝ }
-    ensures { λ r. ⌜ (r ≡ planned width edition n (now (cells .entry)) (parts Forward width n unit (now (work .entry)) (now (holds .entry))) (now (plan .entry)) .outcome) × (now (plan .exit) ≡ planned width edition n (now (cells .entry)) (parts Forward width n unit (now (work .entry)) (now (holds .entry))) (now (plan .entry)) .bytes) ⌝ }
+    ensures { λ r. ⌜ Gives (planned width edition n (now (cells .entry)) (parts Forward width n unit (now (work .entry)) (now (holds .entry))) (now (plan .entry))) r (now (plan .exit)) ⌝ }
 {
     let first = longest_line(work, n);
     let second = turns::measure(n, holds);

@@ -1,5 +1,5 @@
 -- Code 5 is given just where the plan's records do not fit; else what is laid is the plan, whose total is T.
-use mathlib.Core.Path.{_≡_, sym, ap, _∙_}
+use mathlib.Core.Path.{_≡_, refl, sym, ap, _∙_}
 use mathlib.Core.List.{List, _++_, map}
 use Prim.Native.Nat.{ℕ, _+_, _*_, _-_, _/_, _≤_}
 use native.Mathlib.Nat.{le-of-eq}
@@ -21,22 +21,15 @@ use Rattle.rules.specs.Doubled.{stretch}
 use Rattle.rules.proofs.Exact.{exact-total}
 use Rattle.rules.proofs.Empty.{exact-empty-slots}
 use Rattle.records.specs.Bytes.{bytes, laid}
-use Rattle.switch.specs.Result.{Result}
+use Rattle.switch.specs.Result.{Gives}
+use Rattle.switch.proofs.Result.{gives}
 use Rattle.planner.specs.Planned.{planned, shortage}
 use Rattle.planner.proofs.Planned.{planned-short, planned-done, written-outcome, written-bytes, shortage-none, shortage-some}
 use Rattle.exact.proofs.Fitting.{copied-plan, stretch-once}
 
--- what the call answers and leaves in the buffer
-pub record Answers (W e N : ℕ) (d buf : List ℕ) (r : Outcome) (after : List ℕ) : Type 0 where
-  pub outcome : r ≡ planned W e N d (exactPlan W N d) buf .outcome
-  pub bytes : after ≡ planned W e N d (exactPlan W N d) buf .bytes
-
 module _ (W e N T : ℕ) (d buf : List ℕ) (narrow : W ≤ 128) (fine : checkDemand W N d ≡ Fine T) where
   pub asked : Asked W N T d
   asked = fine-asked W N T d fine
-
-  answers : (x : Result) → planned W e N d (exactPlan W N d) buf ≡ x → (r : Outcome) (after : List ℕ) → r ≡ x .outcome → after ≡ x .bytes → Answers W e N d buf r after
-  answers x q r after o b = record { outcome = o ∙ ap (λ (y : Result). y .outcome) (sym q); bytes = b ∙ ap (λ (y : Result). y .bytes) (sym q) }
 
   -- no line of it is over 65,535, and none over T
   pub short : Short N d
@@ -51,18 +44,18 @@ module _ (W e N T : ℕ) (d buf : List ℕ) (narrow : W ≤ 128) (fine : checkDe
     pub enough : need ≡ 0 → length (exactPlan W N d) ≤ length buf / (W + 4)
     enough q = shortage-none _ _ (sym need-is ∙ q)
 
-    pub refuses-room : (need ≡ 0 → ⊥) → Answers W e N d buf (Refused (Room need)) buf
+    pub refuses-room : (need ≡ 0 → ⊥) → Gives (planned W e N d (exactPlan W N d) buf) (Refused (Room need)) buf
     refuses-room q =
         let m = shortage-some _ _ (λ x. q (need-is ∙ x)) in
-        answers _ (planned-short W e N d (exactPlan W N d) buf T fine (m .0)) _ _ (ap {B = Outcome} (λ (k : ℕ). Refused (Room k)) (need-is ∙ m .1)) (λ i. buf)
+        gives (planned-short W e N d (exactPlan W N d) buf T fine (m .0)) (ap {B = Outcome} (λ (k : ℕ). Refused (Room k)) (need-is ∙ m .1)) refl
 
     -- another working copy, laid
     pub writes-plan : need ≡ 0 → (w' z' : List ℕ) → w' ≡ d ++ z' → (records : ℕ) → records ≡ length (exactPlan W N w') → (after : List ℕ)
         → after ≡ laid buf 0 (bytes e N (map (stretch 1) (exactPlan W N w'))) → (empty : ℕ) → empty ≡ N * T - allSlots N (cell N d)
-        → Answers W e N d buf (Done (demandCounts records T T empty)) after
+        → Gives (planned W e N d (exactPlan W N d) buf) (Done (demandCounts records T T empty)) after
     writes-plan q w' z' copied' records r after a empty x =
         let p = copied-plan W N T d w' narrow asked z' copied' in
-        answers _ (planned-done W e N d (exactPlan W N d) buf T fine (enough q)) _ _
+        gives (planned-done W e N d (exactPlan W N d) buf T fine (enough q))
         (written-outcome e N T (emptySlots N (cell N d) (exactPlan W N d)) records T empty (exactPlan W N d) buf (r ∙ ap length p)
         (asked .longest-is ∙ sym (exact-total W N (asked .some) (asked .few) d (le-of-eq (sym (asked .size)))))
         (x ∙ ap (λ (t : ℕ). N * t - allSlots N (cell N d)) (asked .longest-is) ∙ sym (exact-empty-slots W N (asked .some) (asked .few) d (le-of-eq (sym (asked .size))))))

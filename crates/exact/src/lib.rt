@@ -21,6 +21,7 @@ ghost use mathlib.Core.Path.{_≡_};
 ghost use mathlib.Core.List.{map};
 ghost use Prim.Native.Nat.{ℕ, _*_, _≤_};
 ghost use lib.ListN.{length};
+ghost use Rattle.switch.specs.Result.{Gives};
 ghost use Rattle.demand.specs.declared.Checked.the-variants.{Fine};
 ghost use Rattle.demand.specs.Check.{checkDemand};
 ghost use Rattle.rules.specs.Exact.{exactPlan};
@@ -35,7 +36,7 @@ const CELLS: usize = 4096;
 
 // The exact plan of a demand, written at the start of the plan buffer.
 pub fn exact_plan(n: usize, cells: &[u32], plan: &mut [u8]) -> Outcome
-    ensures { λ r. ⌜ (r ≡ planned 64 0 n (now (cells .entry)) (exactPlan 64 n (now (cells .entry))) (now (plan .entry)) .outcome) × (now (plan .exit) ≡ planned 64 0 n (now (cells .entry)) (exactPlan 64 n (now (cells .entry))) (now (plan .entry)) .bytes) ⌝ }
+    ensures { λ r. ⌜ Gives (planned 64 0 n (now (cells .entry)) (exactPlan 64 n (now (cells .entry))) (now (plan .entry))) r (now (plan .exit)) ⌝ }
 {
     match check_demand(n, PORTS, cells) {
         Checked::Faulty(r) => Outcome::Refused(r),
@@ -57,7 +58,7 @@ fn lay_or_refuse(
     plan: &mut [u8],
 ) -> Outcome
     requires { ⌜ (checkDemand width n (now cells) ≡ Fine longest) × (width ≤ 128) × (n * n ≤ length (now work)) ⌝ }
-    ensures { λ r. ⌜ (r ≡ planned width edition n (now (cells .entry)) (exactPlan width n (now (cells .entry))) (now (plan .entry)) .outcome) × (now (plan .exit) ≡ planned width edition n (now (cells .entry)) (exactPlan width n (now (cells .entry))) (now (plan .entry)) .bytes) ⌝ }
+    ensures { λ r. ⌜ Gives (planned width edition n (now (cells .entry)) (exactPlan width n (now (cells .entry))) (now (plan .entry))) r (now (plan .exit)) ⌝ }
 {
     work::copy(cells, work);
     let need = short_of(work, n, longest, plan.len() / (width + HEAD));

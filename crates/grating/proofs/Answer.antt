@@ -4,7 +4,6 @@ use mathlib.Core.List.{List, []}
 use Prim.Native.Nat.{ℕ, _≤_, _<_}
 use native.Mathlib.Omega.{arith}
 use lib.ListN.{length}
-use borrow.Author.Tests.{lt-ltb, le-ltb}
 use Rattle.switch.specs.declared.Refusal.{Refusal}
 use Rattle.switch.specs.declared.Refusal.the-variants.{Room}
 use Rattle.switch.specs.declared.Outcome.{Outcome}
@@ -19,47 +18,42 @@ use Rattle.rules.proofs.Tight.{by-empty}
 use Rattle.records.specs.Bytes.{whole, bytes, laid}
 use Rattle.records.proofs.Laid.{laid-none}
 use Rattle.records.proofs.Bytes.{bytes-none}
-use Rattle.switch.specs.Result.{Result, refuses}
-use Rattle.grating.specs.Grating.{gratingPlan, roomed, gratingPlanned}
-
--- an outcome and a buffer that are those of the definition
-abbrev pub Both : Result → Outcome → List ℕ → Type 0
-Both x r after = (r ≡ x .outcome) × (after ≡ x .bytes)
+use Rattle.switch.specs.Result.{Gives}
+use Rattle.switch.proofs.Result.{gives, gives-as}
+use Rattle.planner.specs.Planned.{writes, roomFor}
+use Rattle.planner.proofs.Planned.{no-room, room}
+use Rattle.grating.specs.Grating.{gratingPlan, gratingPlanned}
 
 module _ (W e N : ℕ) (p : List Record) (buf : List ℕ) where
   -- code 5
-  pub short-answer : (need : ℕ) → need ≡ length p → whole W buf < need → Both (roomed W e N p buf) (Refused (Room need)) buf
-  short-answer need n l = (ap (λ (k : ℕ). Refused (Room k)) n ∙ ap (λ (x : Result). x .outcome) case, ap (λ (x : Result). x .bytes) case)
-    where
-      case : refuses (Room (length p)) buf ≡ roomed W e N p buf
-      case = unfold roomed in rw (lt-ltb (whole W buf) (length p) (omega (arith, n)))
+  pub short-answer : (need : ℕ) → need ≡ length p → whole W buf < need → Gives (roomFor W e N 0 0 p buf) (Refused (Room need)) buf
+  short-answer need n l = gives (no-room W e N 0 0 p buf (omega (arith, n))) (ap (λ (k : ℕ). Refused (Room k)) n) refl
 
   -- the plan is laid
   module _ (fits : length p ≤ whole W buf) where
-    pub done : record { outcome = Done (planCounts (length p) 0 (total p)); bytes = laid buf 0 (bytes e N p) } ≡ roomed W e N p buf
-    unfolding roomed
-    done = rw (le-ltb (whole W buf) (length p) fits)
+    pub done : record { outcome = Done (planCounts (length p) 0 (total p)); bytes = laid buf 0 (bytes e N p) } ≡ roomFor W e N 0 0 p buf
+    unfolding writes
+    done = sym (room W e N 0 0 p buf fits)
 
-    pub laid-answer : (r t : ℕ) (after : List ℕ) → r ≡ length p → t ≡ total p → after ≡ laid buf 0 (bytes e N p) → Both (roomed W e N p buf) (Done (planCounts r 0 t)) after
-    laid-answer r t after a b put = ((λ i. Done (planCounts (a i) 0 (b i))) ∙ ap (λ (x : Result). x .outcome) done, put ∙ ap (λ (x : Result). x .bytes) done)
+    pub laid-answer : (r t : ℕ) (after : List ℕ) → r ≡ length p → t ≡ total p → after ≡ laid buf 0 (bytes e N p) → Gives (roomFor W e N 0 0 p buf) (Done (planCounts r 0 t)) after
+    laid-answer r t after a b put = gives (sym done) (λ i. Done (planCounts (a i) 0 (b i))) put
 
 module _ (W e N : ℕ) (d buf : List ℕ) where
   -- codes 1, 2 and 3
-  pub faulty-answer : (r : Refusal) → checkDemand W N d ≡ Faulty r → Both (gratingPlanned W e N d buf) (Refused r) buf
+  pub faulty-answer : (r : Refusal) → checkDemand W N d ≡ Faulty r → Gives (gratingPlanned W e N d buf) (Refused r) buf
   unfolding gratingPlanned
-  faulty-answer r q = rw q (refl, refl)
+  faulty-answer r q = rw q (record { outcome = refl; bytes = refl })
 
-  pub fine-answer : (T : ℕ) → checkDemand W N d ≡ Fine T → roomed W e N (gratingPlan W N d) buf ≡ gratingPlanned W e N d buf
+  pub fine-answer : (T : ℕ) → checkDemand W N d ≡ Fine T → roomFor W e N 0 0 (gratingPlan W N d) buf ≡ gratingPlanned W e N d buf
   unfolding gratingPlanned
   fine-answer T q = rw q
 
   -- T is 0
-  pub empty-answer : checkDemand W N d ≡ Fine 0 → Both (gratingPlanned W e N d buf) (Done (planCounts 0 0 0)) buf
+  pub empty-answer : checkDemand W N d ≡ Fine 0 → Gives (gratingPlanned W e N d buf) (Done (planCounts 0 0 0)) buf
   empty-answer q =
       let a = laid-answer W e N (gratingPlan W N d) buf (omega (arith, ap length none)) 0 0 buf (sym (ap length none)) (unfold total in sym (ap total none))
       (sym (laid-none buf 0) ∙ ap (laid buf 0) (sym (ap (bytes e N) none ∙ bytes-none e N))) in
-      let f = fine-answer 0 q in
-      (a .0 ∙ ap (λ (x : Result). x .outcome) f, a .1 ∙ ap (λ (x : Result). x .bytes) f)
+      gives-as (sym (fine-answer 0 q)) a
     where
       none : gratingPlan W N d ≡ []
       none = unfold gratingPlan in by-empty W N (opposite N) (tight N (opposite N) d) d (sym (fine-asked W N 0 d q .longest-is))

@@ -14,7 +14,7 @@ use Rattle.rules.specs.Exact.{exactPlan}
 use Rattle.rules.specs.Doubled.{unit, divide, stretch, opposite, turns, tight, doubledBy}
 use Rattle.records.specs.Bytes.{whole, bytes, laid}
 use Rattle.switch.specs.Result.{Result, refuses}
-use Rattle.planner.specs.Planned.{afterCheck}
+use Rattle.planner.specs.Planned.{roomFor, afterCheck}
 
 -- the doubled plan whose second part is the anti-rotations, each held for the largest remainder among its pairs and left out when that is 0
 unfoldable pub gratingPlan : ℕ → ℕ → List ℕ → List Record
@@ -30,12 +30,6 @@ firstPart W N d =
 unfoldable pub secondPart : ℕ → ℕ → List ℕ → List Record
 secondPart W N d = cond (eqb (longest N (cell N d)) 0) [] (turns W (opposite N) (tight N (opposite N) d (unit N (longest N (cell N d)))) N 0)
 
--- code 5: the buffer holds fewer whole records than the plan has; else its records at the buffer's start, and nothing else touched
-unfoldable pub roomed : ℕ → ℕ → ℕ → List Record → List ℕ → Result
-roomed W e N p buf =
-    cond (ltb (whole W buf) (length p)) (refuses (Room (length p)) buf)
-    (record { outcome = Done (planCounts (length p) 0 (total p)); bytes = laid buf 0 (bytes e N p) })
-
--- the planner's refusals in its order, 1, 2, 3 and 5; else records and total of the plan that is written
+-- the planner's refusals in its order, 1, 2, 3 and 5; else records and total of the plan that is written, no T and no empty slots
 unfoldable pub gratingPlanned : ℕ → ℕ → ℕ → List ℕ → List ℕ → Result
-gratingPlanned W e N d buf = afterCheck (checkDemand W N d) (λ T. roomed W e N (gratingPlan W N d) buf) buf
+gratingPlanned W e N d buf = afterCheck (checkDemand W N d) (λ T. roomFor W e N 0 0 (gratingPlan W N d) buf) buf

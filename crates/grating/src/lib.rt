@@ -22,14 +22,16 @@ use turns::Turning;
 ghost use mathlib.Core.Path.{_≡_};
 ghost use Prim.Native.Nat.{_*_, _≤_};
 ghost use lib.ListN.{length};
+ghost use Rattle.switch.specs.Result.{Gives};
 ghost use Rattle.switch.specs.declared.Outcome.the-variants.{Done};
 ghost use Rattle.switch.specs.Answer.{planCounts};
 ghost use Rattle.demand.specs.declared.Checked.the-variants.{Fine};
 ghost use Rattle.demand.specs.Check.{checkDemand};
 ghost use Rattle.switch.specs.Plan.{total};
 ghost use Rattle.records.specs.Bytes.{planFrom, bytes, laid};
+ghost use Rattle.planner.specs.Planned.{roomFor};
 ghost use Rattle.turns.specs.Second.{Table};
-ghost use Rattle.grating.specs.Grating.{roomed, gratingPlanned};
+ghost use Rattle.grating.specs.Grating.{gratingPlanned};
 ghost use Rattle.grating.specs.Parts.{stretched, madeParts, First};
 
 // The cells of a switch of 64 ports.
@@ -40,7 +42,7 @@ const FIRST: usize = 4352;
 
 // The doubled plan of a demand for the grating fabric, written at the start of the plan buffer: refusals 1, 2, 3 and 5, else its records and total.
 pub fn grating_doubled(n: usize, cells: &[u32], plan: &mut [u8]) -> Outcome
-    ensures { λ r. ⌜ (r ≡ gratingPlanned 64 0 n (now (cells .entry)) (now (plan .entry)) .outcome) × (now (plan .exit) ≡ gratingPlanned 64 0 n (now (cells .entry)) (now (plan .entry)) .bytes) ⌝ }
+    ensures { λ r. ⌜ Gives (gratingPlanned 64 0 n (now (cells .entry)) (now (plan .entry))) r (now (plan .exit)) ⌝ }
 {
     match check_demand(n, PORTS, cells) {
         Checked::Faulty(r) => Outcome::Refused(r),
@@ -63,7 +65,7 @@ fn plan_fine(
     plan: &mut [u8],
 ) -> Outcome
     requires { ⌜ (checkDemand 64 n (now cells) ≡ Fine longest) × (length (now work) ≡ length (now cells)) × (length (now holds) ≡ n) ⌝ }
-    ensures { λ r. ⌜ (r ≡ gratingPlanned 64 0 n (now (cells .entry)) (now (plan .entry)) .outcome) × (now (plan .exit) ≡ gratingPlanned 64 0 n (now (cells .entry)) (now (plan .entry)) .bytes) ⌝ }
+    ensures { λ r. ⌜ Gives (gratingPlanned 64 0 n (now (cells .entry)) (now (plan .entry))) r (now (plan .exit)) ⌝ }
 {
     if longest == 0 {
         return done(0, 0);
@@ -102,7 +104,7 @@ fn lay_parts(
     plan: &mut [u8],
 ) -> Outcome
     requires { ⌜ Table n (now holds) × (n ≤ 64) × First 64 unit (now first) records total ⌝ }
-    ensures { λ r. ⌜ (r ≡ roomed 64 0 n (madeParts 64 n unit (now (first .entry)) records (now (holds .entry))) (now (plan .entry)) .outcome) × (now (plan .exit) ≡ roomed 64 0 n (madeParts 64 n unit (now (first .entry)) records (now (holds .entry))) (now (plan .entry)) .bytes) ⌝ }
+    ensures { λ r. ⌜ Gives (roomFor 64 0 n 0 0 (madeParts 64 n unit (now (first .entry)) records (now (holds .entry))) (now (plan .entry))) r (now (plan .exit)) ⌝ }
 {
     let second = turns::measure(n, holds);
     let need = records + second.records;

@@ -11,6 +11,7 @@ ghost use mathlib.Core.Path.{_≡_};
 ghost use mathlib.Core.List.{List};
 ghost use Prim.Native.Nat.{ℕ, _+_, _<_, _≤_, min};
 ghost use lib.ListN.{length, getD};
+ghost use Rattle.switch.specs.Result.{Gives};
 ghost use Rattle.records.specs.Bytes.{whole, bytes, laid};
 ghost use Rattle.switch.specs.Editions.{firstEdition, Bounded};
 ghost use Rattle.settings.specs.Table.{entriesFrom, Roomy, Empty};
@@ -21,7 +22,7 @@ const MOST: usize = 65535;
 
 // Joins the equal settings of a plan: refusals 1, 9, 10, 11 and 5, else the records and the total of the joined plan.
 pub fn join_plan(n: usize, plan: &[u8], joined: &mut [u8]) -> Outcome
-    ensures { λ r. ⌜ (r ≡ joining firstEdition n (now (plan .entry)) (now (joined .entry)) .outcome) × (now (joined .exit) ≡ joining firstEdition n (now (plan .entry)) (now (joined .entry)) .bytes) ⌝ }
+    ensures { λ r. ⌜ Gives (joining firstEdition n (now (plan .entry)) (now (joined .entry))) r (now (joined .exit)) ⌝ }
 {
     let mut heads = [0u32; settings::BUCKETS];
     let mut nexts = [0u32; switch::RECORDS];
@@ -51,7 +52,7 @@ pub fn join_for(
     buffer: &mut [u8],
 ) -> Outcome
     requires { ⌜ Bounded e × Empty (now heads) × Roomy (e .records) (now nexts) (now firsts) (now totals) ⌝ }
-    ensures { λ r. ⌜ (r ≡ joining e n (now (plan .entry)) (now (buffer .entry)) .outcome) × (now (buffer .exit) ≡ joining e n (now (plan .entry)) (now (buffer .entry)) .bytes) ⌝ }
+    ensures { λ r. ⌜ Gives (joining e n (now (plan .entry)) (now (buffer .entry))) r (now (buffer .exit)) ⌝ }
 {
     let checked = plans::check_plan(n, plan, e);
     let Outcome::Done(counts) = checked else {

@@ -45,9 +45,9 @@ module _ (rule : Rule) (E : Edition) (serves : Serves E) (N : ℕ) (d : List ℕ
 -- any outcome and any buffer afterwards that satisfy the contract of doubled::doubled_plan
 pub doubled-plan-promise : (N : ℕ) (d buf : List ℕ) (r : Outcome) (after : List ℕ) → DoubledPlan N d buf r after
     → PlansDoubled tight firstEdition N d buf r after
-doubled-plan-promise N d buf r after (o, b) = doubled-promise tight firstEdition first-serves N d buf r after o b
+doubled-plan-promise N d buf r after g = doubled-promise tight firstEdition first-serves N d buf r after (g .outcome) (g .bytes)
 
 -- and of doubled::doubled_plan_every_rotation
 pub every-rotation-promise : (N : ℕ) (d buf : List ℕ) (r : Outcome) (after : List ℕ) → EveryRotation N d buf r after
     → PlansDoubled every firstEdition N d buf r after
-every-rotation-promise N d buf r after (o, b) = doubled-promise every firstEdition first-serves N d buf r after o b
+every-rotation-promise N d buf r after g = doubled-promise every firstEdition first-serves N d buf r after (g .outcome) (g .bytes)

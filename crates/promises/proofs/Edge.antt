@@ -4,9 +4,10 @@ use mathlib.Core.List.{List}
 use Prim.Native.Nat.{ℕ}
 use Rattle.switch.specs.declared.Outcome.{Outcome}
 use Rattle.switch.specs.declared.Numbers.{Numbers}
+use Rattle.switch.specs.Result.{Result, Gives}
 use Rattle.switch.proofs.Answer.{answer-tells}
 use Rattle.chordvenus.specs.declared.CvAnswer.{CvAnswer}
-use Rattle.chordvenus.specs.Flat.{flat}
+use Rattle.chordvenus.specs.Flat.{flat, Crosses}
 use Rattle.promises.specs.Calls.{Leaves}
 
 -- the numbers of an answer at the edge
@@ -24,5 +25,9 @@ unfolding numbers
 flat-tells o p e = answer-tells o p (ap numbers e)
 
 -- so all that is promised of a call holds of its answer at the edge
-pub crosses : {x : Outcome} {m : List ℕ} (r : CvAnswer) (after : List ℕ) → Leaves (flat x) m r after → (o : Outcome) × (Leaves x m o after) × (r ≡ flat o)
-crosses {x} r after met = (x, (refl, met .1), met .0)
+pub crosses : {x : Result} {r : CvAnswer} {after : List ℕ} → Crosses x r after → (o : Outcome) × Gives x o after × (r ≡ flat o)
+crosses {x} met = (x .outcome, record { outcome = refl; bytes = met .bytes }, met .answer)
+
+-- and of a wish list's
+pub cells-cross : {x : Outcome} {m : List ℕ} (r : CvAnswer) (after : List ℕ) → Leaves (flat x) m r after → (o : Outcome) × (Leaves x m o after) × (r ≡ flat o)
+cells-cross {x} r after met = (x, (refl, met .1), met .0)

@@ -32,4 +32,4 @@ module _ (E : Edition) (serves : Serves E) (N : ℕ) (d : List ℕ) where
 
 -- any outcome and any buffer afterwards that satisfy the contract of exact::exact_plan
 pub exact-plan-promise : (N : ℕ) (d buf : List ℕ) (r : Outcome) (after : List ℕ) → ExactPlan N d buf r after → PlansExactly firstEdition N d buf r after
-exact-plan-promise N d buf r after (o, b) = exact-promise firstEdition first-serves N d buf r after o b
+exact-plan-promise N d buf r after g = exact-promise firstEdition first-serves N d buf r after (g .outcome) (g .bytes)

@@ -32,7 +32,7 @@ use Rattle.rules.proofs.Opposite.{opposite-joins, opposite-idle}
 use Rattle.rules.proofs.Tight.{doubled-tight}
 use Rattle.switch.specs.Sound.{Sound, Each, none, more}
 use Rattle.records.specs.Bytes.{bytes, laid, whole, planOf}
-use Rattle.switch.specs.Result.{Result}
+use Rattle.switch.specs.Result.{Result, Gives}
 use Rattle.records.proofs.Round.{planOf-bytes}
 use Rattle.switch.proofs.Sound.{each-width}
 use Rattle.switch.specs.Editions.{firstEdition}
@@ -47,7 +47,8 @@ use Rattle.wavelengths.specs.Report.{reported}
 use Rattle.wavelengths.proofs.Report.{report-done}
 use Rattle.wavelengths.proofs.Promise.{laid-at}
 use Rattle.grating.specs.Grating.{gratingPlan, firstPart, secondPart, gratingPlanned}
-use Rattle.grating.proofs.Answer.{Both, short-answer, faulty-answer, fine-answer, done}
+use Rattle.switch.proofs.Result.{gives-as}
+use Rattle.grating.proofs.Answer.{short-answer, faulty-answer, fine-answer, done}
 use Rattle.promises.specs.Spread.{allowed, Spread}
 use Rattle.promises.proofs.Spread.{second-spread}
 use Rattle.promises.specs.Calls.{CheckPlan, GratingReport, GratingDoubled}
@@ -152,10 +153,10 @@ module _ (N : ℕ) (d buf : List ℕ) (r : Outcome) (after : List ℕ) (met : Gr
   abbrev T : ℕ
   T = longest N (cell N d)
 
-  refused : (x : Refusal) → Both (gratingPlanned 64 0 N d buf) (Refused x) buf → (Taken firstEdition 65535 N d plan buf → ⊥)
+  refused : (x : Refusal) → Gives (gratingPlanned 64 0 N d buf) (Refused x) buf → (Taken firstEdition 65535 N d plan buf → ⊥)
       → Why firstEdition 65535 N d plan buf x → GratingGiven N d buf r after
   refused x e bad why =
-      let is : r ≡ Refused x = met .0 ∙ sym (e .0) in
+      let is : r ≡ Refused x = met .outcome ∙ sym (e .outcome) in
       record {
         taken = λ t. absurd (bad t);
         only-then = λ z. never (sym is ∙ code-done r z);
@@ -165,7 +166,7 @@ module _ (N : ℕ) (d buf : List ℕ) (r : Outcome) (after : List ℕ) (met : Gr
         passes = λ z. never (sym is ∙ code-done r z);
         reported = λ z. never (sym is ∙ code-done r z);
         refuses = λ f q. subst (Why firstEdition 65535 N d plan buf) (same-refusal (sym is ∙ q)) why;
-        unchanged = λ _. met .1 ∙ sym (e .1);
+        unchanged = λ _. met .bytes ∙ sym (e .bytes);
       }
 
   module _ (asks : checkDemand 64 N d ≡ Fine T) (room : length plan ≤ whole 64 buf) where
@@ -188,10 +189,10 @@ module _ (N : ℕ) (d buf : List ℕ) (r : Outcome) (after : List ℕ) (met : Gr
     counts = planCounts (length plan) 0 (total plan)
 
     is : r ≡ Done counts
-    is = met .0 ∙ ap (λ (x : Result). x .outcome) (sym (done 64 0 N plan buf room ∙ fine-answer 64 0 N d buf T asks))
+    is = met .outcome ∙ ap (λ (x : Result). x .outcome) (sym (done 64 0 N plan buf room ∙ fine-answer 64 0 N d buf T asks))
 
     lays : after ≡ laid buf 0 (bytes 0 N plan)
-    lays = met .1 ∙ ap (λ (x : Result). x .bytes) (sym (done 64 0 N plan buf room ∙ fine-answer 64 0 N d buf T asks))
+    lays = met .bytes ∙ ap (λ (x : Result). x .bytes) (sym (done 64 0 N plan buf room ∙ fine-answer 64 0 N d buf T asks))
 
     front : take (length plan * 68) after ≡ bytes 0 N plan
     front = ap (take (length plan * 68)) lays ∙ plan-front 0 N 64 (each-width 64 N sound) buf
@@ -255,6 +256,6 @@ module _ (N : ℕ) (d buf : List ℕ) (r : Outcome) (after : List ℕ) (met : Gr
       by (Fine t) e (yes l) =
           let s = short-answer 64 0 N plan buf (length plan) refl l in
           let f = fine-answer 64 0 N d buf t e in
-          refused (Room (length plan)) (s .0 ∙ ap (λ (x : Result). x .outcome) f, s .1 ∙ ap (λ (x : Result). x .bytes) f)
+          refused (Room (length plan)) (gives-as (sym f) s)
           (λ q. omega (arith, q .room)) (no-room (fine-fair firstEdition N d t 65535 (sym e) (fine-asked 64 N t d e .small)) l)
       by (Fine t) e (no l) = given (e ∙ ap Fine (fine-asked 64 N t d e .longest-is)) (omega (arith, l))

@@ -20,14 +20,14 @@ use Rattle.switch.specs.Editions.{firstEdition, Bounded}
 use Rattle.plans.specs.Read.{checking}
 use Rattle.switch.proofs.Editions.{first-bounded}
 use Rattle.plans.proofs.Plans.{checked, length-plan}
-use Rattle.switch.specs.Result.{Result, refuses}
+use Rattle.switch.specs.Result.{Result, refuses, Gives}
 use Rattle.planner.specs.Planned.{writes}
 use Rattle.settings.proofs.Sums.{sums-summed}
 use Rattle.joining.specs.Join.{joinPlan, joining}
 use Rattle.joining.proofs.Joined.{join-grant, join-total, join-sound}
 use Rattle.joining.proofs.Answer.{joining-refused, joining-short, joining-done}
 use Rattle.joining.proofs.Twice.{no-longer, twice}
-use Rattle.promises.specs.Calls.{Leaves, JoinPlan}
+use Rattle.promises.specs.Calls.{JoinPlan}
 use Rattle.promises.specs.Reading.{GoodPlan, Unwritten, unread, no-room}
 use Rattle.promises.specs.Joined.{part, JoinOf, Joined}
 use Rattle.promises.proofs.Outcomes.{never, same-counts, same-refusal}
@@ -36,7 +36,7 @@ use Rattle.promises.proofs.Reading as reading
 use Rattle.promises.proofs.Laid.{plan-reads, plan-behind}
 
 module _ (E : Edition) (bounds : Bounded E) (N : ℕ) (plan : List ℕ) (byte : (i : ℕ) → getD plan i 0 < 256) (buf : List ℕ)
-    (r : Outcome) (after : List ℕ) (met : let x = joining E N plan buf in Leaves (x .outcome) (x .bytes) r after) where
+    (r : Outcome) (after : List ℕ) (met : Gives (joining E N plan buf) r after) where
   abbrev p : List Record
   p = planOf (E .width) plan
 
@@ -44,7 +44,7 @@ module _ (E : Edition) (bounds : Bounded E) (N : ℕ) (plan : List ℕ) (byte : 
   refused : (x : Refusal) → refuses x buf ≡ joining E N plan buf → (GoodPlan E N plan → length (joinPlan p) ≤ whole (E .width) buf → ⊥)
       → Unwritten E N plan (whole (E .width) buf) (length (joinPlan p)) x → Joined E N plan buf r after
   refused x e bad why =
-      let is : r ≡ Refused x = met .0 ∙ ap (λ (y : Result). y .outcome) (sym e) in
+      let is : r ≡ Refused x = met .outcome ∙ ap (λ (y : Result). y .outcome) (sym e) in
       record {
         taken = λ g l. absurd (bad g l);
         only-then = λ z. never (sym is ∙ code-done r z);
@@ -52,7 +52,7 @@ module _ (E : Edition) (bounds : Bounded E) (N : ℕ) (plan : List ℕ) (byte : 
         later = λ z. never (sym is ∙ code-done r z);
         twice = λ z. never (sym is ∙ code-done r z);
         refuses = λ f q. subst (Unwritten E N plan (whole (E .width) buf) (length (joinPlan p))) (same-refusal (sym is ∙ q)) why;
-        unchanged = λ _. met .1 ∙ ap (λ (y : Result). y .bytes) (sym e);
+        unchanged = λ _. met .bytes ∙ ap (λ (y : Result). y .bytes) (sym e);
       }
 
   module _ (o : Counts) (fine : checking E N plan ≡ Done o) (room : length (joinPlan p) ≤ whole (E .width) buf) where
@@ -61,11 +61,11 @@ module _ (E : Edition) (bounds : Bounded E) (N : ℕ) (plan : List ℕ) (byte : 
 
     is : r ≡ Done counts
     unfolding writes
-    is = met .0 ∙ ap (λ (y : Result). y .outcome) (sym (joining-done E N plan buf (sym fine) room))
+    is = met .outcome ∙ ap (λ (y : Result). y .outcome) (sym (joining-done E N plan buf (sym fine) room))
 
     lays : after ≡ laid buf 0 (bytes (E .byte) N (joinPlan p))
     unfolding writes
-    lays = met .1 ∙ ap (λ (y : Result). y .bytes) (sym (joining-done E N plan buf (sym fine) room))
+    lays = met .bytes ∙ ap (λ (y : Result). y .bytes) (sym (joining-done E N plan buf (sym fine) room))
 
     widths : Each (OfWidth (E .width)) (joinPlan p)
     widths = each-width (E .width) N (join-sound (E .width) N (checked E N plan bounds o (sym fine) .sound))
@@ -92,8 +92,8 @@ module _ (E : Edition) (bounds : Bounded E) (N : ℕ) (plan : List ℕ) (byte : 
       joins = λ z. told z (λ (x : Counts). JoinOf p (planOf (E .width) (part E x after))) (subst (JoinOf p) (sym reads) join-of);
       later = λ z. told z (λ (x : Counts). drop (x .records * (E .width + 4)) after ≡ drop (x .records * (E .width + 4)) buf)
           (ap (drop (length (joinPlan p) * (E .width + 4))) lays ∙ plan-behind (E .byte) N (E .width) widths buf);
-      twice = λ z next. ap (λ (b : List ℕ). joining E N (part E (countsOf r) b) next) (met .1)
-          ∙ twice E bounds N plan byte buf (countsOf r) (sym (code-done r z) ∙ met .0) next;
+      twice = λ z next. ap (λ (b : List ℕ). joining E N (part E (countsOf r) b) next) (met .bytes)
+          ∙ twice E bounds N plan byte buf (countsOf r) (sym (code-done r z) ∙ met .outcome) next;
       refuses = λ f q. never (sym q ∙ is);
       unchanged = λ n. absurd (n (ap codeOf is));
     }

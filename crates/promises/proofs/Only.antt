@@ -5,11 +5,14 @@ use Prim.Native.Nat.{ℕ}
 use lib.Ieee.{Float}
 use denote.Ref.{RefT}
 use Rattle.switch.specs.declared.Edition.{Edition}
+use Rattle.switch.specs.Result.{Result, Gives}
 use Rattle.switch.proofs.Answer.{determined}
+use Rattle.switch.proofs.Result.{gives-one}
 use Rattle.plans.specs.declared.Stepped.{Stepped}
 use Rattle.reader.specs.declared.Reader.{Reader}
 use Rattle.reader.specs.Reader.{movedTo}
 use Rattle.room.specs.declared.Planner.the-variants.{Exact, Doubled, Quick}
+use Rattle.chordvenus.specs.Flat.{Crosses}
 use Rattle.promises.specs.Only.{OneAnswer, OneResult}
 use Rattle.promises.specs.Calls as call
 
@@ -20,6 +23,12 @@ one x a b = determined a b x
 -- and in lent memory
 both : {A : Type 0} (x : A) (m : List ℕ) → OneResult (call.Leaves x m)
 both x m a b k l p q = (one x a b (p .0) (q .0), one m k l (p .1) (q .1))
+
+gives-one-result : (x : Result) → OneResult (Gives x)
+gives-one-result x a b k l p q = gives-one p q
+
+crosses-one-result : (x : Result) → OneResult (Crosses x)
+crosses-one-result x a b k l p q = both _ _ a b k l (p .answer, p .bytes) (q .answer, q .bytes)
 
 -- ---- the calls
 
@@ -33,22 +42,22 @@ pub wishes-one-result : (N : ℕ) (list cells : List ℕ) → OneResult (call.Wi
 wishes-one-result N list cells = both _ _
 
 pub exact-one-result : (N : ℕ) (d buf : List ℕ) → OneResult (call.ExactPlan N d buf)
-exact-one-result N d buf = both _ _
+exact-one-result N d buf = gives-one-result _
 
 pub doubled-one-result : (N : ℕ) (d buf : List ℕ) → OneResult (call.DoubledPlan N d buf)
-doubled-one-result N d buf = both _ _
+doubled-one-result N d buf = gives-one-result _
 
 pub every-rotation-one-result : (N : ℕ) (d buf : List ℕ) → OneResult (call.EveryRotation N d buf)
-every-rotation-one-result N d buf = both _ _
+every-rotation-one-result N d buf = gives-one-result _
 
 pub quick-one-result : (N : ℕ) (d buf : List ℕ) → OneResult (call.QuickPlan N d buf)
-quick-one-result N d buf = both _ _
+quick-one-result N d buf = gives-one-result _
 
 pub grating-doubled-one-result : (N : ℕ) (d buf : List ℕ) → OneResult (call.GratingDoubled N d buf)
-grating-doubled-one-result N d buf = both _ _
+grating-doubled-one-result N d buf = gives-one-result _
 
 pub write-one-result : (hold N : ℕ) (outputs buf : List ℕ) → OneResult (call.WriteRecord hold N outputs buf)
-write-one-result hold N outputs buf = both _ _
+write-one-result hold N outputs buf = gives-one-result _
 
 pub open-one-answer : (N : ℕ) (plan : List ℕ) → OneAnswer (call.OpenPlan N plan)
 open-one-answer N plan = one _
@@ -72,10 +81,10 @@ pub length-one-answer : (N : ℕ) (plan : List ℕ) (d : ℕ) → OneAnswer (cal
 length-one-answer N plan d = one _
 
 pub join-one-result : (N : ℕ) (plan buf : List ℕ) → OneResult (call.JoinPlan N plan buf)
-join-one-result N plan buf = both _ _
+join-one-result N plan buf = gives-one-result _
 
 pub grating-report-one-result : (N : ℕ) (plan buf : List ℕ) → OneResult (call.GratingReport N plan buf)
-grating-report-one-result N plan buf = both _ _
+grating-report-one-result N plan buf = gives-one-result _
 
 pub find-one-answer : (N : ℕ) (tonight standby : List ℕ) (slot : ℕ) → OneAnswer (call.FindInForce N tonight standby slot)
 find-one-answer N tonight standby slot = one _
@@ -107,22 +116,22 @@ pub cv-wishes-one-result : (N : ℕ) (list cells : List ℕ) → OneResult (call
 cv-wishes-one-result N list cells = both _ _
 
 pub cv-exact-one-result : (N : ℕ) (d buf : List ℕ) → OneResult (call.CvExact N d buf)
-cv-exact-one-result N d buf = both _ _
+cv-exact-one-result N d buf = crosses-one-result _
 
 pub cv-doubled-one-result : (N : ℕ) (d buf : List ℕ) → OneResult (call.CvDoubled N d buf)
-cv-doubled-one-result N d buf = both _ _
+cv-doubled-one-result N d buf = crosses-one-result _
 
 pub cv-every-rotation-one-result : (N : ℕ) (d buf : List ℕ) → OneResult (call.CvEveryRotation N d buf)
-cv-every-rotation-one-result N d buf = both _ _
+cv-every-rotation-one-result N d buf = crosses-one-result _
 
 pub cv-quick-one-result : (N : ℕ) (d buf : List ℕ) → OneResult (call.CvQuick N d buf)
-cv-quick-one-result N d buf = both _ _
+cv-quick-one-result N d buf = crosses-one-result _
 
 pub cv-grating-doubled-one-result : (N : ℕ) (d buf : List ℕ) → OneResult (call.CvGratingDoubled N d buf)
-cv-grating-doubled-one-result N d buf = both _ _
+cv-grating-doubled-one-result N d buf = crosses-one-result _
 
 pub cv-grating-report-one-result : (N : ℕ) (plan buf : List ℕ) → OneResult (call.CvGratingReport N plan buf)
-cv-grating-report-one-result N plan buf = both _ _
+cv-grating-report-one-result N plan buf = crosses-one-result _
 
 pub cv-check-one-answer : (N : ℕ) (d plan : List ℕ) → OneAnswer (call.CvCheck N d plan)
 cv-check-one-answer N d plan = one _
@@ -131,10 +140,10 @@ pub cv-length-one-answer : (N : ℕ) (plan : List ℕ) (d : ℕ) → OneAnswer (
 cv-length-one-answer N plan d = one _
 
 pub cv-join-one-result : (N : ℕ) (plan buf : List ℕ) → OneResult (call.CvJoin N plan buf)
-cv-join-one-result N plan buf = both _ _
+cv-join-one-result N plan buf = crosses-one-result _
 
 pub cv-write-one-result : (hold N : ℕ) (outputs buf : List ℕ) → OneResult (call.CvWrite hold N outputs buf)
-cv-write-one-result hold N outputs buf = both _ _
+cv-write-one-result hold N outputs buf = crosses-one-result _
 
 pub cv-open-one-answer : (N : ℕ) (plan : List ℕ) → OneAnswer (call.CvOpen N plan)
 cv-open-one-answer N plan = one _

@@ -35,4 +35,4 @@ module _ (E : Edition) (serves : Serves E) (N : ℕ) (d : List ℕ) where
 
 -- any outcome and any buffer afterwards that satisfy the contract of quick::quick_plan
 pub quick-plan-promise : (N : ℕ) (d buf : List ℕ) (r : Outcome) (after : List ℕ) → QuickPlan N d buf r after → PlansQuickly firstEdition N d buf r after
-quick-plan-promise N d buf r after (o, b) = quick-promise firstEdition first-serves N d buf r after o b
+quick-plan-promise N d buf r after g = quick-promise firstEdition first-serves N d buf r after (g .outcome) (g .bytes)

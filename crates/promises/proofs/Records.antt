@@ -21,7 +21,7 @@ use Rattle.switch.proofs.Answer.{code-done}
 use Rattle.switch.specs.Sound.{Sound}
 use Rattle.records.specs.Record.{wellFormed}
 use Rattle.records.specs.Bytes.{encode, laid, whole, recordAt}
-use Rattle.switch.specs.Result.{Result, refuses}
+use Rattle.switch.specs.Result.{Result, refuses, Gives}
 use Rattle.records.specs.Write.{writes, written}
 use Rattle.records.proofs.Meaning.{means, encode-sound}
 use Rattle.records.proofs.Part.{record-size, record-fits, whole-fits}
@@ -31,7 +31,7 @@ use Rattle.plans.specs.declared.Step.the-variants as step
 use Rattle.plans.specs.declared.Stepped.{Stepped}
 use Rattle.plans.specs.Read.{stepAt}
 use Rattle.plans.proofs.Trips.{wrote, written-bytes, write-read, gave, read-write}
-use Rattle.promises.specs.Calls.{Leaves, WriteRecord, StepAt}
+use Rattle.promises.specs.Calls.{WriteRecord, StepAt}
 use Rattle.promises.proofs.Outcomes.{never, same-refusal, not-zero}
 use Rattle.promises.proofs.Laid.{laid-front, laid-behind}
 use Rattle.promises.specs.Records.{GoodRecord, Unwritable, no-ports, no-room, unsound, RecordWritten, WrittenAgain}
@@ -42,20 +42,20 @@ module _ (hold N : ℕ) (outputs buf : List ℕ) (long : length outputs ≡ 64) 
   taken : GoodRecord hold N outputs (length buf) → r ≡ Done (planCounts 1 0 hold)
   taken g =
       let fine = encode-sound 64 0 N _ (g .few) (omega (arith, g .few)) (g .sound) in
-      met .0 ∙ sym (ap (λ (w : Result). w .outcome) (write-done hold N outputs buf (g .some) (g .few) (g .room) fine))
+      met .outcome ∙ sym (ap (λ (w : Result). w .outcome) (write-done hold N outputs buf (g .some) (g .few) (g .room) fine))
 
   module _ (c : Counts) (done : r ≡ Done c) where
     good : GoodRecord hold N outputs (length buf)
     good =
-        let w = wrote hold N outputs buf c (sym done ∙ met .0) in
+        let w = wrote hold N outputs buf c (sym done ∙ met .outcome) in
         let m = means 64 0 N (encode 0 hold N outputs) (omega arith) (w .few) (omega (arith, w .few)) (w .fine) in
         record { some = w .some; few = w .few; room = w .room; sound = subst (Sound 64 N) (decoded-encode 0 hold N outputs) (m .sound) }
 
     reads-back : stepAt N (take 68 after) 0 ≡ record { step = step.Record; hold = hold; outputs = outputs; next = 1 }
-    reads-back = ap (λ (b : List ℕ). stepAt N (take 68 b) 0) (met .1) ∙ write-read hold N outputs buf long c (sym done ∙ met .0)
+    reads-back = ap (λ (b : List ℕ). stepAt N (take 68 b) 0) (met .bytes) ∙ write-read hold N outputs buf long c (sym done ∙ met .outcome)
 
     later : drop 68 after ≡ drop 68 buf
-    later = ap (drop 68) (met .1 ∙ written-bytes hold N outputs buf long c (sym done ∙ met .0)) ∙ laid-behind buf (encode 0 hold N outputs) 68 (omega arith)
+    later = ap (drop 68) (met .bytes ∙ written-bytes hold N outputs buf long c (sym done ∙ met .outcome)) ∙ laid-behind buf (encode 0 hold N outputs) 68 (omega arith)
 
   unchanged : ((c : Counts) → r ≡ Done c → ⊥) → after ≡ buf
   unfolding written
@@ -63,16 +63,16 @@ module _ (hold N : ℕ) (outputs buf : List ℕ) (long : length outputs ≡ 64) 
     where
       by : (p q w : Bool)
           → let x = cond p (cond q (cond w (writes hold N outputs buf) (refuses (Malformed 0) buf)) (refuses (Room 1) buf)) (refuses Ports buf) in
-          Leaves (x .outcome) (x .bytes) r after → after ≡ buf
-      by true true true m = absurd (n _ (m .0))
-      by true true false m = m .1
-      by true false w m = m .1
-      by false q w m = m .1
+          Gives x r after → after ≡ buf
+      by true true true m = absurd (n _ (m .outcome))
+      by true true false m = m .bytes
+      by true false w m = m .bytes
+      by false q w m = m .bytes
 
   -- the first test that fails
   module _ (f : Refusal) (e : r ≡ Refused f) where
     told : (g : Refusal) → refuses g buf ≡ written hold N outputs buf → Unwritable hold N outputs (length buf) g → Unwritable hold N outputs (length buf) f
-    told g q = subst (Unwritable hold N outputs (length buf)) (same-refusal (ap (λ (w : Result). w .outcome) q ∙ sym (met .0) ∙ e))
+    told g q = subst (Unwritable hold N outputs (length buf)) (same-refusal (ap (λ (w : Result). w .outcome) q ∙ sym (met .outcome) ∙ e))
 
     why : Unwritable hold N outputs (length buf) f
     why =
@@ -84,7 +84,7 @@ module _ (hold N : ℕ) (outputs buf : List ℕ) (long : length outputs ≡ 64) 
         (λ z. told Ports (write-ports hold N outputs buf (check.no-ports _ _ (omega (arith, z)))) (no-ports (λ s _. z s)))
       where
         by : 0 < N → N ≤ 64 → 68 ≤ length buf → (b : Bool) → wellFormed 64 0 N (encode 0 hold N outputs) ≡ b → Unwritable hold N outputs (length buf) f
-        by some few room true w = never (sym e ∙ met .0 ∙ sym (ap (λ (x : Result). x .outcome) (write-done hold N outputs buf some few room w)))
+        by some few room true w = never (sym e ∙ met .outcome ∙ sym (ap (λ (x : Result). x .outcome) (write-done hold N outputs buf some few room w)))
         by some few room false w =
             told (Malformed 0) (write-malformed hold N outputs buf some few room w)
             (unsound some few room (λ s. true≢false (sym (encode-sound 64 0 N _ few (omega arith) s) ∙ w)))
@@ -104,7 +104,7 @@ module _ (hold N : ℕ) (outputs buf : List ℕ) (long : length outputs ≡ 64) 
 pub read-write-promise : (N : ℕ) (plan : List ℕ) → ((i : ℕ) → getD plan i 0 < 256) → (at : ℕ) (s : Stepped) → StepAt N plan at s → s .step ≡ step.Record
     → (buf : List ℕ) → 68 ≤ length buf → (r : Outcome) (after : List ℕ) → WriteRecord (s .hold) N (s .outputs) buf r after → WrittenAgain plan at s buf r after
 read-write-promise N plan byte at s e found buf room r after met = record {
-  taken = met .0 ∙ ap (λ (w : Result). w .outcome) again;
+  taken = met .outcome ∙ ap (λ (w : Result). w .outcome) again;
   same = ap (take 68) bytes ∙ laid-front buf (recordAt 64 plan at) 68 size;
   later = ap (drop 68) bytes ∙ laid-behind buf (recordAt 64 plan at) 68 size;
 }
@@ -121,4 +121,4 @@ read-write-promise N plan byte at s e found buf room r after met = record {
         ≡ record { outcome = Done (planCounts 1 0 (x .hold)); bytes = laid buf 0 (recordAt 64 plan at) }) (sym e) (read-write N plan at gives byte buf room)
 
     bytes : after ≡ laid buf 0 (recordAt 64 plan at)
-    bytes = met .1 ∙ ap (λ (w : Result). w .bytes) again
+    bytes = met .bytes ∙ ap (λ (w : Result). w .bytes) again

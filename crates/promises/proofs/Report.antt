@@ -14,7 +14,7 @@ use Rattle.switch.specs.Answer.{codeOf}
 use Rattle.switch.proofs.Answer.{code-done}
 use Rattle.records.specs.Record.{decoded}
 use Rattle.records.specs.Bytes.{recordAt, whole}
-use Rattle.switch.specs.Result.{Result, refuses}
+use Rattle.switch.specs.Result.{Result, refuses, Gives}
 use Rattle.switch.specs.declared.Edition.{Edition}
 use Rattle.switch.specs.Editions.{firstEdition, Bounded}
 use Rattle.plans.specs.Read.{checking}
@@ -29,7 +29,7 @@ use Rattle.wavelengths.specs.Report.{reported}
 use Rattle.wavelengths.proofs.Shared.{rotation-shares}
 use Rattle.wavelengths.proofs.Report.{report-refused, report-short, report-done}
 use Rattle.wavelengths.proofs.Promise.{says, later-untouched, same-size}
-use Rattle.promises.specs.Calls.{Leaves, GratingReport}
+use Rattle.promises.specs.Calls.{GratingReport}
 use Rattle.promises.specs.Reading.{GoodPlan, Unwritten, unread, no-room}
 use Rattle.promises.specs.Report.{Reported}
 use Rattle.promises.proofs.Outcomes.{never, same-counts, same-refusal}
@@ -37,12 +37,12 @@ use Rattle.promises.proofs.Reading as reading
 use Rattle.promises.proofs.Reading.{good-checks, checks-good}
 
 module _ (E : Edition) (bounds : Bounded E) (N : ℕ) (plan buf : List ℕ) (r : Outcome) (after : List ℕ)
-    (met : let x = reported E N plan buf in Leaves (x .outcome) (x .bytes) r after) where
+    (met : Gives (reported E N plan buf) r after) where
   refused : (x : Refusal) → refuses x buf ≡ reported E N plan buf → (GoodPlan E N plan → whole (E .width) plan ≤ length buf → ⊥)
       → Unwritten E N plan (length buf) (whole (E .width) plan) x → Reported E N plan buf r after
   refused x e bad why =
-      let is : r ≡ Refused x = met .0 ∙ ap (λ (y : Result). y .outcome) (sym e) in
-      let same : after ≡ buf = met .1 ∙ ap (λ (y : Result). y .bytes) (sym e) in
+      let is : r ≡ Refused x = met .outcome ∙ ap (λ (y : Result). y .outcome) (sym e) in
+      let same : after ≡ buf = met .bytes ∙ ap (λ (y : Result). y .bytes) (sym e) in
       record {
         taken = λ g l. absurd (bad g l);
         only-then = λ z. never (sym is ∙ code-done r z);
@@ -59,17 +59,17 @@ module _ (E : Edition) (bounds : Bounded E) (N : ℕ) (plan buf : List ℕ) (r :
 
     module _ (room : o .records ≤ length buf) where
       is : r ≡ Done o
-      is = met .0 ∙ ap (λ (y : Result). y .outcome) (sym (report-done E N plan buf (sym fine) room))
+      is = met .outcome ∙ ap (λ (y : Result). y .outcome) (sym (report-done E N plan buf (sym fine) room))
 
       done : Reported E N plan buf r after
       done = record {
         taken = λ g l. is ∙ sym fine ∙ good-checks E N plan bounds g;
         only-then = λ z. (checks-good E N plan bounds o fine, omega (arith, count));
-        says = λ z k l. subst (λ (b : List ℕ). MostShared N (decoded (recordAt (E .width) plan k)) (getD b k 0)) (sym (met .1))
+        says = λ z k l. subst (λ (b : List ℕ). MostShared N (decoded (recordAt (E .width) plan k)) (getD b k 0)) (sym (met .bytes))
             (says E bounds N plan buf (sym fine) room k (omega (arith, ap (λ (x : Counts). x .records) (same-counts (sym is ∙ code-done r z)))));
-        later = λ z k l. ap (λ (b : List ℕ). getD b k 0) (met .1)
+        later = λ z k l. ap (λ (b : List ℕ). getD b k 0) (met .bytes)
             ∙ later-untouched E bounds N plan buf (sym fine) room k (omega (arith, ap (λ (x : Counts). x .records) (same-counts (sym is ∙ code-done r z))));
-        size = ap length (met .1) ∙ same-size E bounds N plan buf (sym fine) room;
+        size = ap length (met .bytes) ∙ same-size E bounds N plan buf (sym fine) room;
         refuses = λ f q. never (sym q ∙ is);
         unchanged = λ n. absurd (n (ap codeOf is));
       }

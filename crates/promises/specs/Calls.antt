@@ -6,6 +6,7 @@ use lib.ListN.{length, take}
 use lib.Ieee.{Float}
 use denote.Ref.{RefT, now}
 use Rattle.switch.specs.declared.Outcome.{Outcome}
+use Rattle.switch.specs.Result.{Gives}
 use Rattle.wish.specs.declared.Wish.{Wish}
 use Rattle.wish.specs.Wish.{wishOf, wishBits}
 use Rattle.wishes.specs.Wishes.{outcome, cellsAfter}
@@ -34,7 +35,7 @@ use Rattle.grating.specs.Grating.{gratingPlanned}
 use Rattle.listing.specs.Listing.{listingOf}
 use Rattle.chordvenus.specs.declared.CvAnswer.{CvAnswer}
 use Rattle.chordvenus.specs.declared.CvStep.{CvStep}
-use Rattle.chordvenus.specs.Flat.{version, flat, flatWish, flatStep}
+use Rattle.chordvenus.specs.Flat.{version, flat, flatWish, flatStep, Crosses}
 
 -- the answer is x, and the lent memory is m afterwards
 abbrev pub Leaves : {A : Type 0} → A → List ℕ → A → List ℕ → Type 0
@@ -58,29 +59,29 @@ WishList N list cells = Leaves (outcome 64 N list (length cells)) (cellsAfter 64
 
 -- exact::exact_plan(n, cells, plan)
 abbrev pub ExactPlan : ℕ → List ℕ → List ℕ → Outcome → List ℕ → Type 0
-ExactPlan N d buf = let x = planned 64 0 N d (exactPlan 64 N d) buf in Leaves (x .outcome) (x .bytes)
+ExactPlan N d buf = Gives (planned 64 0 N d (exactPlan 64 N d) buf)
 
 -- doubled::doubled_plan(n, cells, plan)
 abbrev pub DoubledPlan : ℕ → List ℕ → List ℕ → Outcome → List ℕ → Type 0
-DoubledPlan N d buf = let x = planned 64 0 N d (tightPlan 64 N d) buf in Leaves (x .outcome) (x .bytes)
+DoubledPlan N d buf = Gives (planned 64 0 N d (tightPlan 64 N d) buf)
 
 -- doubled::doubled_plan_every_rotation(n, cells, plan)
 abbrev pub EveryRotation : ℕ → List ℕ → List ℕ → Outcome → List ℕ → Type 0
-EveryRotation N d buf = let x = planned 64 0 N d (doubledPlan 64 N d) buf in Leaves (x .outcome) (x .bytes)
+EveryRotation N d buf = Gives (planned 64 0 N d (doubledPlan 64 N d) buf)
 
 -- quick::quick_plan(n, cells, plan)
 abbrev pub QuickPlan : ℕ → List ℕ → List ℕ → Outcome → List ℕ → Type 0
-QuickPlan N d buf = let x = plannedUpTo 1024 64 0 N d (quickPlan 64 N d) buf in Leaves (x .outcome) (x .bytes)
+QuickPlan N d buf = Gives (plannedUpTo 1024 64 0 N d (quickPlan 64 N d) buf)
 
 -- grating::grating_doubled(n, cells, plan)
 abbrev pub GratingDoubled : ℕ → List ℕ → List ℕ → Outcome → List ℕ → Type 0
-GratingDoubled N d buf = let x = gratingPlanned 64 0 N d buf in Leaves (x .outcome) (x .bytes)
+GratingDoubled N d buf = Gives (gratingPlanned 64 0 N d buf)
 
 -- ---- plans
 
 -- records::write_record(hold, n, outputs, plan)
 abbrev pub WriteRecord : ℕ → ℕ → List ℕ → List ℕ → Outcome → List ℕ → Type 0
-WriteRecord hold N outputs buf = let x = written hold N outputs buf in Leaves (x .outcome) (x .bytes)
+WriteRecord hold N outputs buf = Gives (written hold N outputs buf)
 
 -- plans::open_plan(n, plan), and reader::open_answer(n, plan)
 abbrev pub OpenPlan : ℕ → List ℕ → Outcome → Type 0
@@ -108,11 +109,11 @@ PlanLength N plan d r = r ≡ planLength firstEdition d N plan
 
 -- joining::join_plan(n, plan, joined)
 abbrev pub JoinPlan : ℕ → List ℕ → List ℕ → Outcome → List ℕ → Type 0
-JoinPlan N plan buf = let x = joining firstEdition N plan buf in Leaves (x .outcome) (x .bytes)
+JoinPlan N plan buf = Gives (joining firstEdition N plan buf)
 
 -- wavelengths::grating_report(n, plan, report)
 abbrev pub GratingReport : ℕ → List ℕ → List ℕ → Outcome → List ℕ → Type 0
-GratingReport N plan buf = let x = reported firstEdition N plan buf in Leaves (x .outcome) (x .bytes)
+GratingReport N plan buf = Gives (reported firstEdition N plan buf)
 
 -- lookup::find(n, tonight, standby, slot)
 abbrev pub FindInForce : ℕ → List ℕ → List ℕ → ℕ → Found → Type 0
@@ -146,27 +147,27 @@ CvWishes N list cells = Leaves (flat (outcome 64 N list (length cells))) (cellsA
 
 -- cv_exact(n, cells, plan)
 abbrev pub CvExact : ℕ → List ℕ → List ℕ → CvAnswer → List ℕ → Type 0
-CvExact N d buf = let x = planned 64 0 N d (exactPlan 64 N d) buf in Leaves (flat (x .outcome)) (x .bytes)
+CvExact N d buf = Crosses (planned 64 0 N d (exactPlan 64 N d) buf)
 
 -- cv_doubled(n, cells, plan)
 abbrev pub CvDoubled : ℕ → List ℕ → List ℕ → CvAnswer → List ℕ → Type 0
-CvDoubled N d buf = let x = planned 64 0 N d (tightPlan 64 N d) buf in Leaves (flat (x .outcome)) (x .bytes)
+CvDoubled N d buf = Crosses (planned 64 0 N d (tightPlan 64 N d) buf)
 
 -- cv_doubled_every_rotation(n, cells, plan)
 abbrev pub CvEveryRotation : ℕ → List ℕ → List ℕ → CvAnswer → List ℕ → Type 0
-CvEveryRotation N d buf = let x = planned 64 0 N d (doubledPlan 64 N d) buf in Leaves (flat (x .outcome)) (x .bytes)
+CvEveryRotation N d buf = Crosses (planned 64 0 N d (doubledPlan 64 N d) buf)
 
 -- cv_quick(n, cells, plan)
 abbrev pub CvQuick : ℕ → List ℕ → List ℕ → CvAnswer → List ℕ → Type 0
-CvQuick N d buf = let x = plannedUpTo 1024 64 0 N d (quickPlan 64 N d) buf in Leaves (flat (x .outcome)) (x .bytes)
+CvQuick N d buf = Crosses (plannedUpTo 1024 64 0 N d (quickPlan 64 N d) buf)
 
 -- cv_grating_doubled(n, cells, plan)
 abbrev pub CvGratingDoubled : ℕ → List ℕ → List ℕ → CvAnswer → List ℕ → Type 0
-CvGratingDoubled N d buf = let x = gratingPlanned 64 0 N d buf in Leaves (flat (x .outcome)) (x .bytes)
+CvGratingDoubled N d buf = Crosses (gratingPlanned 64 0 N d buf)
 
 -- cv_grating_report(n, plan, report)
 abbrev pub CvGratingReport : ℕ → List ℕ → List ℕ → CvAnswer → List ℕ → Type 0
-CvGratingReport N plan buf = let x = reported firstEdition N plan buf in Leaves (flat (x .outcome)) (x .bytes)
+CvGratingReport N plan buf = Crosses (reported firstEdition N plan buf)
 
 -- cv_check(n, cells, plan)
 abbrev pub CvCheck : ℕ → List ℕ → List ℕ → CvAnswer → Type 0
@@ -178,11 +179,11 @@ CvLength N plan d r = r ≡ flat (planLength firstEdition d N plan)
 
 -- cv_join(n, plan, joined)
 abbrev pub CvJoin : ℕ → List ℕ → List ℕ → CvAnswer → List ℕ → Type 0
-CvJoin N plan buf = let x = joining firstEdition N plan buf in Leaves (flat (x .outcome)) (x .bytes)
+CvJoin N plan buf = Crosses (joining firstEdition N plan buf)
 
 -- cv_write(hold, n, outputs, plan)
 abbrev pub CvWrite : ℕ → ℕ → List ℕ → List ℕ → CvAnswer → List ℕ → Type 0
-CvWrite hold N outputs buf = let x = written hold N outputs buf in Leaves (flat (x .outcome)) (x .bytes)
+CvWrite hold N outputs buf = Crosses (written hold N outputs buf)
 
 -- cv_open(n, plan)
 abbrev pub CvOpen : ℕ → List ℕ → CvAnswer → Type 0

@@ -40,7 +40,7 @@ const CELLS: usize = 4096;
 
 // The quick cover of a demand, written at the start of a lent plan.
 pub fn quick_plan(n: usize, cells: &[u32], plan: &mut [u8]) -> Outcome
-    ensures { λ r. ⌜ (r ≡ plannedUpTo 1024 64 0 n (now (cells .entry)) (quickPlan 64 n (now (cells .entry))) (now (plan .entry)) .outcome) × (now (plan .exit) ≡ plannedUpTo 1024 64 0 n (now (cells .entry)) (quickPlan 64 n (now (cells .entry))) (now (plan .entry)) .bytes) ⌝ }
+    ensures { λ r. ⌜ Gives (plannedUpTo 1024 64 0 n (now (cells .entry)) (quickPlan 64 n (now (cells .entry))) (now (plan .entry))) r (now (plan .exit)) ⌝ }
 {
     let mut work = [0u32; CELLS];
     let mut lows = [0u64; PORTS];

@@ -10,6 +10,7 @@ ghost use mathlib.Core.Path.{_≡_};
 ghost use mathlib.Core.Bool.{_&&_};
 ghost use Prim.Native.Nat.{_+_, _-_, _<_, _≤_};
 ghost use lib.ListN.{length};
+ghost use Rattle.switch.specs.Result.{Gives};
 ghost use Rattle.records.specs.Record.{all, hold, inside, new, later, outputsFine, wellFormed};
 ghost use Rattle.records.specs.Bytes.{encode, laid};
 ghost use Rattle.records.specs.Write.{written};
@@ -29,7 +30,7 @@ pub const IDLE: u8 = 255;
 
 // Writes one record at the start of a lent buffer: refusals 1, 5 and 11.
 pub fn write_record(hold: u16, n: usize, outputs: &[u8; 64], plan: &mut [u8]) -> Outcome
-    ensures { λ r. ⌜ (r ≡ written hold n (now (outputs .entry)) (now (plan .entry)) .outcome) × (now (plan .exit) ≡ written hold n (now (outputs .entry)) (now (plan .entry)) .bytes) ⌝ }
+    ensures { λ r. ⌜ Gives (written hold n (now (outputs .entry)) (now (plan .entry))) r (now (plan .exit)) ⌝ }
 {
     if n == 0 {
         return Outcome::Refused(Refusal::Ports);

@@ -13,6 +13,7 @@ use switch::first_edition;
 ghost use mathlib.Core.Path.{_≡_};
 ghost use Prim.Native.Nat.{_+_, _≤_, _<_};
 ghost use lib.ListN.{length, getD};
+ghost use Rattle.switch.specs.Result.{Gives};
 ghost use Rattle.counting.specs.Sum.{most};
 ghost use Rattle.records.specs.Record.{decoded};
 ghost use Rattle.records.specs.Bytes.{whole, planFrom, laid};
@@ -26,7 +27,7 @@ const PLACES: usize = 128;
 
 // Reports a plan, one byte for each record: refusals 1, 9, 10, 11 and 5, else the records and the total of the plan read.
 pub fn grating_report(n: usize, plan: &[u8], report: &mut [u8]) -> Outcome
-    ensures { λ r. ⌜ (r ≡ reported firstEdition n (now (plan .entry)) (now (report .entry)) .outcome) × (now (report .exit) ≡ reported firstEdition n (now (plan .entry)) (now (report .entry)) .bytes) ⌝ }
+    ensures { λ r. ⌜ Gives (reported firstEdition n (now (plan .entry)) (now (report .entry))) r (now (report .exit)) ⌝ }
 {
     let checked = check_plan(n, plan, first_edition());
     let Outcome::Done(counts) = checked else {

@@ -1,5 +1,5 @@
 -- A demand that is refused by itself changes nothing; the rest is decided on a working copy of as many cells and a table of N holds.
-use mathlib.Core.Path.{_≡_, sym, ap, _∙_}
+use mathlib.Core.Path.{_≡_, refl, sym, _∙_}
 use mathlib.Core.List.{List}
 use Prim.Native.Nat.{ℕ, _≤_}
 use native.Mathlib.Omega.{arith}
@@ -9,7 +9,7 @@ use lib.Seq.{length-take-le}
 use Rattle.demand.specs.Check.{checkDemand}
 use Rattle.demand.specs.declared.Checked.the-variants.{Fine}
 use Rattle.demand.proofs.Check.{fine-asked}
-use Rattle.switch.specs.Result.{Result}
+use Rattle.switch.proofs.Result.{gives}
 use Rattle.planner.proofs.Planned.{planned-faulty}
 use Rattle.turns.specs.declared.Turning.the-variants.{Forward}
 use Rattle.turns.specs.Second.{doubledRule}
@@ -55,7 +55,7 @@ returns : tie.Need-returns
 returns c =
     let a = c .before .before .before .before .before .before .args in
     let q = planned-faulty 64 0 (a .n) (a .cells .now) (doubledRule (a .rule) Forward 64 (a .n) (a .cells .now)) (a .plan .now) _ (sym (c .before .before .before .check-demand .ensures) ∙ c .before .r .given .1) in
-    (ap (λ (x : Result). x .outcome) (sym q), ap (λ (x : Result). x .bytes) (sym q))
+    gives q refl refl
 
 same-length : tie.Need-same-length
 same-length c = search needs

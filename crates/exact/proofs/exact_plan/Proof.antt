@@ -1,9 +1,9 @@
 -- A demand that is refused by itself changes nothing; the rest is decided on a working copy.
-use mathlib.Core.Path.{sym, ap, _∙_}
+use mathlib.Core.Path.{refl, sym, _∙_}
 use native.Mathlib.Omega.{arith}
 use native.Mathlib.Nat.{mul-le-mul}
 use Rattle.rules.specs.Exact.{exactPlan}
-use Rattle.switch.specs.Result.{Result}
+use Rattle.switch.proofs.Result.{gives}
 use Rattle.planner.proofs.Planned.{planned-faulty}
 use Rattle.exact.proofs.Outcome.{asked}
 use borrow.Author.Needs.{needs}
@@ -32,7 +32,7 @@ returns : tie.Need-returns
 returns c =
     let a = c .before .before .before .before .before .before .args in
     let q = planned-faulty 64 0 (a .n) (a .cells .now) (exactPlan 64 (a .n) (a .cells .now)) (a .plan .now) _ (sym (c .before .before .before .check-demand .ensures) ∙ c .before .r .given .1) in
-    (ap (λ (x : Result). x .outcome) (sym q), ap (λ (x : Result). x .bytes) (sym q))
+    gives q refl refl
 
 same-length : tie.Need-same-length
 same-length c = search needs

@@ -24,7 +24,9 @@ same-length : tie.Need-same-length
 same-length c = search needs
 
 returns : tie.Need-returns
-returns c = let p = c .before .before .before .before .before .before .before .before .before .before .before .before .pre in let r = refuses-room _ _ _ _ _ _ (p .1) (p .0) _ _ (c .before .before .before .before .before .before .before .copy .ensures) _ (c .before .before .before .short-of .ensures) (c .if1 .taken) in (r .outcome, r .bytes)
+returns c =
+    let p = c .before .before .before .before .before .before .before .before .before .before .before .before .pre in
+    refuses-room _ _ _ _ _ _ (p .1) (p .0) _ _ (c .before .before .before .before .before .before .before .copy .ensures) _ (c .before .before .before .short-of .ensures) (c .if1 .taken)
 
 copy-requires-2 : tie.Need-copy-requires-2
 copy-requires-2 c κs = let p = c .before .before .before .before .before .before .before .before .before .before .before .before .before .pre in omega (arith, asked _ 0 _ _ _ (c .before .before .before .before .before .before .before .before .before .before .before .before .before .args .plan .now) (p .1) (p .0) .size, c .before .before .before .before .short-of .kept, c .before .before .before .before .before .before .before .before .copy .kept)
@@ -52,8 +54,7 @@ returns-2 : tie.Need-returns-2
 returns-2 c =
     let p = c .before .before .before .before .before .before .before .before .before .before .before .before .before .before .before .before .before .before .before .before .before .before .before .before .pre in
     let l = c .before .before .before .before .before .lay .ensures in
-    let r = writes-plan _ _ _ _ _ _ (p .1) (p .0) _ _ (c .before .before .before .before .before .before .before .before .before .before .before .before .before .before .before .before .before .before .before .copy .ensures) _ (c .before .before .before .before .before .before .before .before .before .before .before .before .before .before .before .short-of .ensures) (c .before .before .before .before .before .before .before .before .before .before .before .before .if1 .left) _ _ (c .before .before .before .before .before .before .before .before .before .before .copy2 .ensures) _ (l .0) _ (l .1) _ (c .empty-slots .ensures) in
-    (r .outcome, r .bytes)
+    writes-plan _ _ _ _ _ _ (p .1) (p .0) _ _ (c .before .before .before .before .before .before .before .before .before .before .before .before .before .before .before .before .before .before .before .copy .ensures) _ (c .before .before .before .before .before .before .before .before .before .before .before .before .before .before .before .short-of .ensures) (c .before .before .before .before .before .before .before .before .before .before .before .before .if1 .left) _ _ (c .before .before .before .before .before .before .before .before .before .before .copy2 .ensures) _ (l .0) _ (l .1) _ (c .empty-slots .ensures)
 
 pub lay-or-refuse-spec : {M : Type 1} → statement M
 lay-or-refuse-spec =

@@ -61,7 +61,7 @@ returns-2 c =
     let fits : s .args .records + c .before .before .before .before .before .before .before .before .before .before .before .before .measure .result .records ≤ whole 64 (s .args .plan .now) = omega (arith, c .before .before .before .before .before .before .before .before .before .before .if1 .left) in
     let put = c .before .before .before .before .lay .ensures ∙ made-laid f m (s .args .plan .now) fits 0 (c .before .before .before .before .before .before .before .before .lay-first .ensures) in
     let r = laid-answer 64 0 (s .args .n) _ (s .args .plan .now) (omega (arith, fits, made-records f m)) _ _ _ (made-records f m) (made-total f m) put in
-    (c .done .ensures ∙ r .0, r .1)
+    record { outcome = c .done .ensures ∙ r .outcome; bytes = r .bytes }
 
 pub lay-parts-spec : {M : Type 1} → statement M
 lay-parts-spec =

@@ -1,5 +1,5 @@
 -- Nothing asked for is the empty plan; else there is a u of at least 1 to divide by, and the exact call on the quotients makes the first part.
-use mathlib.Core.Path.{ap, _∙_}
+use mathlib.Core.Path.{sym, ap, _∙_}
 use mathlib.Core.List.{List}
 use Prim.Native.Nat.{ℕ, _/_, _≤_}
 use native.Mathlib.Omega.{arith}
@@ -9,9 +9,9 @@ use Rattle.switch.specs.declared.Numbers.{Numbers}
 use Rattle.switch.specs.Plan.{Record}
 use Rattle.rules.proofs.Peels.{length-tab}
 use Rattle.records.specs.Bytes.{whole}
-use Rattle.switch.specs.Result.{Result}
+use Rattle.switch.proofs.Result.{gives-as}
+use Rattle.planner.specs.Planned.{roomFor}
 use Rattle.turns.proofs.Divided.{fine-asks, divided, asked, holding}
-use Rattle.grating.specs.Grating.{roomed}
 use Rattle.grating.proofs.Divided.{first-part, whole-plan}
 use Rattle.grating.proofs.Answer.{empty-answer, fine-answer}
 use borrow.Author.Needs.{needs}
@@ -29,7 +29,7 @@ returns : tie.Need-returns
 returns c =
     let s = c .before .before .before .before .before .before in
     let e = empty-answer 64 0 (s .args .n) (s .args .cells .now) (s .args .plan .now) (s .pre .0 ∙ ap Fine (c .before .if1 .taken)) in
-    (c .done .ensures ∙ e .0, e .1)
+    record { outcome = c .done .ensures ∙ e .outcome; bytes = e .bytes }
 
 split-requires : tie.Need-split-requires
 split-requires c κs =
@@ -55,7 +55,7 @@ lay-parts-requires c κs =
     let x = c .before .before .before .before .before .exact-plan in (
       record { some = asked v .some; few = holding v .few; size = ap length (h .holds-are) ∙ length-tab _ _ _ },
       asked v .few,
-      first-part v 0 _ first-room (x .ensures .0) (x .ensures .1) (ap (λ (n : Numbers). n .counts) (c .before .before .before .numbers-of .ensures)) (x .kept .1 .1 .0),
+      first-part v 0 _ first-room (x .ensures .outcome) (x .ensures .bytes) (ap (λ (n : Numbers). n .counts) (c .before .before .before .numbers-of .ensures)) (x .kept .1 .1 .0),
     )
 
 same-length : tie.Need-same-length
@@ -74,10 +74,10 @@ returns-2 c =
     let h = c .before .before .before .before .before .before .before .before .before .before .before .before .before .before .before .split .ensures in
     let v = divided (s .pre .0) (omega arith) (c .before .before .before .before .before .before .before .before .before .before .before .before .before .before .before .before .before .before .if1 .left) h in
     let x = c .before .before .before .before .before .before .before .before .exact-plan .ensures in
-    let p = whole-plan v 0 _ first-room (x .0) (x .1) (ap (λ (n : Numbers). n .counts) (c .before .before .before .before .before .before .numbers-of .ensures)) _ (h .holds-are) in
-    let e = ap (λ (q : List Record). roomed 64 0 (a .n) q (a .plan .now)) p ∙ fine-answer 64 0 (a .n) (a .cells .now) (a .plan .now) (a .longest) (s .pre .0) in
+    let p = whole-plan v 0 _ first-room (x .outcome) (x .bytes) (ap (λ (n : Numbers). n .counts) (c .before .before .before .before .before .before .numbers-of .ensures)) _ (h .holds-are) in
+    let e = ap (λ (q : List Record). roomFor 64 0 (a .n) 0 0 q (a .plan .now)) p ∙ fine-answer 64 0 (a .n) (a .cells .now) (a .plan .now) (a .longest) (s .pre .0) in
     let l = c .before .before .lay-parts .ensures in
-    (l .0 ∙ ap (λ (x : Result). x .outcome) e, l .1 ∙ ap (λ (x : Result). x .bytes) e)
+    gives-as (sym e) l
 
 pub plan-fine-spec : {M : Type 1} → statement M
 plan-fine-spec =

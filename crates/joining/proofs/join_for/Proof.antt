@@ -18,7 +18,7 @@ enum-told c = search needs
 returns : tie.Need-returns
 returns c =
     let r = answers-refused _ _ _ (c .before .before .before .before .before .before .before .before .before .args .buffer .now) (sym (c .enum-told .given .1) ∙ c .before .before .check-plan .ensures) in
-    (c .enum-told .given .1 ∙ r .outcome, r .bytes)
+    record { outcome = c .enum-told .given .1 ∙ r .outcome; bytes = r .bytes }
 
 sum-up-requires : tie.Need-sum-up-requires
 sum-up-requires c κs =
@@ -55,7 +55,7 @@ returns-2 : tie.Need-returns-2
 returns-2 c =
     let p = c .before .before .before .before .before .before .before .before .before .before .before .before .before .before .before .before .before .before .before .before .before .before .before .before .before .before .before .pre in
     let r = answers-short _ _ _ (c .before .before .before .before .before .before .before .before .before .before .before .before .before .before .before .before .before .before .before .before .before .before .before .before .before .before .before .args .buffer .now) (p .0) _ (sym (c .before .before .before .before .before .before .before .before .before .before .before .before .before .before .before .before .before .before .checked .given .1) ∙ c .before .before .before .before .before .before .before .before .before .before .before .before .before .before .before .before .before .before .before .before .check-plan .ensures) _ _ _ (c .before .before .before .before .before .before .before .before .before .before .before .before .sum-up .ensures) _ (c .before .before .count-pieces .ensures _ _ _) (c .if1 .taken) in
-    (r .outcome, r .bytes)
+    r
 
 lay-sums-requires : tie.Need-lay-sums-requires
 lay-sums-requires c κs =
@@ -91,7 +91,7 @@ returns-3 : tie.Need-returns-3
 returns-3 c =
     let p = c .before .before .before .before .before .before .before .before .before .before .before .before .before .before .before .before .before .before .before .before .before .before .before .before .before .before .before .before .before .before .before .before .before .pre in
     let r = answers-done _ _ _ (c .before .before .before .before .before .before .before .before .before .before .before .before .before .before .before .before .before .before .before .before .before .before .before .before .before .before .before .before .before .before .before .before .before .args .buffer .now) (p .0) _ (sym (c .before .before .before .before .before .before .before .before .before .before .before .before .before .before .before .before .before .before .before .before .before .before .before .before .checked .given .1) ∙ c .before .before .before .before .before .before .before .before .before .before .before .before .before .before .before .before .before .before .before .before .before .before .before .before .before .before .check-plan .ensures) _ _ _ (c .before .before .before .before .before .before .before .before .before .before .before .before .before .before .before .before .before .before .sum-up .ensures) _ (c .before .before .before .before .before .before .before .before .count-pieces .ensures _ _ _) (omega (arith, c .before .before .before .before .before .before .if1 .left)) _ (c .before .before .lay-sums .ensures) in
-    (r .outcome, r .bytes)
+    r
 
 pub join-for-spec : {M : Type 1} → statement M
 join-for-spec =

@@ -1,6 +1,7 @@
 -- The first edition keeps to the bounds of every edition, and new arrays are an empty table with an entry for each of 8,192 records.
-use mathlib.Core.Path.{ap, _∙_}
+use mathlib.Core.Path.{sym, ap}
 use native.Mathlib.Omega.{arith}
+use Rattle.switch.proofs.Result.{gives-as}
 use Rattle.switch.specs.declared.Edition.{Edition}
 use Rattle.switch.proofs.Editions.{first-bounded}
 use Rattle.settings.proofs.Next.{empty-zeros, roomy-zeros}
@@ -35,7 +36,7 @@ returns c =
     let a = c .before .before .before .before .before .before .before .before .before .before .before .before .before .before .before .args in
     let j = c .before .before .before .before .before .before .join-for .ensures in
     let q = c .before .before .before .before .before .before .before .before .before .before .before .before .first-edition .ensures in
-    (j .0 ∙ ap (λ (e : Edition). joining e (a .n) (a .plan .now) (a .joined .now) .outcome) q, j .1 ∙ ap (λ (e : Edition). joining e (a .n) (a .plan .now) (a .joined .now) .bytes) q)
+    gives-as (ap (λ (e : Edition). joining e (a .n) (a .plan .now) (a .joined .now)) (sym q)) j
 
 pub join-plan-spec : {M : Type 1} → statement M
 join-plan-spec =

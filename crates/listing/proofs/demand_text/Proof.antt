@@ -36,7 +36,7 @@ buffer-size = length-replicate {A = ℕ} 15368 0
 
 -- what was written
 done : (c : tie.After-outcome2) → (let a = c .before .before .before .before .before .before .before .args in Written (a .n) (a .cells .now) (c .outcome2 .given .0 .0) (c .before .before .before .exact-plan .last .1 .1 .0))
-done c = let s = c .before .before .before .before .before .before .before in demand-done _ _ buffer (s .pre .1) buffer-size _ _ (sym (sym (c .before .before .before .exact-plan .ensures .0) ∙ c .outcome2 .given .1)) (c .before .before .before .exact-plan .ensures .1)
+done c = let s = c .before .before .before .before .before .before .before in demand-done _ _ buffer (s .pre .1) buffer-size _ _ (sym (sym (c .before .before .before .exact-plan .ensures .outcome) ∙ c .outcome2 .given .1)) (c .before .before .before .exact-plan .ensures .bytes)
 
 mul-end : tie.Need-mul-end
 mul-end c = omega (arith, done (c .before .before) .few)
@@ -59,7 +59,7 @@ returns : tie.Need-returns
 returns c =
     let s = c .before .before .before .before .before .before .before .before .before .before .before .before in
     let p = c .before .before .put-refusal in
-    let e = demand-refused _ _ buffer (s .pre .1) buffer-size _ (sym (sym (c .before .before .before .before .before .before .before .before .exact-plan .ensures .0) ∙ c .before .before .before .before .before .outcome .given .1)) in
+    let e = demand-refused _ _ buffer (s .pre .1) buffer-size _ (sym (sym (c .before .before .before .before .before .before .before .before .exact-plan .ensures .outcome) ∙ c .before .before .before .before .before .outcome .given .1)) in
     subst (λ (x : List ℕ). Put x (s .args .text .now) 0 (p .last .0) (p .result)) e (p .ensures)
 
 same-length-2 : tie.Need-same-length-2

@@ -24,7 +24,7 @@ same-length : tie.Need-same-length
 same-length c = search needs
 
 returns : tie.Need-returns
-returns c = let r = c .before .before .before .before .before .before .plan-with .ensures in (r .outcome, r .bytes)
+returns c = c .before .before .before .before .before .before .plan-with .ensures
 
 pub quick-plan-spec : {M : Type 1} → statement M
 quick-plan-spec =

@@ -2,11 +2,11 @@
 use Rattle.records.specs.Record.{outputsFine}
 use Prim.Native.Nat.{ℕ}
 use lib.ListN.{length}
-use mathlib.Core.Path.{_≡_, sym, ap, _∙_}
+use mathlib.Core.Path.{_≡_, refl, sym, ap, _∙_}
 use native.Mathlib.Omega.{arith}
 use borrow.Author.Tests.{not-true, not-false}
 use Rattle.switch.proofs.Check.{no-ports, many-ports}
-use Rattle.switch.specs.Result.{Result}
+use Rattle.switch.proofs.Result.{gives}
 use Rattle.records.proofs.Write.{encode-idle, encode-fine, write-ports, write-room, write-malformed, write-done}
 use borrow.Author.Needs.{needs}
 use Rattle.records.proofs.write_record.Statement.{statement}
@@ -16,25 +16,25 @@ returns : tie.Need-returns
 returns c =
     let a = c .before .before .args in
     let e = write-ports (a .hold) (a .n) (a .outputs .now) (a .plan .now) (no-ports _ _ (c .if1 .taken)) in
-    (ap (λ (w : Result). w .outcome) e, ap (λ (w : Result). w .bytes) e)
+    gives (sym e) refl refl
 
 returns-2 : tie.Need-returns-2
 returns-2 c =
     let a = c .before .before .before .args in
     let e = write-ports (a .hold) (a .n) (a .outputs .now) (a .plan .now) (many-ports _ _ (c .if2 .taken)) in
-    (ap (λ (w : Result). w .outcome) e, ap (λ (w : Result). w .bytes) e)
+    gives (sym e) refl refl
 
 returns-3 : tie.Need-returns-3
 returns-3 c =
     let a = c .before .before .before .before .args in
     let e = write-room (a .hold) (a .n) (a .outputs .now) (a .plan .now) (omega arith) (c .before .if2 .left) (c .if3 .taken) in
-    (ap (λ (w : Result). w .outcome) e, ap (λ (w : Result). w .bytes) e)
+    gives (sym e) refl refl
 
 returns-4 : tie.Need-returns-4
 returns-4 c =
     let a = c .before .before .before .before .before .args in
     let e = write-malformed (a .hold) (a .n) (a .outputs .now) (a .plan .now) (omega arith) (c .before .before .if2 .left) (c .before .if3 .left) (encode-idle _ _ _ _ _ (c .if4 .taken)) in
-    (ap (λ (w : Result). w .outcome) e, ap (λ (w : Result). w .bytes) e)
+    gives (sym e) refl refl
 
 outputs-fine-requires : tie.Need-outputs-fine-requires
 outputs-fine-requires c κs = search needs
@@ -46,7 +46,7 @@ returns-5 c =
     let w = encode-fine 64 0 (a .hold) (a .n) (a .outputs .now) (c .before .before .before .if4 .left)
     ∙ ap (λ (k : ℕ). outputsFine k (a .n) (a .outputs .now)) (sym long) ∙ sym (c .before .outputs-fine .ensures) ∙ not-true _ (c .if5 .taken) in
     let e = write-malformed (a .hold) (a .n) (a .outputs .now) (a .plan .now) (omega arith) (c .before .before .before .before .before .if2 .left) (c .before .before .before .before .if3 .left) w in
-    (ap (λ (x : Result). x .outcome) e, ap (λ (x : Result). x .bytes) e)
+    gives (sym e) refl refl
 
 put-record-requires : tie.Need-put-record-requires
 put-record-requires c κs = search needs
@@ -61,7 +61,7 @@ returns-6 c =
     let w = encode-fine 64 0 (a .hold) (a .n) (a .outputs .now) (c .before .before .before .before .before .before .before .before .if4 .left)
     ∙ ap (λ (k : ℕ). outputsFine k (a .n) (a .outputs .now)) (sym long) ∙ sym (c .before .before .before .before .before .before .outputs-fine .ensures) ∙ not-false _ (c .before .before .before .before .before .if5 .left) in
     let e = write-done (a .hold) (a .n) (a .outputs .now) (a .plan .now) (omega arith) (c .before .before .before .before .before .before .before .before .before .before .if2 .left) (c .before .before .before .before .before .before .before .before .before .if3 .left) w in
-    (ap (λ (x : Result). x .outcome) e, c .before .before .put-record .ensures ∙ ap (λ (x : Result). x .bytes) e)
+    gives (sym e) refl (c .before .before .put-record .ensures)
 
 pub write-record-spec : {M : Type 1} → statement M
 write-record-spec =
