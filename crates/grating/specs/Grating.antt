@@ -2,18 +2,13 @@
 use mathlib.Core.Bool.{cond}
 use mathlib.Core.List.{List, [], map}
 use Prim.Native.Nat.{ℕ}
-use lib.ListN.{length}
-use lib.Dec.{ltb, eqb}
-use Rattle.switch.specs.declared.Outcome.the-variants.{Done}
-use Rattle.switch.specs.declared.Refusal.the-variants.{Room}
-use Rattle.switch.specs.Answer.{planCounts}
+use lib.Dec.{eqb}
 use Rattle.switch.specs.Demand.{cell, longest}
-use Rattle.switch.specs.Plan.{Record, total}
+use Rattle.switch.specs.Plan.{Record}
 use Rattle.demand.specs.Check.{checkDemand}
 use Rattle.rules.specs.Exact.{exactPlan}
 use Rattle.rules.specs.Doubled.{unit, divide, stretch, opposite, turns, tight, doubledBy}
-use Rattle.records.specs.Bytes.{whole, bytes, laid}
-use Rattle.switch.specs.Result.{Result, refuses}
+use Rattle.switch.specs.Result.{Result}
 use Rattle.planner.specs.Planned.{roomFor, afterCheck}
 
 -- the doubled plan whose second part is the anti-rotations, each held for the largest remainder among its pairs and left out when that is 0
