@@ -15,7 +15,7 @@ use Rattle.switch.specs.declared.OutputPort.{OutputPort}
 use Rattle.matching.specs.declared.Asked.{Asked}
 use Rattle.matching.specs.declared.Asked.the-variants.{Freed, Stuck}
 use Rattle.matching.specs.Tables.{Held, Holds, joined, Matching}
-use Rattle.matching.specs.Search.{Stays, Closed, Ports, Further, Movable, Handed, AskPre, Wave, Around, Gained, OutMoved, Moved, Unmoved, AskPost}
+use Rattle.matching.specs.Search.{Stays, Closed, Ports, Further, Movable, Handed, AskPre, Wave, Around, Gained, OutMoved, Moved, Unmoved, AskPost, Tries}
 use Rattle.matching.proofs.Tables.{Here, Other, stored, held-in, held-not-free, one-holder, freed-back, freed-good, freed-idle, taken-good}
 
 -- ---- closed sets
@@ -127,6 +127,20 @@ one-up v f = omega arith
 pub ports-of : (w n : ℕ) (E : ℕ → ℕ → Type 0) (by out : List ℕ) → Matching w n E by out → Ports w n by
 ports-of w n E by out g = record { holders = g .holders; port = g .port }
 
+-- ---- the tried set comes back
+
+-- as it was, where none is left to try
+pub tries-none : (w t outputs : ℕ) → Sub outputs t → Tries w t outputs t
+tries-none w t outputs s = record { more = λ k x. x; larger = λ k l x f. absurd (f (s k x)); same = λ _ k x. x }
+
+-- larger, with an output that was asked for and not tried
+pub tries-new : (w t outputs u j : ℕ) → Sub t u → In outputs j → (In t j → ⊥) → In u j → Tries w t outputs u
+tries-new w t outputs u j more here new got = record { more = more; larger = λ _ _ _ _. (j, got, new); same = λ s. absurd (new (s j here)) }
+
+-- asking for those that are not tried is asking for all
+pub tries-rest : (w t outputs rest u j : ℕ) → But outputs t rest → In outputs j → (In t j → ⊥) → Tries w t rest u → Tries w t outputs u
+tries-rest w t outputs rest u j b here new m = record { more = m .more; larger = λ k l x f. m .larger k l (b .kept k x f) f; same = λ s. absurd (new (s j here)) }
+
 -- ---- inputs ask
 
 module _ (w n : ℕ) (E : ℕ → ℕ → Type 0) (by out : List ℕ) (held t : ℕ) (p : AskPre w n E by out held t) where
@@ -157,7 +171,7 @@ module _ (w n : ℕ) (E : ℕ → ℕ → Type 0) (by out : List ℕ) (held t : 
 
   -- what came of asking them is what came of asking all
   pub wave-post : (outputs wave : ℕ) (by' out' : List ℕ) (a : Asked) → But outputs t wave → AskPost w n E by out t wave by' out' a → AskPost w n E by out t outputs by' out' a
-  wave-post outputs wave by' out' (Freed g) b m = record { good = m .good; moved = m .moved; asked = b .less _ (m .asked); here = m .here; new = m .new; last = m .last; same = m .same; others = m .others }
+  wave-post outputs wave by' out' (Freed g u) b m = record { good = m .good; moved = m .moved; asked = b .less _ (m .asked); here = m .here; new = m .new; last = m .last; same = m .same; others = m .others }
   wave-post outputs wave by' out' (Stuck u) b m = record {
     holders = m .holders;
     outs = m .outs;
@@ -174,6 +188,10 @@ module _ (w n : ℕ) (E : ℕ → ℕ → Type 0) (by out : List ℕ) (held t : 
     wave-free j x l e = free-moved wave j x l e (v .new j x)
 
     module _ (t' : ℕ) (un : Union t wave t') where
+      -- the set has grown by them
+      pub wave-tries : (u : ℕ) → Sub t' u → Tries w t wave u
+      wave-tries u m = let s = v .some in tries-new w t wave u (s .0) (λ k x. m k (un .left k x)) (s .2) (v .new (s .0) (s .2)) (m (s .0) (un .right (s .0) (s .2)))
+
       -- marked as tried, they may ask their holders
       pub further-asks : AskPre w n E by out held t'
       further-asks = record { good = p .good; spare = λ k l h. let s = p .spare k l h in (s .0, λ x. ⊎-elim (s .1) (λ y. h (v .known k y)) (un .only k x)) }
@@ -242,11 +260,11 @@ module _ (w n : ℕ) (E : ℕ → ℕ → Type 0) (by out : List ℕ) (held t : 
 
 module _ (w n : ℕ) (E : ℕ → ℕ → Type 0) (by out : List ℕ) (t outputs : ℕ) (by' out' : List ℕ) (g : Matching w n E by out) where
   pub same-holders : (a : Asked) → AskPost w n E by out t outputs by' out' a → length by' ≡ length by
-  same-holders (Freed x) m = m .good .holders ∙ sym (g .holders)
+  same-holders (Freed x u) m = m .good .holders ∙ sym (g .holders)
   same-holders (Stuck u) m = ap length (m .holders)
 
   pub same-outputs : (a : Asked) → AskPost w n E by out t outputs by' out' a → length out' ≡ length out
-  same-outputs (Freed x) m = m .good .outputs ∙ sym (g .outputs)
+  same-outputs (Freed x u) m = m .good .outputs ∙ sym (g .outputs)
   same-outputs (Stuck u) m = ap length (m .outs)
 
 pub handed-holders : (E : ℕ → ℕ → Type 0) (by out : List ℕ) (wave wanted j : ℕ) (by' out' : List ℕ) → Handed E by out wave wanted j by' out' → length by' ≡ length by

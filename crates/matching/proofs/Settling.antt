@@ -244,8 +244,8 @@ module _ (w n : ℕ) (E : ℕ → ℕ → Type 0) (out₀ by out : List ℕ) (fi
     lower-may some sub may = may-lower w n E by out fixed i own (l .post .settled) here (l .is) dead (l .dead-is) (l .loose) some (λ k x. may k (b .less k (sub k x)))
 
     -- it has a lower one, and what was dead is
-    pub lower-again : (some : ℕ) (by' out' : List ℕ) (g : Given) → Sub some lower → Lowered w n E by out dead some own i by' out' (Freed g) → Lower w n E out₀ by' out' fixed dead (g .output .0) i × (g .output .0 < own)
-    lower-again some by' out' g sub m = (record { post = settled-more w n E out₀ by out by' out' fixed i fixed i (l .post) t; is = sym (m .2); dead-is = dead-moved; loose = loose }, b .small (g .output .0) (sub (g .output .0) (m .3)))
+    pub lower-again : (some : ℕ) (by' out' : List ℕ) (g : Given) (u : Tried) → Sub some lower → Lowered w n E by out dead some own i by' out' (Freed g u) → Lower w n E out₀ by' out' fixed dead (g .output .0) i × (g .output .0 < own)
+    lower-again some by' out' g u sub m = (record { post = settled-more w n E out₀ by out by' out' fixed i fixed i (l .post) t; is = sym (m .2); dead-is = dead-moved; loose = loose }, b .small (g .output .0) (sub (g .output .0) (m .3)))
       where
         t : SettledPost w n E out by' out' fixed i
         t = lower-settled w n E by out fixed i own (l .post .settled) here (l .is) dead (l .dead-is) (l .loose) by' out' (m .0) (m .1)

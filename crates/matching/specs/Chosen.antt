@@ -72,7 +72,7 @@ pub record Lowering (w n : ℕ) (E : ℕ → ℕ → Type 0) (by out : List ℕ)
 
 -- it has one of these outputs now; or it has its own, and these are in a closed set
 abbrev pub Lowered : ℕ → ℕ → (ℕ → ℕ → Type 0) → List ℕ → List ℕ → ℕ → ℕ → ℕ → ℕ → List ℕ → List ℕ → Asked → Type 0
-Lowered w n E by out dead lower own i by' out' (Freed g) = Matching w n E by' out' × Gained n (set by own 0) out dead i by' out' × (joined out' i ≡ g .output .0) × In lower (g .output .0)
+Lowered w n E by out dead lower own i by' out' (Freed g u) = Matching w n E by' out' × Gained n (set by own 0) out dead i by' out' × (joined out' i ≡ g .output .0) × In lower (g .output .0)
 Lowered w n E by out dead lower own i by' out' (Stuck u) = (by' ≡ by) × (out' ≡ out) × Unmoved E (set by own 0) out dead lower (set by own 0) out (triedOf u)
 
 -- the tables are settled, and ports past n are as they were

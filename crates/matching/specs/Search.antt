@@ -133,5 +133,16 @@ pub record Unmoved (E : ℕ → ℕ → Type 0) (by out : List ℕ) (t outputs :
 
 -- either
 abbrev pub AskPost : ℕ → ℕ → (ℕ → ℕ → Type 0) → List ℕ → List ℕ → ℕ → ℕ → List ℕ → List ℕ → Asked → Type 0
-AskPost w n E by out t outputs by' out' (Freed g) = Moved w n E by out t outputs (g .output .0) (g .spent .0) by' out'
+AskPost w n E by out t outputs by' out' (Freed g u) = Moved w n E by out t outputs (g .output .0) (g .spent .0) by' out'
 AskPost w n E by out t outputs by' out' (Stuck u) = Unmoved E by out t outputs by' out' (triedOf u)
+
+-- what is tried once it has been asked
+abbrev pub seenIn : Asked → ℕ
+seenIn (Freed g u) = triedOf u
+seenIn (Stuck u) = triedOf u
+
+-- the set of outputs already tried comes back larger; or as it was, where none of those asked for is left to try
+pub record Tries (w t outputs u : ℕ) : Type 0 where
+  pub more : Sub t u
+  pub larger : (k : ℕ) → k < w → In outputs k → (In t k → ⊥) → (j : ℕ) × In u j × (In t j → ⊥)
+  pub same : Sub outputs t → Sub u t

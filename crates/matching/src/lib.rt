@@ -16,7 +16,7 @@ ghost use lib.ListN.{length, set};
 ghost use Rattle.labels.specs.Label.{In, Sub, Marked, Union};
 ghost use Rattle.labels.specs.Wide.{outputsOf, Untried};
 ghost use Rattle.matching.specs.Tables.{triedOf, Allowed, Rows, joined};
-ghost use Rattle.matching.specs.Search.{Ports, Reaches, Leads, AskPre, Wave, AskPost, Movable, Mover, Handed, Free};
+ghost use Rattle.matching.specs.Search.{Ports, Reaches, Leads, AskPre, Wave, AskPost, Tries, seenIn, Movable, Mover, Handed, Free};
 ghost use Rattle.matching.specs.Chosen.{Fixed, CompletePre, CompletePost, Lowering, Lowered, Dead, SettledPost, SettledAll, Settled, Ready, Chosen, HoldsPost};
 
 // Both tables have a place for each port of the largest switch.
@@ -30,9 +30,9 @@ struct Tried {
     outputs: Outputs,
 }
 
-// What asking came to: one of the outputs asked for was made free, or none can be, whatever is tried by then.
+// What asking came to: one of the outputs asked for was made free, or none can be. What is tried by then comes back either way.
 enum Asked {
-    Freed(Given),
+    Freed(Given, Tried),
     Stuck(Tried),
 }
 
@@ -228,7 +228,7 @@ fn seat(
             held: held,
             seen: seen,
         },
-        Asked::Freed(g) => {
+        Asked::Freed(g, _) => {
             join(by, out, i, g.output);
             Seats {
                 full: true,
@@ -310,7 +310,7 @@ fn settle(
                 dead = seen;
                 alone = false;
             }
-            Asked::Freed(g) => {
+            Asked::Freed(g, _) => {
                 own = g.output;
                 alone = true;
             }
@@ -364,9 +364,9 @@ fn ask_lower(
             join(by, out, i, own);
             Asked::Stuck(seen)
         }
-        Asked::Freed(g) => {
+        Asked::Freed(g, seen) => {
             join(by, out, i, g.output);
-            Asked::Freed(g)
+            Asked::Freed(g, seen)
         }
     }
 }
@@ -382,14 +382,17 @@ fn ask_inputs(
     outputs: Outputs,
 ) -> Asked
     requires { ⌜ Rows 128 (now lows) (now highs) × AskPre 128 (length (now lows)) (Allowed (now lows) (now highs)) (now by) (now out) (outputsOf held) (triedOf tried) ⌝ }
-    ensures { λ r. ⌜ AskPost 128 (length (now (lows .entry))) (Allowed (now (lows .entry)) (now (highs .entry))) (now (by .entry)) (now (out .entry)) (triedOf tried) (outputsOf outputs) (now (by .exit)) (now (out .exit)) r ⌝ }
+    ensures { λ r. ⌜ AskPost 128 (length (now (lows .entry))) (Allowed (now (lows .entry)) (now (highs .entry))) (now (by .entry)) (now (out .entry)) (triedOf tried) (outputsOf outputs) (now (by .exit)) (now (out .exit)) r × Tries 128 (triedOf tried) (outputsOf outputs) (seenIn r) ⌝ }
 {
     let s = outputs.lowest_untried(held);
     match s {
-        FoundOutput::At(spare) => Asked::Freed(Given {
-            output: spare,
-            spent: spare,
-        }),
+        FoundOutput::At(spare) => Asked::Freed(
+            Given {
+                output: spare,
+                spent: spare,
+            },
+            tried.mark(spare),
+        ),
         FoundOutput::Nothing => {
             let f = tried.next(outputs);
             match f {
@@ -419,27 +422,34 @@ fn ask_outputs(
     wave: Outputs,
 ) -> Asked
     requires { ⌜ Rows 128 (now lows) (now highs) × AskPre 128 (length (now lows)) (Allowed (now lows) (now highs)) (now by) (now out) (outputsOf held) (triedOf tried) × Wave 128 (outputsOf held) (triedOf tried) (outputsOf wave) ⌝ }
-    ensures { λ r. ⌜ AskPost 128 (length (now (lows .entry))) (Allowed (now (lows .entry)) (now (highs .entry))) (now (by .entry)) (now (out .entry)) (triedOf tried) (outputsOf wave) (now (by .exit)) (now (out .exit)) r ⌝ }
+    ensures { λ r. ⌜ AskPost 128 (length (now (lows .entry))) (Allowed (now (lows .entry)) (now (highs .entry))) (now (by .entry)) (now (out .entry)) (triedOf tried) (outputsOf wave) (now (by .exit)) (now (out .exit)) r × Tries 128 (triedOf tried) (outputsOf wave) (seenIn r) ⌝ }
 {
+    let marked = tried.with(wave);
     let w = leads_to(lows, highs, by, wave);
     let f = w.free;
     match f {
-        FoundOutput::At(j) => Asked::Freed(Given {
-            output: j,
-            spent: j,
-        }),
+        FoundOutput::At(j) => Asked::Freed(
+            Given {
+                output: j,
+                spent: j,
+            },
+            marked,
+        ),
         FoundOutput::Nothing => {
-            let a = ask_inputs(lows, highs, by, out, held, tried.with(wave), w.outputs);
+            let a = ask_inputs(lows, highs, by, out, held, marked, w.outputs);
             match a {
                 Asked::Stuck(seen) => Asked::Stuck(seen),
-                Asked::Freed(g) => {
+                Asked::Freed(g, seen) => {
                     let wanted = g.output;
                     let spent = g.spent;
                     let j = hand_on(lows, highs, by, out, wave, wanted);
-                    Asked::Freed(Given {
-                        output: j,
-                        spent: spent,
-                    })
+                    Asked::Freed(
+                        Given {
+                            output: j,
+                            spent: spent,
+                        },
+                        seen,
+                    )
                 }
             }
         }

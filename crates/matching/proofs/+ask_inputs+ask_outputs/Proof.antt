@@ -4,13 +4,13 @@ use Prim.Native.Nat.{ℕ, _+_, _*_, _<_}
 use borrow.Author.Needs.{needs}
 use native.Mathlib.Omega.{arith}
 use lib.ListN.{length}
-use Rattle.labels.specs.Label.{absent}
+use Rattle.labels.specs.Label.{Sub, absent}
 use Rattle.labels.specs.Wide.{outputsOf}
 use Rattle.labels.specs.declared.FoundOutput.{FoundOutput}
 use Rattle.matching.specs.declared.Asked.{Asked}
 use Rattle.matching.specs.Tables.{triedOf, Allowed}
-use Rattle.matching.specs.Search.{Leads, AskPost}
-use Rattle.matching.proofs.Search.{lowest-at, none-left, ports-of, spare-moved, tried-unmoved, wave-of, wave-post, wave-free, further-asks, fewer-left, wave-stuck, wave-movable, wave-handed, same-holders, same-outputs, handed-holders, handed-outputs}
+use Rattle.matching.specs.Search.{Leads, AskPost, seenIn}
+use Rattle.matching.proofs.Search.{lowest-at, none-left, tries-none, tries-new, tries-rest, ports-of, spare-moved, tried-unmoved, wave-of, wave-post, wave-tries, wave-free, further-asks, fewer-left, wave-stuck, wave-movable, wave-handed, same-holders, same-outputs, handed-holders, handed-outputs}
 use borrow.Fn.Kinds.{In}
 use borrow.Fn.PlainCycle.{Measures, is, falls, and}
 use Rattle.matching.proofs.ask_inputs.Reads as ask-inputs
@@ -21,6 +21,7 @@ use Rattle.matching.proofs.ask_outputs.Kinds as ask-outputs-kinds
 use Rattle.matching.proofs.+ask_inputs+ask_outputs.Lts-ask_outputs as ask-outputs-lts
 use Rattle.labels.proofs.Outputs.but.Reads as but-reads
 use Rattle.labels.proofs.Outputs.lowest_untried.Reads as lowest-untried-reads
+use Rattle.matching.proofs.Tried.mark.Reads as mark-reads
 use Rattle.matching.proofs.Tried.next.Reads as next-reads
 use Rattle.matching.proofs.Tried.with.Reads as with-reads
 use Rattle.matching.proofs.hand_on.Reads as hand-on-reads
@@ -47,10 +48,10 @@ abbrev ask-outputs-below : ℕ → In 4 ask-outputs-kinds.ps
 ask-outputs-below t = and 4 ask-outputs-kinds.ps (falls 4 ask-outputs-kinds.ps _<_ μ-ask-outputs t) ask-outputs.Pre
 
 abbrev ins : ℕ → ask-inputs-lts.Claims
-ins t = (lowest-untried-reads.Asked, lowest-untried-reads.Learnt, next-reads.Asked, next-reads.Learnt, but-reads.Asked, but-reads.Learnt, ask-outputs-below t, ask-outputs.Post)
+ins t = (lowest-untried-reads.Asked, lowest-untried-reads.Learnt, mark-reads.Asked, mark-reads.Learnt, next-reads.Asked, next-reads.Learnt, but-reads.Asked, but-reads.Learnt, ask-outputs-below t, ask-outputs.Post)
 
 abbrev outs : ℕ → ask-outputs-lts.Claims
-outs t = (leads-to-reads.Asked, leads-to-reads.Learnt, with-reads.Asked, with-reads.Learnt, ask-inputs-below t, ask-inputs.Post, hand-on-reads.Asked, hand-on-reads.Learnt)
+outs t = (with-reads.Asked, with-reads.Learnt, leads-to-reads.Asked, leads-to-reads.Learnt, ask-inputs-below t, ask-inputs.Post, hand-on-reads.Asked, hand-on-reads.Learnt)
 
 -- ---- inputs ask
 
@@ -59,6 +60,13 @@ ask-inputs-lowest-untried-requires t c κs = search needs
 
 ask-inputs-enum-known-s : (t : ℕ) → ask-inputs-lts.Need-enum-known-s (ins t) (ask-inputs-at t) ask-inputs.Post
 ask-inputs-enum-known-s t c = search needs
+
+ask-inputs-mark-requires : (t : ℕ) → ask-inputs-lts.Need-mark-requires (ins t) (ask-inputs-at t) ask-inputs.Post
+ask-inputs-mark-requires t c κs =
+    let a = c .before .before .before .before .before .before .before .before .args in
+    let f = c .before .before .before .lowest-untried in
+    let x = c .before .s .given in
+    lowest-at 128 (outputsOf (a .outputs)) (outputsOf (a .held)) (f .result) (x .0 .0) (f .ensures) (x .1) .small
 
 ask-inputs-enum-told : (t : ℕ) → ask-inputs-lts.Need-enum-told (ins t) (ask-inputs-at t) ask-inputs.Post
 ask-inputs-enum-told t c = search needs
@@ -93,47 +101,60 @@ ask-inputs-ask-outputs-requires t c κs =
 
 ask-inputs-returns : (t : ℕ) → ask-inputs-lts.Need-returns (ins t) (ask-inputs-at t) ask-inputs.Post
 ask-inputs-returns t c =
-    let s = c .before .before .before .before .before .before .before .before in
+    let s = c .before .before .before .before .before .before .before .before .before in
     let a = s .args in
-    let f = c .before .before .before .lowest-untried in
-    let x = c .before .s .given in
-    spare-moved 128 (length (a .lows .now)) (Allowed (a .lows .now) (a .highs .now)) (a .by .now) (a .out .now) (outputsOf (a .held)) (triedOf (a .tried)) (s .pre .1 .1) (outputsOf (a .outputs)) (x .0 .0 .0)
-    (lowest-at 128 (outputsOf (a .outputs)) (outputsOf (a .held)) (f .result) (x .0 .0) (f .ensures) (x .1))
+    let f = c .before .before .before .before .lowest-untried in
+    let x = c .before .before .s .given in
+    let l = lowest-at 128 (outputsOf (a .outputs)) (outputsOf (a .held)) (f .result) (x .0 .0) (f .ensures) (x .1) in
+    let r = c .mark .ensures in (
+      spare-moved 128 (length (a .lows .now)) (Allowed (a .lows .now) (a .highs .now)) (a .by .now) (a .out .now) (outputsOf (a .held)) (triedOf (a .tried)) (s .pre .1 .1) (outputsOf (a .outputs)) (x .0 .0 .0) l,
+      tries-new 128 (triedOf (a .tried)) (outputsOf (a .outputs)) (triedOf (c .mark .result)) (x .0 .0 .0) (r .more) (l .here) (s .pre .1 .1 .spare _ (l .small) (l .new) .1) (r .put),
+    )
 
 ask-inputs-returns-2 : (t : ℕ) → ask-inputs-lts.Need-returns-2 (ins t) (ask-inputs-at t) ask-inputs.Post
 ask-inputs-returns-2 t c =
     let s = c .before .before .before .before .before .before .before .before .before .before in
     let a = s .args in
     let q = c .before .before .next in
-    tried-unmoved 128 (length (a .lows .now)) (Allowed (a .lows .now) (a .highs .now)) (a .by .now) (a .out .now) (outputsOf (a .held)) (triedOf (a .tried)) (s .pre .1 .1) (outputsOf (a .outputs))
-    (none-left 128 (outputsOf (a .outputs)) (triedOf (a .tried)) (q .result) (q .ensures) (c .enum-told2 .given .1))
+    let n = none-left 128 (outputsOf (a .outputs)) (triedOf (a .tried)) (q .result) (q .ensures) (c .enum-told2 .given .1) in (
+      tried-unmoved 128 (length (a .lows .now)) (Allowed (a .lows .now) (a .highs .now)) (a .by .now) (a .out .now) (outputsOf (a .held)) (triedOf (a .tried)) (s .pre .1 .1) (outputsOf (a .outputs)) n,
+      tries-none 128 (triedOf (a .tried)) (outputsOf (a .outputs)) n,
+    )
 
 ask-inputs-same-length : (t : ℕ) → ask-inputs-lts.Need-same-length (ins t) (ask-inputs-at t) ask-inputs.Post
 ask-inputs-same-length t c =
     let s = c .before .before .before .before .before .before .before .before .before .before .before .before .before .before .before .before .before .before in
     let a = s .args in
     let q = c .before .before .before .before .ask-outputs in
-    same-holders 128 (length (a .lows .now)) (Allowed (a .lows .now) (a .highs .now)) (a .by .now) (a .out .now) (triedOf (a .tried)) _ (q .last .1 .1 .0) (q .last .1 .1 .1 .0) (s .pre .1 .1 .good) (q .result) (q .ensures)
+    same-holders 128 (length (a .lows .now)) (Allowed (a .lows .now) (a .highs .now)) (a .by .now) (a .out .now) (triedOf (a .tried)) _ (q .last .1 .1 .0) (q .last .1 .1 .1 .0) (s .pre .1 .1 .good) (q .result) (q .ensures .0)
 
 ask-inputs-same-length-2 : (t : ℕ) → ask-inputs-lts.Need-same-length-2 (ins t) (ask-inputs-at t) ask-inputs.Post
 ask-inputs-same-length-2 t c =
     let s = c .before .before .before .before .before .before .before .before .before .before .before .before .before .before .before .before .before .before in
     let a = s .args in
     let q = c .before .before .before .before .ask-outputs in
-    same-outputs 128 (length (a .lows .now)) (Allowed (a .lows .now) (a .highs .now)) (a .by .now) (a .out .now) (triedOf (a .tried)) _ (q .last .1 .1 .0) (q .last .1 .1 .1 .0) (s .pre .1 .1 .good) (q .result) (q .ensures)
+    same-outputs 128 (length (a .lows .now)) (Allowed (a .lows .now) (a .highs .now)) (a .by .now) (a .out .now) (triedOf (a .tried)) _ (q .last .1 .1 .0) (q .last .1 .1 .1 .0) (s .pre .1 .1 .good) (q .result) (q .ensures .0)
 
 ask-inputs-returns-3 : (t : ℕ) → ask-inputs-lts.Need-returns-3 (ins t) (ask-inputs-at t) ask-inputs.Post
 ask-inputs-returns-3 t c =
     let s = c .before .before .before .before .before .before .before .before .before .before .before .before .before .before .before .before .before .before in
     let a = s .args in
     let q = c .before .before .before .before .ask-outputs in
-    wave-post 128 (length (a .lows .now)) (Allowed (a .lows .now) (a .highs .now)) (a .by .now) (a .out .now) (outputsOf (a .held)) (triedOf (a .tried)) (s .pre .1 .1) (outputsOf (a .outputs)) _ (q .last .1 .1 .0) (q .last .1 .1 .1 .0) (q .result) (c .before .before .before .before .before .but .ensures) (q .ensures)
+    let b = c .before .before .before .before .before .but in
+    let n = c .before .before .before .before .before .before .before .before .before .before .next in
+    let l = lowest-at 128 (outputsOf (a .outputs)) (triedOf (a .tried)) (n .result) _ (n .ensures) (c .before .before .before .before .before .before .before .before .enum-told3 .given .1) in (
+      wave-post 128 (length (a .lows .now)) (Allowed (a .lows .now) (a .highs .now)) (a .by .now) (a .out .now) (outputsOf (a .held)) (triedOf (a .tried)) (s .pre .1 .1) (outputsOf (a .outputs)) _ (q .last .1 .1 .0) (q .last .1 .1 .1 .0) (q .result) (b .ensures) (q .ensures .0),
+      tries-rest 128 (triedOf (a .tried)) (outputsOf (a .outputs)) (outputsOf (b .result)) (seenIn (q .result)) _ (b .ensures) (l .here) (l .new) (q .ensures .1),
+    )
 
 -- ---- a wave of outputs asks
 
+ask-outputs-with-requires : (t : ℕ) → ask-outputs-lts.Need-with-requires (outs t) (ask-outputs-at t) ask-outputs.Post
+ask-outputs-with-requires t c κs = search needs
+
 ask-outputs-leads-to-requires : (t : ℕ) → ask-outputs-lts.Need-leads-to-requires (outs t) (ask-outputs-at t) ask-outputs.Post
 ask-outputs-leads-to-requires t c κs =
-    let s = c .before .before .before .before .before in
+    let s = c .before .before .before .before .before .before in
     let a = s .args in
     (s .pre .1 .0, ports-of 128 (length (a .lows .now)) (Allowed (a .lows .now) (a .highs .now)) (a .by .now) (a .out .now) (s .pre .1 .1 .good))
 
@@ -143,14 +164,11 @@ ask-outputs-enum-known-f t c = search needs
 ask-outputs-enum-told : (t : ℕ) → ask-outputs-lts.Need-enum-told (outs t) (ask-outputs-at t) ask-outputs.Post
 ask-outputs-enum-told t c = search needs
 
-ask-outputs-with-requires : (t : ℕ) → ask-outputs-lts.Need-with-requires (outs t) (ask-outputs-at t) ask-outputs.Post
-ask-outputs-with-requires t c κs = search needs
-
 ask-outputs-ask-inputs-requires : (t : ℕ) → ask-outputs-lts.Need-ask-inputs-requires (outs t) (ask-outputs-at t) ask-outputs.Post
 ask-outputs-ask-inputs-requires t c κs =
     let s = c .before .before .before .before .before .before .before .before .before .before .before in
     let a = s .args in
-    let u = c .with in (
+    let u = c .before .before .before .before .before .before .with in (
       omega (arith, s .pre .0, fewer-left 128 (length (a .lows .now)) (Allowed (a .lows .now) (a .highs .now)) (a .by .now) (a .out .now) (outputsOf (a .held)) (triedOf (a .tried)) (s .pre .1 .1) (outputsOf (a .wave)) (s .pre .1 .2) (triedOf (u .result)) (u .ensures)),
       (s .pre .1 .0, further-asks 128 (length (a .lows .now)) (Allowed (a .lows .now) (a .highs .now)) (a .by .now) (a .out .now) (outputsOf (a .held)) (triedOf (a .tried)) (s .pre .1 .1) (outputsOf (a .wave)) (s .pre .1 .2) (triedOf (u .result)) (u .ensures)),
     )
@@ -165,12 +183,12 @@ ask-outputs-hand-on-requires : (t : ℕ) → ask-outputs-lts.Need-hand-on-requir
 ask-outputs-hand-on-requires t c κs =
     let s = c .before .before .before .before .before .before .before .before .before .before .before .before .before .before .before .before .before .before .before .before .before .before .before in
     let a = s .args in
-    let l = c .before .before .before .before .before .before .before .before .before .before .before .before .before .before .before .before .before .leads-to in
-    let u = c .before .before .before .before .before .before .before .before .before .before .before .before .with in
+    let l = c .before .before .before .before .before .before .before .before .before .before .before .before .before .before .before .before .leads-to in
+    let u = c .before .before .before .before .before .before .before .before .before .before .before .before .before .before .before .before .before .before .with in
     let q = c .before .before .before .before .before .before .before .before .before .before .before .ask-inputs in
     let x = c .before .before .before .before .before .a2 .given in
-    let m = subst (AskPost 128 (length (a .lows .now)) (Allowed (a .lows .now) (a .highs .now)) (a .by .now) (a .out .now) (triedOf (u .result)) (outputsOf (l .result .outputs)) (q .last .1 .1 .0) (q .last .1 .1 .1 .0)) (x .1) (q .ensures) in
-    let f = subst (λ (z : FoundOutput). Leads (Allowed (a .lows .now) (a .highs .now)) (a .by .now) (outputsOf (a .wave)) z (outputsOf (l .result .outputs))) (c .before .before .before .before .before .before .before .before .before .before .before .before .before .before .before .enum-told .given .1) (l .ensures) in
+    let m = subst (AskPost 128 (length (a .lows .now)) (Allowed (a .lows .now) (a .highs .now)) (a .by .now) (a .out .now) (triedOf (u .result)) (outputsOf (l .result .outputs)) (q .last .1 .1 .0) (q .last .1 .1 .1 .0)) (x .1) (q .ensures .0) in
+    let f = subst (λ (z : FoundOutput). Leads (Allowed (a .lows .now) (a .highs .now)) (a .by .now) (outputsOf (a .wave)) z (outputsOf (l .result .outputs))) (c .before .before .before .before .before .before .before .before .before .before .before .before .before .before .enum-told .given .1) (l .ensures) in
     (s .pre .1 .0, m .good .outputs, m .here, wave-movable 128 (length (a .lows .now)) (Allowed (a .lows .now) (a .highs .now)) (a .by .now) (a .out .now) (outputsOf (a .held)) (triedOf (a .tried)) (s .pre .1 .1) (outputsOf (a .wave)) (s .pre .1 .2) (triedOf (u .result)) (u .ensures) (outputsOf (l .result .outputs)) f _ _ (q .last .1 .1 .0) (q .last .1 .1 .1 .0) m)
 
 ask-outputs-same-length : (t : ℕ) → ask-outputs-lts.Need-same-length (outs t) (ask-outputs-at t) ask-outputs.Post
@@ -178,38 +196,44 @@ ask-outputs-same-length t c = search needs
 
 ask-outputs-returns : (t : ℕ) → ask-outputs-lts.Need-returns (outs t) (ask-outputs-at t) ask-outputs.Post
 ask-outputs-returns t c =
-    let s = c .before .before .before .before .before .before .before .before .before in
+    let s = c .before .before .before .before .before .before .before .before .before .before in
     let a = s .args in
     let l = c .before .before .before .leads-to in
+    let u = c .before .before .before .before .before .with in
     let x = c .before .f .given in
-    let m = subst (λ (z : FoundOutput). Leads (Allowed (a .lows .now) (a .highs .now)) (a .by .now) (outputsOf (a .wave)) z (outputsOf (l .result .outputs))) (x .1) (l .ensures) in
-    wave-free 128 (length (a .lows .now)) (Allowed (a .lows .now) (a .highs .now)) (a .by .now) (a .out .now) (outputsOf (a .held)) (triedOf (a .tried)) (s .pre .1 .1) (outputsOf (a .wave)) (s .pre .1 .2) (x .0 .0 .0) (m .0) (m .1) (m .2)
+    let m = subst (λ (z : FoundOutput). Leads (Allowed (a .lows .now) (a .highs .now)) (a .by .now) (outputsOf (a .wave)) z (outputsOf (l .result .outputs))) (x .1) (l .ensures) in (
+      wave-free 128 (length (a .lows .now)) (Allowed (a .lows .now) (a .highs .now)) (a .by .now) (a .out .now) (outputsOf (a .held)) (triedOf (a .tried)) (s .pre .1 .1) (outputsOf (a .wave)) (s .pre .1 .2) (x .0 .0 .0) (m .0) (m .1) (m .2),
+      wave-tries 128 (length (a .lows .now)) (Allowed (a .lows .now) (a .highs .now)) (a .by .now) (a .out .now) (outputsOf (a .held)) (triedOf (a .tried)) (s .pre .1 .1) (outputsOf (a .wave)) (s .pre .1 .2) (triedOf (u .result)) (u .ensures) (triedOf (u .result)) (λ k z. z),
+    )
 
 ask-outputs-same-length-2 : (t : ℕ) → ask-outputs-lts.Need-same-length-2 (outs t) (ask-outputs-at t) ask-outputs.Post
 ask-outputs-same-length-2 t c =
     let s = c .before .before .before .before .before .before .before .before .before .before .before .before .before .before .before .before .before .before .before in
     let a = s .args in
     let q = c .before .before .before .before .before .before .before .ask-inputs in
-    same-holders 128 (length (a .lows .now)) (Allowed (a .lows .now) (a .highs .now)) (a .by .now) (a .out .now) _ _ (q .last .1 .1 .0) (q .last .1 .1 .1 .0) (s .pre .1 .1 .good) (q .result) (q .ensures)
+    same-holders 128 (length (a .lows .now)) (Allowed (a .lows .now) (a .highs .now)) (a .by .now) (a .out .now) _ _ (q .last .1 .1 .0) (q .last .1 .1 .1 .0) (s .pre .1 .1 .good) (q .result) (q .ensures .0)
 
 ask-outputs-same-length-3 : (t : ℕ) → ask-outputs-lts.Need-same-length-3 (outs t) (ask-outputs-at t) ask-outputs.Post
 ask-outputs-same-length-3 t c =
     let s = c .before .before .before .before .before .before .before .before .before .before .before .before .before .before .before .before .before .before .before in
     let a = s .args in
     let q = c .before .before .before .before .before .before .before .ask-inputs in
-    same-outputs 128 (length (a .lows .now)) (Allowed (a .lows .now) (a .highs .now)) (a .by .now) (a .out .now) _ _ (q .last .1 .1 .0) (q .last .1 .1 .1 .0) (s .pre .1 .1 .good) (q .result) (q .ensures)
+    same-outputs 128 (length (a .lows .now)) (Allowed (a .lows .now) (a .highs .now)) (a .by .now) (a .out .now) _ _ (q .last .1 .1 .0) (q .last .1 .1 .1 .0) (s .pre .1 .1 .good) (q .result) (q .ensures .0)
 
 ask-outputs-returns-2 : (t : ℕ) → ask-outputs-lts.Need-returns-2 (outs t) (ask-outputs-at t) ask-outputs.Post
 ask-outputs-returns-2 t c =
     let s = c .before .before .before .before .before .before .before .before .before .before .before .before .before .before .before .before .before .before .before in
     let a = s .args in
-    let l = c .before .before .before .before .before .before .before .before .before .before .before .before .before .leads-to in
-    let u = c .before .before .before .before .before .before .before .before .with in
+    let l = c .before .before .before .before .before .before .before .before .before .before .before .before .leads-to in
+    let u = c .before .before .before .before .before .before .before .before .before .before .before .before .before .before .with in
     let q = c .before .before .before .before .before .before .before .ask-inputs in
     let x = c .before .a .given in
-    let m = subst (AskPost 128 (length (a .lows .now)) (Allowed (a .lows .now) (a .highs .now)) (a .by .now) (a .out .now) (triedOf (u .result)) (outputsOf (l .result .outputs)) (q .last .1 .1 .0) (q .last .1 .1 .1 .0)) (x .1) (q .ensures) in
-    let f = subst (λ (z : FoundOutput). Leads (Allowed (a .lows .now) (a .highs .now)) (a .by .now) (outputsOf (a .wave)) z (outputsOf (l .result .outputs))) (c .before .before .before .before .before .before .before .before .before .before .before .enum-told .given .1) (l .ensures) in
-    wave-stuck 128 (length (a .lows .now)) (Allowed (a .lows .now) (a .highs .now)) (a .by .now) (a .out .now) (outputsOf (a .held)) (triedOf (a .tried)) (s .pre .1 .1) (outputsOf (a .wave)) (s .pre .1 .2) (triedOf (u .result)) (u .ensures) (outputsOf (l .result .outputs)) f (q .last .1 .1 .0) (q .last .1 .1 .1 .0) _ m
+    let m = subst (AskPost 128 (length (a .lows .now)) (Allowed (a .lows .now) (a .highs .now)) (a .by .now) (a .out .now) (triedOf (u .result)) (outputsOf (l .result .outputs)) (q .last .1 .1 .0) (q .last .1 .1 .1 .0)) (x .1) (q .ensures .0) in
+    let f = subst (λ (z : FoundOutput). Leads (Allowed (a .lows .now) (a .highs .now)) (a .by .now) (outputsOf (a .wave)) z (outputsOf (l .result .outputs))) (c .before .before .before .before .before .before .before .before .before .before .enum-told .given .1) (l .ensures) in
+    let more = subst (λ (z : Asked). Sub (triedOf (u .result)) (seenIn z)) (x .1) (q .ensures .1 .more) in (
+      wave-stuck 128 (length (a .lows .now)) (Allowed (a .lows .now) (a .highs .now)) (a .by .now) (a .out .now) (outputsOf (a .held)) (triedOf (a .tried)) (s .pre .1 .1) (outputsOf (a .wave)) (s .pre .1 .2) (triedOf (u .result)) (u .ensures) (outputsOf (l .result .outputs)) f (q .last .1 .1 .0) (q .last .1 .1 .1 .0) _ m,
+      wave-tries 128 (length (a .lows .now)) (Allowed (a .lows .now) (a .highs .now)) (a .by .now) (a .out .now) (outputsOf (a .held)) (triedOf (a .tried)) (s .pre .1 .1) (outputsOf (a .wave)) (s .pre .1 .2) (triedOf (u .result)) (u .ensures) _ more,
+    )
 
 ask-outputs-same-length-4 : (t : ℕ) → ask-outputs-lts.Need-same-length-4 (outs t) (ask-outputs-at t) ask-outputs.Post
 ask-outputs-same-length-4 t c =
@@ -217,7 +241,7 @@ ask-outputs-same-length-4 t c =
     let a = s .args in
     let q = c .before .before .before .before .before .before .before .before .before .before .before .before .before .before .before .before .ask-inputs in
     let h = c .before .before .before .before .hand-on in
-    handed-holders _ _ _ _ _ _ _ _ (h .ensures) ∙ same-holders 128 (length (a .lows .now)) (Allowed (a .lows .now) (a .highs .now)) (a .by .now) (a .out .now) _ _ (q .last .1 .1 .0) (q .last .1 .1 .1 .0) (s .pre .1 .1 .good) (q .result) (q .ensures)
+    handed-holders _ _ _ _ _ _ _ _ (h .ensures) ∙ same-holders 128 (length (a .lows .now)) (Allowed (a .lows .now) (a .highs .now)) (a .by .now) (a .out .now) _ _ (q .last .1 .1 .0) (q .last .1 .1 .1 .0) (s .pre .1 .1 .good) (q .result) (q .ensures .0)
 
 ask-outputs-same-length-5 : (t : ℕ) → ask-outputs-lts.Need-same-length-5 (outs t) (ask-outputs-at t) ask-outputs.Post
 ask-outputs-same-length-5 t c =
@@ -225,20 +249,23 @@ ask-outputs-same-length-5 t c =
     let a = s .args in
     let q = c .before .before .before .before .before .before .before .before .before .before .before .before .before .before .before .before .ask-inputs in
     let h = c .before .before .before .before .hand-on in
-    handed-outputs _ _ _ _ _ _ _ _ (h .ensures) ∙ same-outputs 128 (length (a .lows .now)) (Allowed (a .lows .now) (a .highs .now)) (a .by .now) (a .out .now) _ _ (q .last .1 .1 .0) (q .last .1 .1 .1 .0) (s .pre .1 .1 .good) (q .result) (q .ensures)
+    handed-outputs _ _ _ _ _ _ _ _ (h .ensures) ∙ same-outputs 128 (length (a .lows .now)) (Allowed (a .lows .now) (a .highs .now)) (a .by .now) (a .out .now) _ _ (q .last .1 .1 .0) (q .last .1 .1 .1 .0) (s .pre .1 .1 .good) (q .result) (q .ensures .0)
 
 ask-outputs-returns-3 : (t : ℕ) → ask-outputs-lts.Need-returns-3 (outs t) (ask-outputs-at t) ask-outputs.Post
 ask-outputs-returns-3 t c =
     let s = c .before .before .before .before .before .before .before .before .before .before .before .before .before .before .before .before .before .before .before .before .before .before .before .before .before .before .before .before in
     let a = s .args in
-    let l = c .before .before .before .before .before .before .before .before .before .before .before .before .before .before .before .before .before .before .before .before .before .before .leads-to in
-    let u = c .before .before .before .before .before .before .before .before .before .before .before .before .before .before .before .before .before .with in
+    let l = c .before .before .before .before .before .before .before .before .before .before .before .before .before .before .before .before .before .before .before .before .before .leads-to in
+    let u = c .before .before .before .before .before .before .before .before .before .before .before .before .before .before .before .before .before .before .before .before .before .before .before .with in
     let q = c .before .before .before .before .before .before .before .before .before .before .before .before .before .before .before .before .ask-inputs in
     let h = c .before .before .before .before .hand-on in
     let x = c .before .before .before .before .before .before .before .before .before .before .a2 .given in
-    let m = subst (AskPost 128 (length (a .lows .now)) (Allowed (a .lows .now) (a .highs .now)) (a .by .now) (a .out .now) (triedOf (u .result)) (outputsOf (l .result .outputs)) (q .last .1 .1 .0) (q .last .1 .1 .1 .0)) (x .1) (q .ensures) in
-    let f = subst (λ (z : FoundOutput). Leads (Allowed (a .lows .now) (a .highs .now)) (a .by .now) (outputsOf (a .wave)) z (outputsOf (l .result .outputs))) (c .before .before .before .before .before .before .before .before .before .before .before .before .before .before .before .before .before .before .before .before .enum-told .given .1) (l .ensures) in
-    wave-handed 128 (length (a .lows .now)) (Allowed (a .lows .now) (a .highs .now)) (a .by .now) (a .out .now) (outputsOf (a .held)) (triedOf (a .tried)) (s .pre .1 .1) (outputsOf (a .wave)) (s .pre .1 .2) (triedOf (u .result)) (u .ensures) (outputsOf (l .result .outputs)) f _ _ (q .last .1 .1 .0) (q .last .1 .1 .1 .0) m (h .result .0) (h .last .1 .1 .0) (h .last .1 .1 .1 .0) (s .pre .1 .0 .few) (h .ensures)
+    let m = subst (AskPost 128 (length (a .lows .now)) (Allowed (a .lows .now) (a .highs .now)) (a .by .now) (a .out .now) (triedOf (u .result)) (outputsOf (l .result .outputs)) (q .last .1 .1 .0) (q .last .1 .1 .1 .0)) (x .1) (q .ensures .0) in
+    let f = subst (λ (z : FoundOutput). Leads (Allowed (a .lows .now) (a .highs .now)) (a .by .now) (outputsOf (a .wave)) z (outputsOf (l .result .outputs))) (c .before .before .before .before .before .before .before .before .before .before .before .before .before .before .before .before .before .before .before .enum-told .given .1) (l .ensures) in
+    let more = subst (λ (z : Asked). Sub (triedOf (u .result)) (seenIn z)) (x .1) (q .ensures .1 .more) in (
+      wave-handed 128 (length (a .lows .now)) (Allowed (a .lows .now) (a .highs .now)) (a .by .now) (a .out .now) (outputsOf (a .held)) (triedOf (a .tried)) (s .pre .1 .1) (outputsOf (a .wave)) (s .pre .1 .2) (triedOf (u .result)) (u .ensures) (outputsOf (l .result .outputs)) f _ _ (q .last .1 .1 .0) (q .last .1 .1 .1 .0) m (h .result .0) (h .last .1 .1 .0) (h .last .1 .1 .1 .0) (s .pre .1 .0 .few) (h .ensures),
+      wave-tries 128 (length (a .lows .now)) (Allowed (a .lows .now) (a .highs .now)) (a .by .now) (a .out .now) (outputsOf (a .held)) (triedOf (a .tried)) (s .pre .1 .1) (outputsOf (a .wave)) (s .pre .1 .2) (triedOf (u .result)) (u .ensures) _ more,
+    )
 
 pub +ask-inputs+ask-outputs-spec : {M : Type 1} → statement M
 +ask-inputs+ask-outputs-spec = close μ-ask-inputs μ-ask-outputs (λ t. ask-inputs-lts.spec (ins t)
@@ -246,6 +273,7 @@ pub +ask-inputs+ask-outputs-spec : {M : Type 1} → statement M
     ask-inputs.Post
     (ask-inputs-lowest-untried-requires t)
     (ask-inputs-enum-known-s t)
+    (ask-inputs-mark-requires t)
     (ask-inputs-enum-told t)
     (ask-inputs-next-requires t)
     (ask-inputs-enum-told-2 t)
@@ -260,10 +288,10 @@ pub +ask-inputs+ask-outputs-spec : {M : Type 1} → statement M
     λ t. ask-outputs-lts.spec (outs t)
     (ask-outputs-at t)
     ask-outputs.Post
+    (ask-outputs-with-requires t)
     (ask-outputs-leads-to-requires t)
     (ask-outputs-enum-known-f t)
     (ask-outputs-enum-told t)
-    (ask-outputs-with-requires t)
     (ask-outputs-ask-inputs-requires t)
     (ask-outputs-enum-known-a t)
     (ask-outputs-enum-known-a-2 t)

@@ -44,8 +44,8 @@ join-requires c κs =
     let r = c .before .before .before .before .before .before .before .before .before .before .before .before .before .before .before .before .release in
     let q = c .before .before .before .before .before .before .before .before .before .ask-inputs in
     let g = given-up 128 (length (a .lows .now)) (Allowed (a .lows .now) (a .highs .now)) (a .by .now) (a .out .now) (triedOf (a .dead)) (outputsOf (a .lower)) (a .own .0) (a .i .0) (s .pre .1) (r .last .0) (r .ensures) in (
-      same-holders 128 (length (a .lows .now)) (Allowed (a .lows .now) (a .highs .now)) (r .last .0) (a .out .now) (triedOf (a .dead)) (outputsOf (a .lower)) (q .last .1 .1 .0) (q .last .1 .1 .1 .0) g (q .result) (q .ensures) ∙ g .holders,
-      same-outputs 128 (length (a .lows .now)) (Allowed (a .lows .now) (a .highs .now)) (r .last .0) (a .out .now) (triedOf (a .dead)) (outputsOf (a .lower)) (q .last .1 .1 .0) (q .last .1 .1 .1 .0) g (q .result) (q .ensures) ∙ g .outputs,
+      same-holders 128 (length (a .lows .now)) (Allowed (a .lows .now) (a .highs .now)) (r .last .0) (a .out .now) (triedOf (a .dead)) (outputsOf (a .lower)) (q .last .1 .1 .0) (q .last .1 .1 .1 .0) g (q .result) (q .ensures .0) ∙ g .holders,
+      same-outputs 128 (length (a .lows .now)) (Allowed (a .lows .now) (a .highs .now)) (r .last .0) (a .out .now) (triedOf (a .dead)) (outputsOf (a .lower)) (q .last .1 .1 .0) (q .last .1 .1 .1 .0) g (q .result) (q .ensures .0) ∙ g .outputs,
       lt-of-lt-of-le (s .pre .1 .here) (s .pre .0 .few),
       own-place 128 (length (a .lows .now)) (Allowed (a .lows .now) (a .highs .now)) (a .by .now) (a .out .now) (triedOf (a .dead)) (outputsOf (a .lower)) (a .own .0) (a .i .0) (s .pre .1),
     )
@@ -60,7 +60,7 @@ join-requires-2 c κs =
     let r = c .before .before .before .before .before .before .before .before .before .before .before .before .before .before .before .before .release in
     let q = c .before .before .before .before .before .before .before .before .before .ask-inputs in
     let x = c .before .before .before .a2 .given in
-    let m = subst (AskPost 128 (length (a .lows .now)) (Allowed (a .lows .now) (a .highs .now)) (r .last .0) (a .out .now) (triedOf (a .dead)) (outputsOf (a .lower)) (q .last .1 .1 .0) (q .last .1 .1 .1 .0)) (x .1) (q .ensures) in
+    let m = subst (AskPost 128 (length (a .lows .now)) (Allowed (a .lows .now) (a .highs .now)) (r .last .0) (a .out .now) (triedOf (a .dead)) (outputsOf (a .lower)) (q .last .1 .1 .0) (q .last .1 .1 .1 .0)) (x .1) (q .ensures .0) in
     (m .good .holders, m .good .outputs, lt-of-lt-of-le (s .pre .1 .here) (s .pre .0 .few), m .here)
 
 same-length : tie.Need-same-length
@@ -71,7 +71,7 @@ same-length c =
     let q = c .before .before .before .before .before .before .before .before .before .before .before .before .before .before .ask-inputs in
     let j = c .before .before .before .before .join in
     let g = given-up 128 (length (a .lows .now)) (Allowed (a .lows .now) (a .highs .now)) (a .by .now) (a .out .now) (triedOf (a .dead)) (outputsOf (a .lower)) (a .own .0) (a .i .0) (s .pre .1) (r .last .0) (r .ensures) in
-    ap length (j .ensures .0) ∙ length-set (q .last .1 .1 .0) _ _ ∙ same-holders 128 (length (a .lows .now)) (Allowed (a .lows .now) (a .highs .now)) (r .last .0) (a .out .now) (triedOf (a .dead)) (outputsOf (a .lower)) (q .last .1 .1 .0) (q .last .1 .1 .1 .0) g (q .result) (q .ensures) ∙ g .holders ∙ sym (s .pre .1 .good .holders)
+    ap length (j .ensures .0) ∙ length-set (q .last .1 .1 .0) _ _ ∙ same-holders 128 (length (a .lows .now)) (Allowed (a .lows .now) (a .highs .now)) (r .last .0) (a .out .now) (triedOf (a .dead)) (outputsOf (a .lower)) (q .last .1 .1 .0) (q .last .1 .1 .1 .0) g (q .result) (q .ensures .0) ∙ g .holders ∙ sym (s .pre .1 .good .holders)
 
 same-length-2 : tie.Need-same-length-2
 same-length-2 c =
@@ -81,7 +81,7 @@ same-length-2 c =
     let q = c .before .before .before .before .before .before .before .before .before .before .before .before .before .before .ask-inputs in
     let j = c .before .before .before .before .join in
     let g = given-up 128 (length (a .lows .now)) (Allowed (a .lows .now) (a .highs .now)) (a .by .now) (a .out .now) (triedOf (a .dead)) (outputsOf (a .lower)) (a .own .0) (a .i .0) (s .pre .1) (r .last .0) (r .ensures) in
-    ap length (j .ensures .1) ∙ length-set (q .last .1 .1 .1 .0) _ _ ∙ same-outputs 128 (length (a .lows .now)) (Allowed (a .lows .now) (a .highs .now)) (r .last .0) (a .out .now) (triedOf (a .dead)) (outputsOf (a .lower)) (q .last .1 .1 .0) (q .last .1 .1 .1 .0) g (q .result) (q .ensures)
+    ap length (j .ensures .1) ∙ length-set (q .last .1 .1 .1 .0) _ _ ∙ same-outputs 128 (length (a .lows .now)) (Allowed (a .lows .now) (a .highs .now)) (r .last .0) (a .out .now) (triedOf (a .dead)) (outputsOf (a .lower)) (q .last .1 .1 .0) (q .last .1 .1 .1 .0) g (q .result) (q .ensures .0)
 
 returns : tie.Need-returns
 returns c =
@@ -91,7 +91,7 @@ returns c =
     let q = c .before .before .before .before .before .before .before .before .before .before .before .before .before .before .ask-inputs in
     let j = c .before .before .before .before .join in
     let x = c .before .before .before .before .before .before .before .before .a .given in
-    let m = subst (AskPost 128 (length (a .lows .now)) (Allowed (a .lows .now) (a .highs .now)) (r .last .0) (a .out .now) (triedOf (a .dead)) (outputsOf (a .lower)) (q .last .1 .1 .0) (q .last .1 .1 .1 .0)) (x .1) (q .ensures) in
+    let m = subst (AskPost 128 (length (a .lows .now)) (Allowed (a .lows .now) (a .highs .now)) (r .last .0) (a .out .now) (triedOf (a .dead)) (outputsOf (a .lower)) (q .last .1 .1 .0) (q .last .1 .1 .1 .0)) (x .1) (q .ensures .0) in
     lower-back 128 (length (a .lows .now)) (Allowed (a .lows .now) (a .highs .now)) (a .by .now) (a .out .now) (triedOf (a .dead)) (outputsOf (a .lower)) (a .own .0) (a .i .0) (s .pre .1) (r .last .0) (r .ensures) (q .last .1 .1 .0) (q .last .1 .1 .1 .0) (j .last .0) (j .last .1 .0) (triedOf (x .0 .0)) m (j .ensures .0) (j .ensures .1)
 
 same-length-3 : tie.Need-same-length-3
@@ -102,7 +102,7 @@ same-length-3 c =
     let q = c .before .before .before .before .before .before .before .before .before .before .before .before .before .before .ask-inputs in
     let j = c .before .before .before .before .join2 in
     let g = given-up 128 (length (a .lows .now)) (Allowed (a .lows .now) (a .highs .now)) (a .by .now) (a .out .now) (triedOf (a .dead)) (outputsOf (a .lower)) (a .own .0) (a .i .0) (s .pre .1) (r .last .0) (r .ensures) in
-    ap length (j .ensures .0) ∙ length-set (q .last .1 .1 .0) _ _ ∙ same-holders 128 (length (a .lows .now)) (Allowed (a .lows .now) (a .highs .now)) (r .last .0) (a .out .now) (triedOf (a .dead)) (outputsOf (a .lower)) (q .last .1 .1 .0) (q .last .1 .1 .1 .0) g (q .result) (q .ensures) ∙ g .holders ∙ sym (s .pre .1 .good .holders)
+    ap length (j .ensures .0) ∙ length-set (q .last .1 .1 .0) _ _ ∙ same-holders 128 (length (a .lows .now)) (Allowed (a .lows .now) (a .highs .now)) (r .last .0) (a .out .now) (triedOf (a .dead)) (outputsOf (a .lower)) (q .last .1 .1 .0) (q .last .1 .1 .1 .0) g (q .result) (q .ensures .0) ∙ g .holders ∙ sym (s .pre .1 .good .holders)
 
 same-length-4 : tie.Need-same-length-4
 same-length-4 c =
@@ -112,7 +112,7 @@ same-length-4 c =
     let q = c .before .before .before .before .before .before .before .before .before .before .before .before .before .before .ask-inputs in
     let j = c .before .before .before .before .join2 in
     let g = given-up 128 (length (a .lows .now)) (Allowed (a .lows .now) (a .highs .now)) (a .by .now) (a .out .now) (triedOf (a .dead)) (outputsOf (a .lower)) (a .own .0) (a .i .0) (s .pre .1) (r .last .0) (r .ensures) in
-    ap length (j .ensures .1) ∙ length-set (q .last .1 .1 .1 .0) _ _ ∙ same-outputs 128 (length (a .lows .now)) (Allowed (a .lows .now) (a .highs .now)) (r .last .0) (a .out .now) (triedOf (a .dead)) (outputsOf (a .lower)) (q .last .1 .1 .0) (q .last .1 .1 .1 .0) g (q .result) (q .ensures)
+    ap length (j .ensures .1) ∙ length-set (q .last .1 .1 .1 .0) _ _ ∙ same-outputs 128 (length (a .lows .now)) (Allowed (a .lows .now) (a .highs .now)) (r .last .0) (a .out .now) (triedOf (a .dead)) (outputsOf (a .lower)) (q .last .1 .1 .0) (q .last .1 .1 .1 .0) g (q .result) (q .ensures .0)
 
 returns-2 : tie.Need-returns-2
 returns-2 c =
@@ -122,7 +122,7 @@ returns-2 c =
     let q = c .before .before .before .before .before .before .before .before .before .before .before .before .before .before .ask-inputs in
     let j = c .before .before .before .before .join2 in
     let x = c .before .before .before .before .before .before .before .before .a2 .given in
-    let m = subst (AskPost 128 (length (a .lows .now)) (Allowed (a .lows .now) (a .highs .now)) (r .last .0) (a .out .now) (triedOf (a .dead)) (outputsOf (a .lower)) (q .last .1 .1 .0) (q .last .1 .1 .1 .0)) (x .1) (q .ensures) in
+    let m = subst (AskPost 128 (length (a .lows .now)) (Allowed (a .lows .now) (a .highs .now)) (r .last .0) (a .out .now) (triedOf (a .dead)) (outputsOf (a .lower)) (q .last .1 .1 .0) (q .last .1 .1 .1 .0)) (x .1) (q .ensures .0) in
     lower-taken 128 (length (a .lows .now)) (Allowed (a .lows .now) (a .highs .now)) (a .by .now) (a .out .now) (triedOf (a .dead)) (outputsOf (a .lower)) (a .own .0) (a .i .0) (s .pre .1) (r .last .0) (r .ensures) (x .0 .0 .output .0) (x .0 .0 .spent .0) (q .last .1 .1 .0) (q .last .1 .1 .1 .0) (j .last .0) (j .last .1 .0) (s .pre .0 .few) m (j .ensures .0) (j .ensures .1)
 
 pub ask-lower-spec : {M : Type 1} → statement M

@@ -52,7 +52,7 @@ join-requires c κs =
     let r = c .before .before .before .before .before .before .before .before .before .before .row-of in
     let q = c .before .before .before .before .before .before .before .before .before .ask-inputs in
     let x = c .before .before .before .a2 .given in
-    let m = subst (AskPost 128 (length (a .lows .now)) (Allowed (a .lows .now) (a .highs .now)) (a .by .now) (a .out .now) (triedOf (a .fixed)) (outputsOf (r .result)) (q .last .1 .1 .0) (q .last .1 .1 .1 .0)) (x .1) (q .ensures) in
+    let m = subst (AskPost 128 (length (a .lows .now)) (Allowed (a .lows .now) (a .highs .now)) (a .by .now) (a .out .now) (triedOf (a .fixed)) (outputsOf (r .result)) (q .last .1 .1 .0) (q .last .1 .1 .1 .0)) (x .1) (q .ensures .0) in
     (m .good .holders, m .good .outputs, lt-of-lt-of-le (s .pre .1) (s .pre .0 .few), m .here)
 
 mark-requires : tie.Need-mark-requires
@@ -62,7 +62,7 @@ mark-requires c κs =
     let r = c .before .before .before .before .before .before .before .before .before .before .before .before .before .before .before .row-of in
     let q = c .before .before .before .before .before .before .before .before .before .before .before .before .before .before .ask-inputs in
     let x = c .before .before .before .before .before .before .before .before .a2 .given in
-    let m = subst (AskPost 128 (length (a .lows .now)) (Allowed (a .lows .now) (a .highs .now)) (a .by .now) (a .out .now) (triedOf (a .fixed)) (outputsOf (r .result)) (q .last .1 .1 .0) (q .last .1 .1 .1 .0)) (x .1) (q .ensures) in
+    let m = subst (AskPost 128 (length (a .lows .now)) (Allowed (a .lows .now) (a .highs .now)) (a .by .now) (a .out .now) (triedOf (a .fixed)) (outputsOf (r .result)) (q .last .1 .1 .0) (q .last .1 .1 .1 .0)) (x .1) (q .ensures .0) in
     m .last
 
 same-length-3 : tie.Need-same-length-3
@@ -70,14 +70,14 @@ same-length-3 c =
     let s = c .before .before .before .before .before .before .before .before .before .before .before .before .before .before .before .before .before .before .before in
     let a = s .args in
     let q = c .before .before .before .before .before .before .before .ask-inputs in
-    same-holders 128 (length (a .lows .now)) (Allowed (a .lows .now) (a .highs .now)) (a .by .now) (a .out .now) (triedOf (a .fixed)) _ (q .last .1 .1 .0) (q .last .1 .1 .1 .0) (s .pre .2 .good) (q .result) (q .ensures)
+    same-holders 128 (length (a .lows .now)) (Allowed (a .lows .now) (a .highs .now)) (a .by .now) (a .out .now) (triedOf (a .fixed)) _ (q .last .1 .1 .0) (q .last .1 .1 .1 .0) (s .pre .2 .good) (q .result) (q .ensures .0)
 
 same-length-4 : tie.Need-same-length-4
 same-length-4 c =
     let s = c .before .before .before .before .before .before .before .before .before .before .before .before .before .before .before .before .before .before .before in
     let a = s .args in
     let q = c .before .before .before .before .before .before .before .ask-inputs in
-    same-outputs 128 (length (a .lows .now)) (Allowed (a .lows .now) (a .highs .now)) (a .by .now) (a .out .now) (triedOf (a .fixed)) _ (q .last .1 .1 .0) (q .last .1 .1 .1 .0) (s .pre .2 .good) (q .result) (q .ensures)
+    same-outputs 128 (length (a .lows .now)) (Allowed (a .lows .now) (a .highs .now)) (a .by .now) (a .out .now) (triedOf (a .fixed)) _ (q .last .1 .1 .0) (q .last .1 .1 .1 .0) (s .pre .2 .good) (q .result) (q .ensures .0)
 
 returns-2 : tie.Need-returns-2
 returns-2 c =
@@ -86,7 +86,7 @@ returns-2 c =
     let r = c .before .before .before .before .before .before .before .before .row-of in
     let q = c .before .before .before .before .before .before .before .ask-inputs in
     let x = c .before .a .given in
-    let m = subst (AskPost 128 (length (a .lows .now)) (Allowed (a .lows .now) (a .highs .now)) (a .by .now) (a .out .now) (triedOf (a .fixed)) (outputsOf (r .result)) (q .last .1 .1 .0) (q .last .1 .1 .1 .0)) (x .1) (q .ensures) in
+    let m = subst (AskPost 128 (length (a .lows .now)) (Allowed (a .lows .now) (a .highs .now)) (a .by .now) (a .out .now) (triedOf (a .fixed)) (outputsOf (r .result)) (q .last .1 .1 .0) (q .last .1 .1 .1 .0)) (x .1) (q .ensures .0) in
     let idle = holds-none 128 (length (a .lows .now)) (Allowed (a .lows .now) (a .highs .now)) (a .by .now) (a .out .now) (a .i .0) (s .pre .2 .good) (c .before .before .before .before .before .before .before .before .before .before .before .before .holds .ensures .idle (c .before .before .before .before .before .before .before .before .before .before .before .if1 .left)) in
     seat-stuck 128 (length (a .lows .now)) (Allowed (a .lows .now) (a .highs .now)) (a .by .now) (a .out .now) (triedOf (a .fixed)) (outputsOf (a .held)) (a .i .0) (s .pre .1) (s .pre .2) idle (outputsOf (r .result)) (λ k e. subst (λ (y : ℕ). In y k) (r .ensures) e) (λ k e. subst (λ (y : ℕ). In y k) (sym (r .ensures)) e) (q .last .1 .1 .0) (q .last .1 .1 .1 .0) (triedOf (x .0 .0)) m
 
@@ -95,14 +95,14 @@ same-length-5 c =
     let s = c .before .before .before .before .before .before .before .before .before .before .before .before .before .before .before .before .before .before .before .before .before .before .before .before .before .before .before in
     let a = s .args in
     let q = c .before .before .before .before .before .before .before .before .before .before .before .before .before .before .before .ask-inputs in
-    ap length (c .before .before .before .before .before .join .ensures .0) ∙ length-set (q .last .1 .1 .0) _ _ ∙ same-holders 128 (length (a .lows .now)) (Allowed (a .lows .now) (a .highs .now)) (a .by .now) (a .out .now) (triedOf (a .fixed)) _ (q .last .1 .1 .0) (q .last .1 .1 .1 .0) (s .pre .2 .good) (q .result) (q .ensures)
+    ap length (c .before .before .before .before .before .join .ensures .0) ∙ length-set (q .last .1 .1 .0) _ _ ∙ same-holders 128 (length (a .lows .now)) (Allowed (a .lows .now) (a .highs .now)) (a .by .now) (a .out .now) (triedOf (a .fixed)) _ (q .last .1 .1 .0) (q .last .1 .1 .1 .0) (s .pre .2 .good) (q .result) (q .ensures .0)
 
 same-length-6 : tie.Need-same-length-6
 same-length-6 c =
     let s = c .before .before .before .before .before .before .before .before .before .before .before .before .before .before .before .before .before .before .before .before .before .before .before .before .before .before .before in
     let a = s .args in
     let q = c .before .before .before .before .before .before .before .before .before .before .before .before .before .before .before .ask-inputs in
-    ap length (c .before .before .before .before .before .join .ensures .1) ∙ length-set (q .last .1 .1 .1 .0) _ _ ∙ same-outputs 128 (length (a .lows .now)) (Allowed (a .lows .now) (a .highs .now)) (a .by .now) (a .out .now) (triedOf (a .fixed)) _ (q .last .1 .1 .0) (q .last .1 .1 .1 .0) (s .pre .2 .good) (q .result) (q .ensures)
+    ap length (c .before .before .before .before .before .join .ensures .1) ∙ length-set (q .last .1 .1 .1 .0) _ _ ∙ same-outputs 128 (length (a .lows .now)) (Allowed (a .lows .now) (a .highs .now)) (a .by .now) (a .out .now) (triedOf (a .fixed)) _ (q .last .1 .1 .0) (q .last .1 .1 .1 .0) (s .pre .2 .good) (q .result) (q .ensures .0)
 
 returns-3 : tie.Need-returns-3
 returns-3 c =
@@ -112,7 +112,7 @@ returns-3 c =
     let q = c .before .before .before .before .before .before .before .before .before .before .before .before .before .before .before .ask-inputs in
     let j = c .before .before .before .before .before .join in
     let x = c .before .before .before .before .before .before .before .before .before .a2 .given in
-    let m = subst (AskPost 128 (length (a .lows .now)) (Allowed (a .lows .now) (a .highs .now)) (a .by .now) (a .out .now) (triedOf (a .fixed)) (outputsOf (r .result)) (q .last .1 .1 .0) (q .last .1 .1 .1 .0)) (x .1) (q .ensures) in
+    let m = subst (AskPost 128 (length (a .lows .now)) (Allowed (a .lows .now) (a .highs .now)) (a .by .now) (a .out .now) (triedOf (a .fixed)) (outputsOf (r .result)) (q .last .1 .1 .0) (q .last .1 .1 .1 .0)) (x .1) (q .ensures .0) in
     let idle = holds-none 128 (length (a .lows .now)) (Allowed (a .lows .now) (a .highs .now)) (a .by .now) (a .out .now) (a .i .0) (s .pre .2 .good) (c .before .before .before .before .before .before .before .before .before .before .before .before .before .before .before .before .before .before .before .before .holds .ensures .idle (c .before .before .before .before .before .before .before .before .before .before .before .before .before .before .before .before .before .before .before .if1 .left)) in
     seat-taken 128 (length (a .lows .now)) (Allowed (a .lows .now) (a .highs .now)) (a .by .now) (a .out .now) (triedOf (a .fixed)) (outputsOf (a .held)) (a .i .0) (s .pre .1) (s .pre .2) idle (outputsOf (r .result)) (λ k e. subst (λ (y : ℕ). In y k) (r .ensures) e) (λ k e. subst (λ (y : ℕ). In y k) (sym (r .ensures)) e)
     (x .0 .0 .output .0) (x .0 .0 .spent .0) (outputsOf (c .mark .result)) (q .last .1 .1 .0) (q .last .1 .1 .1 .0) (j .last .0) (j .last .1 .0) (s .pre .0 .few) m (c .mark .ensures) (j .ensures .0) (j .ensures .1)

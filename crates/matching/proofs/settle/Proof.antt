@@ -158,7 +158,7 @@ loop-less-2 c =
     let y = c .before .before .a2 .given in
     omega (
       arith,
-      lower-again 128 (length (a .lows .now)) (Allowed (a .lows .now) (a .highs .now)) (a .out .now) (l .by) (l .out) (triedOf (a .firm .fixed)) (triedOf (l .dead)) (l .own .0) (a .i .0) (s .pre .1) (l .inv) (outputsOf (r .result)) (outputsOf (b .result)) (b .ensures) (outputsOf (o .result)) (q .last .1 .1 .0) (q .last .1 .1 .1 .0) (y .0 .0) (o .ensures .0)
+      lower-again 128 (length (a .lows .now)) (Allowed (a .lows .now) (a .highs .now)) (a .out .now) (l .by) (l .out) (triedOf (a .firm .fixed)) (triedOf (l .dead)) (l .own .0) (a .i .0) (s .pre .1) (l .inv) (outputsOf (r .result)) (outputsOf (b .result)) (b .ensures) (outputsOf (o .result)) (q .last .1 .1 .0) (q .last .1 .1 .1 .0) (y .0 .0) (y .0 .1 .0) (o .ensures .0)
           (subst (Lowered 128 (length (a .lows .now)) (Allowed (a .lows .now) (a .highs .now)) (l .by) (l .out) (triedOf (l .dead)) (outputsOf (o .result)) (l .own .0) (a .i .0) (q .last .1 .1 .0) (q .last .1 .1 .1 .0)) (y .1) (q .ensures)) .1,
     )
 
@@ -172,7 +172,7 @@ loop-again-2 c =
     let o = c .before .before .before .before .before .before .before .before .before .before .before .lowest-or-all in
     let q = c .before .before .before .before .before .before .before .before .ask-lower in
     let y = c .before .before .a2 .given in
-    lower-again 128 (length (a .lows .now)) (Allowed (a .lows .now) (a .highs .now)) (a .out .now) (l .by) (l .out) (triedOf (a .firm .fixed)) (triedOf (l .dead)) (l .own .0) (a .i .0) (s .pre .1) (l .inv) (outputsOf (r .result)) (outputsOf (b .result)) (b .ensures) (outputsOf (o .result)) (q .last .1 .1 .0) (q .last .1 .1 .1 .0) (y .0 .0) (o .ensures .0)
+    lower-again 128 (length (a .lows .now)) (Allowed (a .lows .now) (a .highs .now)) (a .out .now) (l .by) (l .out) (triedOf (a .firm .fixed)) (triedOf (l .dead)) (l .own .0) (a .i .0) (s .pre .1) (l .inv) (outputsOf (r .result)) (outputsOf (b .result)) (b .ensures) (outputsOf (o .result)) (q .last .1 .1 .0) (q .last .1 .1 .1 .0) (y .0 .0) (y .0 .1 .0) (o .ensures .0)
     (subst (Lowered 128 (length (a .lows .now)) (Allowed (a .lows .now) (a .highs .now)) (l .by) (l .out) (triedOf (l .dead)) (outputsOf (o .result)) (l .own .0) (a .i .0) (q .last .1 .1 .0) (q .last .1 .1 .1 .0)) (y .1) (q .ensures)) .0
 
 pub settle-spec : {M : Type 1} → statement M
