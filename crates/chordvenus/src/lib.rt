@@ -19,6 +19,8 @@ ghost use Rattle.length.specs.Length.{planLength};
 ghost use Rattle.joining.specs.Join.{joining};
 ghost use Rattle.wavelengths.specs.Report.{reported};
 ghost use Rattle.grating.specs.Grating.{gratingPlanned};
+ghost use Rattle.room.specs.declared.Planner.the-variants.{Exact, Doubled, Quick};
+ghost use Rattle.room.specs.Room.{secondEdition, roomed};
 ghost use Rattle.chordvenus.specs.Flat.{version, flat, kindOf, flatStep, flatWish, Crosses};
 
 // The version of the structs and functions below. A struct that is returned by value cannot grow: whoever adds a field makes it one more.
@@ -118,6 +120,54 @@ pub extern "C" fn cv_quick(n: usize, cells: &[u32], plan: &mut [u8]) -> CvAnswer
     ensures { λ r. ⌜ Crosses (plannedUpTo 1024 64 0 n (now (cells .entry)) (quickPlan 64 n (now (cells .entry))) (now (plan .entry))) r (now (plan .exit)) ⌝ }
 {
     flatten(quick::quick_plan(n, cells, plan))
+}
+
+// The records that always suffice for the exact plan, from N and T alone.
+#[no_mangle]
+pub extern "C" fn cv_exact_room(n: usize, longest: u64) -> CvAnswer
+    ensures { λ r. ⌜ r ≡ flat (roomed firstEdition Exact n longest) ⌝ }
+{
+    flatten(room::exact_room(n, longest))
+}
+
+// For the doubled plan, by either rule.
+#[no_mangle]
+pub extern "C" fn cv_doubled_room(n: usize, longest: u64) -> CvAnswer
+    ensures { λ r. ⌜ r ≡ flat (roomed firstEdition Doubled n longest) ⌝ }
+{
+    flatten(room::doubled_room(n, longest))
+}
+
+// For the quick cover.
+#[no_mangle]
+pub extern "C" fn cv_quick_room(n: usize, longest: u64) -> CvAnswer
+    ensures { λ r. ⌜ r ≡ flat (roomed firstEdition Quick n longest) ⌝ }
+{
+    flatten(room::quick_room(n, longest))
+}
+
+// The same for switches of up to 128 ports: the exact plan.
+#[no_mangle]
+pub extern "C" fn cv2_exact_room(n: usize, longest: u64) -> CvAnswer
+    ensures { λ r. ⌜ r ≡ flat (roomed secondEdition Exact n longest) ⌝ }
+{
+    flatten(room::exact_room_second(n, longest))
+}
+
+// The doubled plan.
+#[no_mangle]
+pub extern "C" fn cv2_doubled_room(n: usize, longest: u64) -> CvAnswer
+    ensures { λ r. ⌜ r ≡ flat (roomed secondEdition Doubled n longest) ⌝ }
+{
+    flatten(room::doubled_room_second(n, longest))
+}
+
+// The quick cover.
+#[no_mangle]
+pub extern "C" fn cv2_quick_room(n: usize, longest: u64) -> CvAnswer
+    ensures { λ r. ⌜ r ≡ flat (roomed secondEdition Quick n longest) ⌝ }
+{
+    flatten(room::quick_room_second(n, longest))
 }
 
 // The doubled plan for the grating fabric.
