@@ -57,7 +57,7 @@ module _ (E : Edition) (N : ℕ) (d : List ℕ) where
       by-lines : (0 < N) → N ≤ E .ports → length d ≡ N * N → Dec (65535 < longest N (cell N d)) → Fault E N d f
       by-lines s m c (yes l) =
           let o = first-over l in
-          it-is (Line (lineSide N (over 65535 (line N d) (N + N) 0))) (unfold lineOver in demand.long-line (E .ports) N d (some-ports (E .ports) N s m) c l)
+          it-is (Line (lineSide N (over 65535 (line N d) (N + N) 0))) (unfold lineOver in demand.lines-long N d l ∙ demand.lines-left (E .ports) N d (some-ports (E .ports) N s m) c)
           (long-line s m c (over 65535 (line N d) (N + N) 0) (omega (arith, o .inside)) (o .here) (λ j b. o .before j (omega arith) b))
       by-lines s m c (no l) = not-fine (e ∙ sym (demand.fine (E .ports) N d (some-ports (E .ports) N s m) c (omega (arith, l))))
 

@@ -215,7 +215,7 @@ module _ (N : ℕ) (d buf : List ℕ) (r : Outcome) (after : List ℕ) (met : Gr
 
         at : getD said k 0 ≡ getD (gratingReport N plan) k 0
         at =
-            ap (λ (l : List ℕ). getD l k 0) (e .1) ∙ ap (λ (l : List ℕ). getD (reported firstEdition N l report .bytes) k 0) front
+            ap (λ (l : List ℕ). getD l k 0) (e .bytes) ∙ ap (λ (l : List ℕ). getD (reported firstEdition N l report .bytes) k 0) front
             ∙ ap (λ (w : Result). getD (w .bytes) k 0) (sym (report-done firstEdition N (bytes 0 N plan) report (sym passed) fits))
             ∙ laid-at report (gratingReport N (planOf 64 (bytes 0 N plan))) k (omega (arith, ap length same, report-length N plan))
             ∙ ap (λ (l : List ℕ). getD l k 0) same
