@@ -1,6 +1,7 @@
 /*
- * From wishes to a printed plan: four wishes for a switch of two ports become a demand, the demand
- * an exact plan, and the plan is checked, read back record by record, and timed.
+ * From wishes to a printed plan: memory is set aside before any wish is known, for lines of up to 8
+ * slots; four wishes for a switch of two ports become a demand, the demand an exact plan, and the plan
+ * is checked, read back record by record, and timed.
  *
  *     cc -Iinclude examples/plan.c target/staticlib/libchordvenus.a -o plan
  */
@@ -8,9 +9,10 @@
 
 #include <inttypes.h>
 #include <stdio.h>
+#include <stdlib.h>
 #include <string.h>
 
-enum { PORTS = 2, ROOM = PORTS * PORTS - PORTS + 1, SWITCHING_TIME = 3 };
+enum { PORTS = 2, LONGEST = 8, SWITCHING_TIME = 3 };
 
 /* One wish record: input, output, two zero bytes, then a binary32, low byte first. */
 static uint8_t *put_wish(uint8_t *list, uint8_t input, uint8_t output, float wish)
@@ -44,13 +46,9 @@ static void print_record(const cv_step *step)
     printf("\n");
 }
 
-int main(void)
+/* From the wishes to the demand, into the plan's memory and out again. */
+static int plan_wishes(uint8_t *plan, size_t size)
 {
-    if (cv_version() != CV_VERSION) {
-        fprintf(stderr, "the archive has version %" PRIu64 ", the header %d\n", cv_version(), CV_VERSION);
-        return 2;
-    }
-
     uint8_t list[4 * CV_WISH_SIZE];
     uint8_t *end = list;
     end = put_wish(end, 0, 0, 2.0f);
@@ -63,8 +61,7 @@ int main(void)
     if (answer.code != CV_DONE)
         return refused(answer);
 
-    uint8_t plan[ROOM * CV_RECORD_SIZE];
-    answer = cv_exact(PORTS, cells, PORTS * PORTS, plan, sizeof plan);
+    answer = cv_exact(PORTS, cells, PORTS * PORTS, plan, size);
     if (answer.code != CV_DONE)
         return refused(answer);
     size_t used = (size_t)answer.records * CV_RECORD_SIZE;
@@ -83,4 +80,23 @@ int main(void)
         return refused(answer);
     printf("covered, in %" PRIu64 " slots at a switching time of %d\n", answer.length, SWITCHING_TIME);
     return 0;
+}
+
+int main(void)
+{
+    if (cv_version() != CV_VERSION) {
+        fprintf(stderr, "the archive has version %" PRIu64 ", the header %d\n", cv_version(), CV_VERSION);
+        return 2;
+    }
+
+    cv_answer room = cv_exact_room(PORTS, LONGEST);
+    if (room.code != CV_DONE)
+        return refused(room);
+    size_t size = (size_t)room.records * CV_RECORD_SIZE;
+    uint8_t *plan = malloc(size);
+    if (plan == NULL)
+        return 2;
+    int status = plan_wishes(plan, size);
+    free(plan);
+    return status;
 }

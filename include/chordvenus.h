@@ -72,6 +72,12 @@ enum {
 #define CV_STACK_DOUBLED 40960
 #define CV_STACK_DOUBLED_EVERY_ROTATION 40960
 #define CV_STACK_QUICK 20480
+#define CV_STACK_EXACT_ROOM 256
+#define CV_STACK_DOUBLED_ROOM 256
+#define CV_STACK_QUICK_ROOM 256
+#define CV2_STACK_EXACT_ROOM 256
+#define CV2_STACK_DOUBLED_ROOM 256
+#define CV2_STACK_QUICK_ROOM 256
 #define CV_STACK_GRATING_DOUBLED 61440
 #define CV_STACK_GRATING_REPORT 1024
 #define CV_STACK_CHECK 20480
@@ -84,11 +90,12 @@ enum {
 /* cv_answer.code (§9.7): when it is given, and what cv_answer.place then is. */
 enum {
     CV_DONE = 0,        /* nothing was refused; 0 */
-    CV_PORTS = 1,       /* N is not 1 to 64; 0 */
+    CV_PORTS = 1,       /* N is not 1 to 64, or in cv2_ calls 1 to 128; 0 */
     CV_CELLS = 2,       /* some other number of cells than N * N was lent; N * N */
     CV_LINE = 3,        /* a line has more than 65,535 slots; the first such input, or else the first
-                           such output: side says which of the two */
-    CV_LONGEST = 4,     /* cv_quick alone: T is more than 1,024; 0 */
+                           such output: side says which of the two. Where a T is given and no
+                           demand: T is more than 65,535; 0, with no side */
+    CV_LONGEST = 4,     /* the quick cover alone: T is more than 1,024; 0 */
     CV_ROOM = 5,        /* there is less room than the result takes; the records it has */
     CV_NOT_FINITE = 6,  /* the wish is no finite number; its record */
     CV_BELOW_ZERO = 7,  /* the wish is less than 0; its record */
@@ -111,8 +118,8 @@ enum { CV_STEP_RECORD = 0, CV_STEP_END = 1, CV_STEP_MALFORMED = 2 };
 typedef struct {
     uint64_t code;     /* CV_DONE or the refusal */
     uint64_t place;    /* where, as the code says */
-    uint64_t side;     /* code 3: CV_INPUT or CV_OUTPUT; else CV_NO_SIDE */
-    uint64_t records;  /* records of the plan or of the wish list */
+    uint64_t side;     /* code 3 of a demand: CV_INPUT or CV_OUTPUT; else CV_NO_SIDE */
+    uint64_t records;  /* records of the plan or of the wish list, or that suffice for a plan */
     uint64_t longest;  /* T of the demand */
     uint64_t total;    /* total hold of the plan */
     uint64_t length;   /* length of the plan */
@@ -168,7 +175,7 @@ cv_answer cv_wishes(uint64_t n, const uint8_t *list, size_t list_len, uint32_t *
  * The exact plan (§6): cells in order are filled up so that every line sums to T; then, until all is
  * zero, a full setting over cells that are not zero is taken off for the smallest of its cells. Of
  * all such settings it is the one whose outputs come first in dictionary order. Total hold is T, and
- * no plan that covers the demand has less. At most N * N - N + 1 records.
+ * no plan that covers the demand has less. At most T records, and at most N * N - 2 * N + 2.
  * Codes:  1, 2, 3, 5.
  * Writes: the plan's records, at the start of plan; no later byte. The demand is only read.
  * Done:   records, longest, total, empty.
@@ -205,6 +212,24 @@ cv_answer cv_doubled_every_rotation(uint64_t n, const uint32_t *cells, size_t ce
  * Done:   records, longest, total, empty.
  */
 cv_answer cv_quick(uint64_t n, const uint32_t *cells, size_t cells_len, uint8_t *plan, size_t plan_len);
+
+/*
+ * The room of each planner beforehand (§20), from N and a T alone: so many records suffice for every
+ * demand of N ports whose lines sum to that T or less, and then the planner never answers code 5.
+ * For the exact plan that is T or N * N - 2 * N + 2, whichever is less; for the doubled plan, by either
+ * rule and at any T, 2 * N; for the quick cover 2 * T - 1, and none where T is 0.
+ * Codes:  1, 3 (place 0, no side); 4 of the quick cover.
+ * Writes: nothing.
+ * Done:   records.
+ */
+cv_answer cv_exact_room(uint64_t n, uint64_t longest);
+cv_answer cv_doubled_room(uint64_t n, uint64_t longest);
+cv_answer cv_quick_room(uint64_t n, uint64_t longest);
+
+/* The same for the second edition's records, of 132 bytes, where N is 1 to 128. */
+cv_answer cv2_exact_room(uint64_t n, uint64_t longest);
+cv_answer cv2_doubled_room(uint64_t n, uint64_t longest);
+cv_answer cv2_quick_room(uint64_t n, uint64_t longest);
 
 /*
  * The doubled plan for the grating fabric (§13.5), where the wavelength of a pair, input i to output

@@ -38,6 +38,12 @@ static void exact(void) { answer = cv_exact(N, cells, N * N, made, room); }
 static void doubled(void) { answer = cv_doubled(N, cells, N * N, made, room); }
 static void every(void) { answer = cv_doubled_every_rotation(N, cells, N * N, made, room); }
 static void quick(void) { answer = cv_quick(N, cells, N * N, made, room); }
+static void exact_room(void) { answer = cv_exact_room(N, 65535); }
+static void doubled_room(void) { answer = cv_doubled_room(N, 65535); }
+static void quick_room(void) { answer = cv_quick_room(N, CV_MOST_QUICK); }
+static void wide_exact_room(void) { answer = cv2_exact_room(2 * N, 65535); }
+static void wide_doubled_room(void) { answer = cv2_doubled_room(2 * N, 65535); }
+static void wide_quick_room(void) { answer = cv2_quick_room(2 * N, CV_MOST_QUICK); }
 static void grating(void) { answer = cv_grating_doubled(N, cells, N * N, made, room); }
 static void report(void) { answer = cv_grating_report(N, plan, ROOM, made, room); }
 static void check(void) { answer = cv_check(N, cells, N * N, plan, ROOM); }
@@ -120,6 +126,12 @@ int main(void)
         {"cv_version", version, CV_STACK_VERSION}, {"cv_wish", wish, CV_STACK_WISH},
         {"cv_exact", exact, CV_STACK_EXACT},       {"cv_doubled", doubled, CV_STACK_DOUBLED},
         {"cv_doubled_every_rotation", every, CV_STACK_DOUBLED_EVERY_ROTATION},
+        {"cv_exact_room", exact_room, CV_STACK_EXACT_ROOM},
+        {"cv_doubled_room", doubled_room, CV_STACK_DOUBLED_ROOM},
+        {"cv_quick_room", quick_room, CV_STACK_QUICK_ROOM},
+        {"cv2_exact_room", wide_exact_room, CV2_STACK_EXACT_ROOM},
+        {"cv2_doubled_room", wide_doubled_room, CV2_STACK_DOUBLED_ROOM},
+        {"cv2_quick_room", wide_quick_room, CV2_STACK_QUICK_ROOM},
         {"cv_grating_doubled", grating, CV_STACK_GRATING_DOUBLED},
         {"cv_quick", quick, CV_STACK_QUICK},       {"cv_check", check, CV_STACK_CHECK},
         {"cv_grating_report", report, CV_STACK_GRATING_REPORT},

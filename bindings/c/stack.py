@@ -97,10 +97,11 @@ def need(name, walks, above=()):
 def main():
     archive, header = sys.argv[1:]
     walks = {name: walked(name, code) for name, code in functions(archive).items()}
-    figures = dict(re.findall(r"CV_STACK_(\w+) (\d+)", pathlib.Path(header).read_text()))
+    said = re.findall(r"(CV2?)_STACK_(\w+) (\d+)", pathlib.Path(header).read_text())
+    figures = {f"{edition}_{call}".lower(): int(figure) for edition, call, figure in said}
     short = False
-    for name in sorted(name for name in walks if name.startswith("cv_")):
-        needed, figure = need(name, walks) + 8, int(figures.get(name[3:].upper(), 0))
+    for name in sorted(name for name in walks if name.startswith(("cv_", "cv2_"))):
+        needed, figure = need(name, walks) + 8, figures.get(name, 0)
         short |= figure < needed
         print(f"{name}: at most {needed:,} of {figure:,} bytes{'' if needed <= figure else ', TOO SMALL'}")
     sys.exit(short)

@@ -639,6 +639,65 @@ static void all_joins(void)
     ANSWERS(cv_join(1, NULL, 0, NULL, 0), .code = CV_DONE);
 }
 
+/* ---- the room beforehand ---- */
+
+typedef cv_answer room_call(uint64_t n, uint64_t longest);
+
+/* What no planner of an edition takes. */
+static void room_refusals(room_call *call, uint64_t most_ports)
+{
+    const uint64_t ports[] = {0, most_ports + 1, 255, UINT64_C(1) << 32, UINT64_MAX};
+    const uint64_t long_lines[] = {65536, 65537, UINT64_C(1) << 32, UINT64_MAX};
+    for (size_t k = 0; k < sizeof ports / sizeof *ports; k++) {
+        REFUSES(call(ports[k], 1), CV_PORTS, 0);
+        REFUSES(call(ports[k], UINT64_MAX), CV_PORTS, 0); /* before 3 */
+    }
+    for (size_t k = 0; k < sizeof long_lines / sizeof *long_lines; k++) {
+        REFUSES(call(1, long_lines[k]), CV_LINE, 0); /* no side; before 4 */
+        REFUSES(call(most_ports, long_lines[k]), CV_LINE, 0);
+    }
+}
+
+static void quick_rooms(room_call *call, uint64_t most_ports)
+{
+    ANSWERS(call(1, 0), .records = 0);
+    ANSWERS(call(1, 1), .records = 1);
+    ANSWERS(call(most_ports, 2), .records = 3);
+    ANSWERS(call(most_ports, 1024), .records = 2047);
+    REFUSES(call(1, 1025), CV_LONGEST, 0);
+    REFUSES(call(most_ports, 65535), CV_LONGEST, 0);
+}
+
+static void rooms(void)
+{
+    room_call *const first[] = {cv_exact_room, cv_doubled_room, cv_quick_room};
+    room_call *const second[] = {cv2_exact_room, cv2_doubled_room, cv2_quick_room};
+    for (int k = 0; k < 3; k++) {
+        room_refusals(first[k], 64);
+        room_refusals(second[k], 128);
+    }
+    quick_rooms(cv_quick_room, 64);
+    quick_rooms(cv2_quick_room, 128);
+    for (int k = 0; k < 2; k++) {
+        room_call *exact = k ? cv2_exact_room : cv_exact_room, *doubled = k ? cv2_doubled_room : cv_doubled_room;
+        ANSWERS(exact(1, 0), .records = 0);
+        ANSWERS(exact(1, 65535), .records = 1);
+        ANSWERS(exact(2, 1), .records = 1);
+        ANSWERS(exact(2, 65535), .records = 2);
+        ANSWERS(exact(3, 4), .records = 4);
+        ANSWERS(exact(3, 5), .records = 5);
+        ANSWERS(exact(3, 6), .records = 5);
+        ANSWERS(exact(64, 3969), .records = 3969);
+        ANSWERS(exact(64, 3970), .records = 3970);
+        ANSWERS(exact(64, 3971), .records = 3970);
+        ANSWERS(doubled(1, 0), .records = 2);
+        ANSWERS(doubled(64, 65535), .records = 128);
+    }
+    ANSWERS(cv2_exact_room(65, 65535), .records = 4097);
+    ANSWERS(cv2_exact_room(128, 65535), .records = 16130);
+    ANSWERS(cv2_doubled_room(128, 0), .records = 256);
+}
+
 /* ---- single records, reading step by step, the grating's report ---- */
 
 static cv_answer written(unsigned hold, uint64_t n, const uint8_t *outputs, size_t room)
@@ -770,6 +829,7 @@ int main(void)
     checks();
     lengths();
     all_joins();
+    rooms();
     writing();
     stepping();
     reports();

@@ -73,6 +73,38 @@ pub fn quick(n: u64, cells: &[u32], plan: &mut [u8]) -> Answer {
     unsafe { sys::cv_quick(n, cells.as_ptr(), cells.len(), plan.as_mut_ptr(), plan.len()) }
 }
 
+/// The records that suffice for the exact plan of any demand of N ports whose lines sum to `longest`
+/// or less: with room for so many, [`exact`] never answers code 5.
+pub fn exact_room(n: u64, longest: u64) -> Answer {
+    // SAFETY: no memory is lent; the same holds for each room below.
+    unsafe { sys::cv_exact_room(n, longest) }
+}
+
+/// The same for the doubled plan, by either rule.
+pub fn doubled_room(n: u64, longest: u64) -> Answer {
+    unsafe { sys::cv_doubled_room(n, longest) }
+}
+
+/// The same for the quick cover.
+pub fn quick_room(n: u64, longest: u64) -> Answer {
+    unsafe { sys::cv_quick_room(n, longest) }
+}
+
+/// [`exact_room`] for N up to 128, in records of 132 bytes.
+pub fn exact_room_second(n: u64, longest: u64) -> Answer {
+    unsafe { sys::cv2_exact_room(n, longest) }
+}
+
+/// [`doubled_room`] for N up to 128, in records of 132 bytes.
+pub fn doubled_room_second(n: u64, longest: u64) -> Answer {
+    unsafe { sys::cv2_doubled_room(n, longest) }
+}
+
+/// [`quick_room`] for N up to 128, in records of 132 bytes.
+pub fn quick_room_second(n: u64, longest: u64) -> Answer {
+    unsafe { sys::cv2_quick_room(n, longest) }
+}
+
 /// The doubled plan of a demand for the grating fabric: anti-rotations in the place of rotations.
 pub fn grating_doubled(n: u64, cells: &[u32], plan: &mut [u8]) -> Answer {
     unsafe { sys::cv_grating_doubled(n, cells.as_ptr(), cells.len(), plan.as_mut_ptr(), plan.len()) }
@@ -217,7 +249,7 @@ impl fmt::Display for Refused {
         };
         write!(f, "refused, code {code}: ")?;
         match code {
-            1 => write!(f, "the number of ports is 0 or over 64"),
+            1 => write!(f, "the number of ports is 0 or over the largest"),
             2 => write!(f, "the cells lent are not {place}"),
             3 => write!(f, "{line} sums over 65,535"),
             4 => write!(f, "a line sums over 1,024"),

@@ -50,6 +50,12 @@ extern "C" {
         plan_len: usize,
     ) -> Answer;
     pub fn cv_quick(n: u64, cells: *const u32, cells_len: usize, plan: *mut u8, plan_len: usize) -> Answer;
+    pub fn cv_exact_room(n: u64, longest: u64) -> Answer;
+    pub fn cv_doubled_room(n: u64, longest: u64) -> Answer;
+    pub fn cv_quick_room(n: u64, longest: u64) -> Answer;
+    pub fn cv2_exact_room(n: u64, longest: u64) -> Answer;
+    pub fn cv2_doubled_room(n: u64, longest: u64) -> Answer;
+    pub fn cv2_quick_room(n: u64, longest: u64) -> Answer;
     pub fn cv_grating_doubled(
         n: u64,
         cells: *const u32,

@@ -7,7 +7,8 @@
 use cases::Rng;
 use chordvenus::{sys, Answer, Plan, Reader};
 use reference::{
-    slow, Numbers, Outcome, MOST_LINE, MOST_PORTS, MOST_QUICK, MOST_RECORDS, RECORD_SIZE, WISH_SIZE,
+    slow, Numbers, Outcome, MOST_LINE, MOST_PORTS, MOST_PORTS_SECOND, MOST_QUICK, MOST_RECORDS, RECORD_SIZE,
+    WISH_SIZE,
 };
 
 /// Cases for each call.
@@ -176,12 +177,8 @@ fn exact_of_a_larger_batch() {
         let once = chordvenus::exact(n as u64, &cells, &mut plan);
         let more = chordvenus::exact(n as u64, &times, &mut stretched);
         let k = u64::from(k);
-        let wanted = Answer {
-            longest: once.longest * k,
-            total: once.total * k,
-            empty: once.empty * k,
-            ..once
-        };
+        let wanted =
+            Answer { longest: once.longest * k, total: once.total * k, empty: once.empty * k, ..once };
         assert_eq!(more, wanted, "case {case}: N = {n}, k = {k}, cells {cells:?}");
         for record in plan[..once.records as usize * RECORD_SIZE].chunks_mut(RECORD_SIZE) {
             let hold = u64::from(u16::from_le_bytes([record[0], record[1]])) * k;
@@ -493,6 +490,81 @@ fn plan_of_records() {
             assert_eq!((refused.0.code, refused.0.place), (11, place), "case {case}");
         }
         assert_eq!((records.next(), records.next()), (None, None), "case {case} goes on");
+    }
+}
+
+type Room = fn(usize, u64, u64) -> Outcome;
+type ProvedRoom = fn(u64, u64) -> Answer;
+
+fn compare_room(seed: u64, proved: ProvedRoom, room: Room, most_ports: usize, codes: &[usize]) {
+    let edges = [0, 1, 2, 3, 63, 64, 65, 127, 128, 129, 255, 256, 1 << 32, u64::MAX];
+    let lines = [0, 1, 2, 3, 1_023, 1_024, 1_025, 3_970, 16_130, 65_534, 65_535, 65_536, 1 << 32, u64::MAX];
+    let mut met = Met::default();
+    let mut compare = |n, longest| {
+        let answer = proved(n, longest);
+        assert_eq!(answer, expected(room(most_ports, n, longest)), "N = {n}, T = {longest}");
+        met.note(answer);
+    };
+    for n in edges {
+        for longest in lines {
+            compare(n, longest);
+        }
+    }
+    let mut rng = Rng::new(seed);
+    for _ in 0..CASES {
+        let n = if rng.one_in(8) { rng.draw() } else { rng.between(0, most_ports + 2) as u64 };
+        let most = rng.pick(&[5, 1_100, 20_000, 66_000]);
+        let longest = if rng.one_in(8) { rng.draw() } else { rng.between(0, most) as u64 };
+        compare(n, longest);
+    }
+    met.are(codes);
+}
+
+#[test]
+fn rooms() {
+    use chordvenus as proved;
+    for (most_ports, exact, doubled, quick) in [
+        (
+            MOST_PORTS,
+            proved::exact_room as ProvedRoom,
+            proved::doubled_room as ProvedRoom,
+            proved::quick_room as ProvedRoom,
+        ),
+        (
+            MOST_PORTS_SECOND,
+            proved::exact_room_second,
+            proved::doubled_room_second,
+            proved::quick_room_second,
+        ),
+    ] {
+        compare_room(30, exact, reference::exact_room, most_ports, &[0, 1, 3]);
+        compare_room(31, doubled, reference::doubled_room, most_ports, &[0, 1, 3]);
+        compare_room(32, quick, reference::quick_room, most_ports, &[0, 1, 3, 4]);
+    }
+}
+
+/// With the room that is promised for a demand's T, or for a larger one, no planner wants more.
+#[test]
+fn rooms_suffice() {
+    let calls: [(Proved, ProvedRoom, usize); 5] = [
+        (chordvenus::exact, chordvenus::exact_room, MOST_LINE as usize),
+        (chordvenus::doubled, chordvenus::doubled_room, MOST_LINE as usize),
+        (chordvenus::doubled_every_rotation, chordvenus::doubled_room, MOST_LINE as usize),
+        (chordvenus::grating_doubled, chordvenus::doubled_room, MOST_LINE as usize),
+        (chordvenus::quick, chordvenus::quick_room, MOST_QUICK as usize),
+    ];
+    let mut rng = Rng::new(33);
+    for case in 0..CASES / 4 {
+        let n = cases::ports(&mut rng);
+        let most = rng.pick(&[2, 5, 60, MOST_QUICK as usize]);
+        let cells = cases::demand(&mut rng, n, most);
+        let longest = slow::longest(&slow::rows(n, &cells));
+        for (plan, room, limit) in calls {
+            let more = (longest + rng.below(3) as u64).min(limit as u64);
+            let room = room(n as u64, more).done().expect("N and T are in range").records as usize;
+            let answer = plan(n as u64, &cells, &mut vec![0; room * RECORD_SIZE]);
+            assert_eq!(answer.code, 0, "case {case}: N = {n}, T = {longest}, room {room}, {cells:?}");
+        }
     }
 }
 

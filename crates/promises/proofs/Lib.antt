@@ -21,3 +21,4 @@ pub mod Checked
 pub mod Wrong
 pub mod Edge
 pub mod Larger
+pub mod Rooms

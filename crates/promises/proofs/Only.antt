@@ -11,6 +11,7 @@ use Rattle.switch.proofs.Result.{gives-one}
 use Rattle.plans.specs.declared.Stepped.{Stepped}
 use Rattle.reader.specs.declared.Reader.{Reader}
 use Rattle.reader.specs.Reader.{movedTo}
+use Rattle.room.specs.declared.Planner.{Planner}
 use Rattle.room.specs.declared.Planner.the-variants.{Exact, Doubled, Quick}
 use Rattle.chordvenus.specs.Flat.{Crosses}
 use Rattle.promises.specs.Only.{OneAnswer, OneResult}
@@ -126,6 +127,9 @@ cv-every-rotation-one-result N d buf = crosses-one-result _
 
 pub cv-quick-one-result : (N : ℕ) (d buf : List ℕ) → OneResult (call.CvQuick N d buf)
 cv-quick-one-result N d buf = crosses-one-result _
+
+pub cv-room-one-answer : (E : Edition) (planner : Planner) (N T : ℕ) → OneAnswer (call.CvRoomFor E planner N T)
+cv-room-one-answer E planner N T = one _
 
 pub cv-grating-doubled-one-result : (N : ℕ) (d buf : List ℕ) → OneResult (call.CvGratingDoubled N d buf)
 cv-grating-doubled-one-result N d buf = crosses-one-result _

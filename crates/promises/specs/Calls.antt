@@ -161,6 +161,10 @@ CvEveryRotation N d buf = Crosses (planned 64 0 N d (doubledPlan 64 N d) buf)
 abbrev pub CvQuick : ℕ → List ℕ → List ℕ → CvAnswer → List ℕ → Type 0
 CvQuick N d buf = Crosses (plannedUpTo 1024 64 0 N d (quickPlan 64 N d) buf)
 
+-- cv_exact_room(n, longest), cv_doubled_room and cv_quick_room, and cv2_ of each
+abbrev pub CvRoomFor : Edition → Planner → ℕ → ℕ → CvAnswer → Type 0
+CvRoomFor E planner N T r = r ≡ flat (roomed E planner N T)
+
 -- cv_grating_doubled(n, cells, plan)
 abbrev pub CvGratingDoubled : ℕ → List ℕ → List ℕ → CvAnswer → List ℕ → Type 0
 CvGratingDoubled N d buf = Crosses (gratingPlanned 64 0 N d buf)

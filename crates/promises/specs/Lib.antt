@@ -17,3 +17,4 @@ pub mod Quick
 pub mod Checked
 pub mod Wrong
 pub mod Larger
+pub mod Rooms

@@ -11,6 +11,7 @@ mod join;
 mod more_plans;
 mod peel;
 mod plan;
+mod room;
 pub mod slow;
 mod wishes;
 
@@ -19,10 +20,12 @@ pub use grating::{grating_doubled, grating_report};
 pub use join::join;
 pub use more_plans::{doubled, doubled_every_rotation, quick};
 pub use plan::{check, length, open, step_at, write, Reader, Record, Step};
+pub use room::{doubled_room, exact_room, quick_room};
 pub use wishes::{wish, wishes};
 
-/// The largest N.
+/// The largest N, and that of the second edition.
 pub const MOST_PORTS: usize = 64;
+pub const MOST_PORTS_SECOND: usize = 128;
 /// Bytes of a plan record: hold, N, a zero byte, an output for each possible input.
 pub const RECORD_SIZE: usize = 4 + MOST_PORTS;
 /// Bytes of a wish record: input, output, two zero bytes, a binary32.
@@ -49,6 +52,8 @@ pub enum Refusal {
     Ports,
     Cells(usize),
     Line(Side),
+    /// Code 3 of a T that is given without a demand: it has no line.
+    LongestOver,
     Longest,
     Room(usize),
     NotFinite(usize),
@@ -90,6 +95,7 @@ impl From<Outcome> for Numbers {
             Err(Refusal::Cells(cells)) => (2, cells, 0),
             Err(Refusal::Line(Side::Input(input))) => (3, input, 1),
             Err(Refusal::Line(Side::Output(output))) => (3, output, 2),
+            Err(Refusal::LongestOver) => (3, 0, 0),
             Err(Refusal::Longest) => (4, 0, 0),
             Err(Refusal::Room(records)) => (5, records, 0),
             Err(Refusal::NotFinite(record)) => (6, record, 0),
