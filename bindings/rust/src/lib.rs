@@ -10,7 +10,7 @@
 //!
 //! ```
 //! let cells = [2, 1, 1, 2];
-//! let mut plan = [0; 3 * chordvenus::RECORD_SIZE];
+//! let mut plan = [0; 2 * chordvenus::RECORD_SIZE];
 //! let answer = chordvenus::exact(2, &cells, &mut plan).done()?;
 //! let used = &plan[..answer.records as usize * chordvenus::RECORD_SIZE];
 //! for record in chordvenus::Plan::open(2, used)? {
