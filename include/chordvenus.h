@@ -86,6 +86,8 @@ enum {
 #define CV_STACK_WRITE 256
 #define CV_STACK_OPEN 256
 #define CV_STACK_STEP_AT 256
+#define CV_STACK_IN_FORCE 1024
+#define CV_STACK_CARRY_OVER 20480
 
 /* cv_answer.code (§9.7): when it is given, and what cv_answer.place then is. */
 enum {
@@ -105,11 +107,16 @@ enum {
     CV_MALFORMED = 11,  /* a record is not well formed, or a wish has a port that is not below N or a
                            third or fourth byte other than 0; its number */
     CV_NAMED = 12,      /* the wish names a pair that a record before it named; its record */
-    CV_UNCOVERED = 13   /* the plan does not cover the demand; the first cell granted too little */
+    CV_UNCOVERED = 13,  /* the plan does not cover the demand; the first cell granted too little */
+    CV_NOT_IN_FORCE = 14, /* tonight's plan is over, and the standby plan has no records; 0 */
+    CV_FIRST_OVER = 15  /* more first records than the plan has; the records it has */
 };
 
 /* cv_answer.side */
 enum { CV_NO_SIDE = 0, CV_INPUT = 1, CV_OUTPUT = 2 };
+
+/* cv_answer.about, with codes 3, 9, 10 and 11 of cv_in_force and cv_carry_over; and cv_part.plan */
+enum { CV_TONIGHT = 1, CV_STANDBY = 2, CV_PLAN = 3, CV_DEMAND = 4, CV_WISHED = 5, CV_SUM = 6 };
 
 /* cv_step.kind */
 enum { CV_STEP_RECORD = 0, CV_STEP_END = 1, CV_STEP_MALFORMED = 2 };
@@ -126,8 +133,8 @@ typedef struct {
     uint64_t empty;    /* empty slots of the plan */
     uint64_t added;    /* records added to a plan: 0 in every call of this version */
     uint64_t dropped;  /* records dropped from a plan: 0 in every call of this version */
-    uint64_t about;    /* which of several plans or demands the code is about: 0 in every call of
-                          this version */
+    uint64_t about;    /* which of several plans or demands the code is about, CV_TONIGHT to CV_SUM;
+                          else 0 */
 } cv_answer;
 
 /* One step of reading a plan. */
@@ -138,14 +145,24 @@ typedef struct {
     uint8_t outputs[64];  /* CV_STEP_RECORD: its outputs by input; else all CV_IDLE */
 } cv_step;
 
+/* Where the record in force stands: `size` bytes of a plan, from byte `start` on. */
+typedef struct {
+    cv_answer answer;  /* every count in it is 0 */
+    uint64_t plan;     /* CV_TONIGHT or CV_STANDBY; 0 where the call is refused */
+    uint64_t start;    /* 0 where it is refused */
+    uint64_t size;     /* CV_RECORD_SIZE; 0 where it is refused */
+} cv_part;
+
 /* The archive was made for these sizes. */
 #if defined(__cplusplus) && __cplusplus >= 201103L
 static_assert(sizeof(cv_answer) == 88, "11 numbers of 8 bytes");
 static_assert(sizeof(cv_step) == 88, "3 numbers of 8 bytes and 64 bytes");
+static_assert(sizeof(cv_part) == 112, "an answer and 3 numbers of 8 bytes");
 static_assert(sizeof(size_t) == 8, "a length has 8 bytes");
 #elif defined(__STDC_VERSION__) && __STDC_VERSION__ >= 201112L
 _Static_assert(sizeof(cv_answer) == 88, "11 numbers of 8 bytes");
 _Static_assert(sizeof(cv_step) == 88, "3 numbers of 8 bytes and 64 bytes");
+_Static_assert(sizeof(cv_part) == 112, "an answer and 3 numbers of 8 bytes");
 _Static_assert(sizeof(size_t) == 8, "a length has 8 bytes");
 #endif
 
@@ -306,6 +323,37 @@ cv_answer cv_open(uint64_t n, const uint8_t *plan, size_t plan_len);
  * Writes: nothing.
  */
 cv_step cv_step_at(uint64_t n, const uint8_t *plan, size_t plan_len, uint64_t at);
+
+/*
+ * The record in force at a slot (§23.1 to §23.3), slots counted from 0 by holds alone: tonight's plan
+ * from slot 0 on and, from the slot on where that is over, the standby plan, which begins there and
+ * repeats without end. Both plans are judged whole, whatever the slot is; a call costs one pass over
+ * each and one over the holds up to the record that it finds. cv_part_bytes gives the record itself.
+ * Codes:  1; 9, 10, 11 for tonight's plan; 9, 10, 11 for the standby plan; 14.
+ * Writes: nothing.
+ * Done:   plan, start, size.
+ */
+cv_part cv_in_force(uint64_t n, const uint8_t *tonight, size_t tonight_len, const uint8_t *standby, size_t standby_len, uint64_t slot);
+
+/* The part itself, in the plans that cv_in_force was called with; NULL where it was refused. */
+static inline const uint8_t *cv_part_bytes(cv_part part, const uint8_t *tonight, const uint8_t *standby)
+{
+    if (part.plan == 0)
+        return NULL;
+    return (part.plan == CV_TONIGHT ? tonight : standby) + part.start;
+}
+
+/*
+ * What a batch that was stopped leaves to ask (§23.4 to §23.7): for each pair the slots asked that
+ * the plan's first `first` records did not grant, and the new wish added. Slots granted beyond what
+ * was asked are lost. The records behind them are judged too. The new wishes are cells, not a wish
+ * list, so that a cell of 1 stays 1.
+ * Codes:  1; 2 where any of the three buffers of cells does not have N * N; 9, 10, 11; 15; then 3 for
+ *         the demand, for the new wishes and for the new demand.
+ * Writes: all N * N cells. The demand, the plan and the wishes are only read.
+ * Done:   every count is 0.
+ */
+cv_answer cv_carry_over(uint64_t n, const uint32_t *asked, size_t asked_len, const uint8_t *plan, size_t plan_len, uint64_t first, const uint32_t *wished, size_t wished_len, uint32_t *cells, size_t cells_len);
 
 #ifdef __cplusplus
 }

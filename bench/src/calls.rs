@@ -14,7 +14,7 @@ use chordvenus as proved;
 use reference as proved;
 
 /// The calls in the order of the header, with what one timed run does.
-pub const CALLS: [(&str, &str); 14] = [
+pub const CALLS: [(&str, &str); 16] = [
     ("wish", "one call for each pair with slots"),
     ("wishes", "a list of the pairs with slots"),
     ("exact", "one plan"),
@@ -29,6 +29,8 @@ pub const CALLS: [(&str, &str); 14] = [
     ("write", "one record"),
     ("open", "the exact plan"),
     ("step_at", "one call for each record of the exact plan"),
+    ("in_force", "two plans of 8,192 records, the last slot before standby repeats"),
+    ("carry_over", "the exact plan stopped half way"),
 ];
 
 /// Ends a timed call whose answer nothing reads.
@@ -69,6 +71,26 @@ fn join<'a>(n: u64, plan: Vec<u8>) -> Pair<'a> {
     })
 }
 
+/// The record in force where both plans have been gone through: 8,192 records each.
+fn in_force<'a>(n: u64, plan: Vec<u8>) -> Pair<'a> {
+    let held = plan.chunks(RECORD_SIZE).map(|record| u64::from(record[0]) + 256 * u64::from(record[1]));
+    let slot = 2 * held.sum::<u64>() - 1;
+    both!(library => {
+        let (tonight, standby) = (plan.clone(), plan.clone());
+        move || run(library::in_force(n, black_box(&tonight), black_box(&standby), slot).is_ok())
+    })
+}
+
+/// What a demand's plan leaves to ask when it is stopped half way.
+fn carry_over<'a>(demand: &'a Demand) -> Pair<'a> {
+    let first = demand.records() as u64 / 2;
+    both!(library => {
+        let (n, cells, plan) = (demand.n as u64, &demand.cells, &demand.plan);
+        let (wished, mut lent) = (vec![1; cells.len()], vec![0; cells.len()]);
+        move || run(library::carry_over(n, black_box(cells), plan, first, &wished, &mut lent))
+    })
+}
+
 /// Joining 8,192 records, of which so many have a setting that none before them has.
 pub fn join_settings<'a>(n: usize, settings: usize) -> Pair<'a> {
     let mut rng = Rng::new(1);
@@ -99,6 +121,11 @@ pub fn same<'a>(call: &str, words: usize, demand: &'a Demand) -> Pair<'a> {
     pair
 }
 
+/// A plan of 8,192 records: this one over and over.
+fn longest(plan: &[u8]) -> Vec<u8> {
+    plan.iter().copied().cycle().take(MOST_RECORDS * RECORD_SIZE).collect()
+}
+
 pub fn pair<'a>(call: &str, demand: &'a Demand) -> Pair<'a> {
     let (n, cells, plan) = (demand.n as u64, &demand.cells, &demand.plan);
     match call {
@@ -113,7 +140,9 @@ pub fn pair<'a>(call: &str, demand: &'a Demand) -> Pair<'a> {
         }),
         "check" => both!(library => move || run(library::check(n, black_box(cells), plan))),
         "length" => both!(library => move || run(library::length(n, black_box(plan), 5))),
-        "join" => join(n, plan.iter().copied().cycle().take(MOST_RECORDS * RECORD_SIZE).collect()),
+        "join" => join(n, longest(plan)),
+        "in_force" => in_force(n, longest(plan)),
+        "carry_over" => carry_over(demand),
         "open" => both!(library => move || run(library::open(n, black_box(plan)))),
         "step_at" => both!(library => move || {
             for at in 0..demand.records() as u64 {

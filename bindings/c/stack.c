@@ -17,11 +17,12 @@
 enum { N = CV_MOST_PORTS, RECORDS = CV_MOST_RECORDS, ROOM = RECORDS * CV_RECORD_SIZE };
 enum { FENCE = 64 * 1024, LARGEST = 256 * 1024, PAINT = 0x5a };
 
-static uint32_t cells[N * N];
+static uint32_t cells[N * N], renewed[N * N];
 static uint8_t plan[ROOM], made[ROOM], list[N * N * CV_WISH_SIZE];
 static size_t room;
 static cv_answer answer;
 static cv_step step;
+static cv_part part;
 static uint8_t *stack;
 static size_t way_in; /* what starting on the stack and the function around the call take */
 static ucontext_t here, there;
@@ -52,6 +53,8 @@ static void join(void) { answer = cv_join(N, plan, ROOM, made, room); }
 static void write_one(void) { answer = cv_write(65535, N, plan + 4, made, room); }
 static void open_plan(void) { answer = cv_open(N, plan, ROOM); }
 static void step_at(void) { step = cv_step_at(N, plan, ROOM, RECORDS - 1); }
+static void in_force(void) { part = cv_in_force(N, plan, ROOM, plan, ROOM, UINT64_MAX); }
+static void carry_over(void) { answer = cv_carry_over(N, cells, N * N, plan, ROOM, RECORDS, cells, N * N, renewed, N * N); }
 
 /* Runs a function on a stack of so many bytes; answers how many it changed, counted from the top. */
 static size_t taken(void (*call)(void), size_t bytes)
@@ -137,7 +140,9 @@ int main(void)
         {"cv_grating_report", report, CV_STACK_GRATING_REPORT},
         {"cv_length", length, CV_STACK_LENGTH},    {"cv_join", join, CV_STACK_JOIN},
         {"cv_write", write_one, CV_STACK_WRITE},   {"cv_open", open_plan, CV_STACK_OPEN},
-        {"cv_step_at", step_at, CV_STACK_STEP_AT}, {"cv_wishes", wishes, CV_STACK_WISHES},
+        {"cv_step_at", step_at, CV_STACK_STEP_AT}, {"cv_in_force", in_force, CV_STACK_IN_FORCE},
+        {"cv_carry_over", carry_over, CV_STACK_CARRY_OVER},
+        {"cv_wishes", wishes, CV_STACK_WISHES},
     };
     uint8_t *fence = mmap(NULL, FENCE + LARGEST, PROT_READ | PROT_WRITE, MAP_PRIVATE | MAP_ANONYMOUS, -1, 0);
     if (fence == MAP_FAILED || mprotect(fence, FENCE, PROT_NONE) != 0)

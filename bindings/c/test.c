@@ -805,6 +805,148 @@ static void opening(void)
     ANSWERS(opened(1, 0, 0), .records = 0);
 }
 
+/* ---- the console ---- */
+
+static uint8_t second[3 * CV_RECORD_SIZE];
+
+/* The record in force, its own bytes in the plans that were lent; the standby plan's bytes are in second. */
+static void in_force(int line, size_t bytes, size_t standby, uint64_t slot, uint64_t which, uint64_t record)
+{
+    const uint8_t *from = lend_bytes(PLAN, plan, bytes);
+    const uint8_t *then = lend_bytes(LIST, second, standby);
+    cv_part part = cv_in_force(2, from, bytes, then, standby, slot);
+    answered(part.answer, (cv_answer){.code = CV_DONE}, "a record in force", line);
+    told(part.plan == which && part.start == record * 68 && part.size == 68, "which record is in force", line);
+    const uint8_t *wanted = (which == CV_TONIGHT ? from : then) + record * 68;
+    told(cv_part_bytes(part, from, then) == wanted, "a part of the plan itself", line);
+}
+#define IN_FORCE(...) in_force(__LINE__, __VA_ARGS__)
+
+static void not_in_force(int line, uint64_t n, size_t bytes, size_t standby, uint64_t slot, cv_answer wanted)
+{
+    const uint8_t *from = lend_bytes(PLAN, plan, bytes);
+    const uint8_t *then = lend_bytes(LIST, second, standby);
+    cv_part part = cv_in_force(n, from, bytes, then, standby, slot);
+    answered(part.answer, wanted, "a refused lookup", line);
+    told(part.plan == 0 && part.start == 0 && part.size == 0, "an empty part", line);
+    told(cv_part_bytes(part, from, then) == NULL, "no part", line);
+}
+#define NOT_IN_FORCE(n, bytes, standby, slot, ...) not_in_force(__LINE__, n, bytes, standby, slot, (cv_answer){__VA_ARGS__})
+
+/* Tonight's plan has 3 and 2 slots, the standby plan 2 and 1. */
+static void lay_two_plans(void)
+{
+    read_plan(2, "2:1 0;1:- -");
+    memcpy(second, plan, 136);
+    read_plan(2, "3:0 1;2:1 -");
+}
+
+static void lookups(void)
+{
+    const struct { uint64_t slot, which, record; } slots[] = {
+        {0, CV_TONIGHT, 0}, {2, CV_TONIGHT, 0}, {3, CV_TONIGHT, 1}, {4, CV_TONIGHT, 1},
+        {5, CV_STANDBY, 0}, {6, CV_STANDBY, 0}, {7, CV_STANDBY, 1}, {8, CV_STANDBY, 0},
+        {10, CV_STANDBY, 1}, {UINT64_MAX, CV_STANDBY, 0}, {UINT64_MAX - 2, CV_STANDBY, 1},
+    };
+    lay_two_plans();
+    for (size_t k = 0; k < sizeof slots / sizeof *slots; k++)
+        IN_FORCE(136, 136, slots[k].slot, slots[k].which, slots[k].record);
+    IN_FORCE(0, 136, 0, CV_STANDBY, 0); /* no plan tonight */
+    IN_FORCE(0, 136, 2, CV_STANDBY, 1);
+    IN_FORCE(136, 0, 4, CV_TONIGHT, 1); /* no standby plan */
+    NOT_IN_FORCE(2, 136, 0, 5, .code = CV_NOT_IN_FORCE);
+    NOT_IN_FORCE(2, 136, 0, UINT64_MAX, .code = CV_NOT_IN_FORCE);
+    NOT_IN_FORCE(2, 0, 0, 0, .code = CV_NOT_IN_FORCE);
+}
+
+static void lookup_refusals(void)
+{
+    lay_two_plans();
+    for (int k = 0; k < NO_PORTS; k++)
+        NOT_IN_FORCE(no_ports[k], 135, 135, 0, .code = CV_PORTS);
+    NOT_IN_FORCE(2, 135, 135, 9, .code = CV_TORN, .place = 1, .about = CV_TONIGHT);
+    NOT_IN_FORCE(2, 136, 135, 0, .code = CV_TORN, .place = 1, .about = CV_STANDBY); /* the slot is tonight's */
+    NOT_IN_FORCE(1, 136, 136, 0, .code = CV_MALFORMED, .place = 0, .about = CV_TONIGHT);
+    second[CV_RECORD_SIZE + 3] = 1;
+    NOT_IN_FORCE(2, 136, 136, 0, .code = CV_MALFORMED, .place = 1, .about = CV_STANDBY);
+    NOT_IN_FORCE(2, 136, 136, 5, .code = CV_MALFORMED, .place = 1, .about = CV_STANDBY);
+    plan[CV_RECORD_SIZE] = 0;
+    NOT_IN_FORCE(2, 136, 136, 0, .code = CV_MALFORMED, .place = 1, .about = CV_TONIGHT);
+    for (size_t k = 0; k < CV_MOST_RECORDS + 1; k++)
+        put_record(k, 1, 2);
+    size_t bytes = (CV_MOST_RECORDS + 1) * CV_RECORD_SIZE;
+    NOT_IN_FORCE(2, bytes, 0, 0, .code = CV_RECORDS, .place = 8192, .about = CV_TONIGHT);
+    const uint8_t *most = lend_bytes(PLAN, plan, bytes);
+    cv_part part = cv_in_force(2, NULL, 0, most, bytes, 0);
+    answered(part.answer, (cv_answer){.code = CV_RECORDS, .place = 8192, .about = CV_STANDBY}, "a long standby plan", __LINE__);
+}
+
+/* The demand is in cells, the wishes behind them; the plan's bytes are in plan. */
+static cv_answer carried(uint64_t n, size_t asked, size_t wished, size_t bytes, uint64_t first, size_t count)
+{
+    const uint8_t *from = lend_bytes(PLAN, plan, bytes);
+    const uint32_t *added = (const uint32_t *)(const void *)lend_bytes(LIST, (const uint8_t *)(cells + asked), wished * 4);
+    uint32_t *into = (uint32_t *)(void *)lend(RESULT, count * 4);
+    return cv_carry_over(n, lend_cells(cells, asked), asked, from, bytes, first, added, wished, into, count);
+}
+
+static void carries(int line, const char *both, uint64_t first, const uint32_t *wanted)
+{
+    read_cells(both);
+    read_plan(2, "3:0 1;2:1 -;9:- 1");
+    answered(carried(2, 4, 4, 204, first, 4), (cv_answer){.code = CV_DONE}, "a carry-over", line);
+    told(memcmp(lent_at(RESULT), wanted, 16) == 0, "the new demand", line);
+    told(untouched(RESULT, 16), "no other byte", line);
+}
+#define CARRIES(both, first, ...) carries(__LINE__, both, first, (const uint32_t[]){__VA_ARGS__})
+
+static void not_carried(int line, uint64_t n, size_t asked, size_t wished, size_t bytes, uint64_t first, size_t count, cv_answer wanted)
+{
+    answered(carried(n, asked, wished, bytes, first, count), wanted, "a refused carry-over", line);
+    told(untouched(RESULT, 0), "a refused carry-over writes nothing", line);
+}
+#define NOT_CARRIED(n, asked, wished, bytes, first, count, ...) \
+    not_carried(__LINE__, n, asked, wished, bytes, first, count, (cv_answer){__VA_ARGS__})
+
+static void carry_overs(void)
+{
+    CARRIES("4 1 / 1 5 / 0 0 / 0 0", 0, 4, 1, 1, 5);
+    CARRIES("4 1 / 1 5 / 0 0 / 0 0", 1, 1, 1, 1, 2);
+    CARRIES("4 1 / 1 5 / 0 0 / 0 0", 2, 1, 0, 1, 2); /* a slot granted beyond what was asked is lost */
+    CARRIES("4 1 / 1 5 / 0 0 / 0 0", 3, 1, 0, 1, 0);
+    CARRIES("4 1 / 1 5 / 1 2 / 3 4", 2, 2, 2, 4, 6);
+    CARRIES("0 0 / 0 0 / 1 0 / 0 1", 3, 1, 0, 0, 1); /* a wish of 1 stays 1 */
+    CARRIES("65535 0 / 0 65535 / 3 0 / 0 0", 1, 65535, 0, 0, 65532);
+}
+
+static void carry_over_refusals(void)
+{
+    read_cells("4 1 / 1 5 / 1 2 / 3 4");
+    read_plan(2, "3:0 1;2:1 -;9:- 1");
+    for (int k = 0; k < NO_PORTS; k++)
+        NOT_CARRIED(no_ports[k], 4, 3, 203, 9, 4, .code = CV_PORTS);
+    NOT_CARRIED(2, 3, 4, 203, 9, 4, .code = CV_CELLS, .place = 4);
+    NOT_CARRIED(2, 4, 3, 203, 9, 4, .code = CV_CELLS, .place = 4);
+    NOT_CARRIED(2, 4, 4, 203, 9, 5, .code = CV_CELLS, .place = 4);
+    NOT_CARRIED(2, 4, 4, 203, 9, 4, .code = CV_TORN, .place = 2, .about = CV_PLAN);
+    NOT_CARRIED(2, 4, 4, 204, 4, 4, .code = CV_FIRST_OVER, .place = 3);
+    NOT_CARRIED(2, 4, 4, 204, UINT64_MAX, 4, .code = CV_FIRST_OVER, .place = 3);
+    NOT_CARRIED(2, 4, 4, 0, 1, 4, .code = CV_FIRST_OVER, .place = 0);
+    read_cells("1 65535 / 0 0 / 65535 0 / 1 0");
+    NOT_CARRIED(2, 4, 4, 204, 4, 4, .code = CV_FIRST_OVER, .place = 3); /* before 3 */
+    NOT_CARRIED(2, 4, 4, 204, 0, 4, .code = CV_LINE, .place = 0, .side = CV_INPUT, .about = CV_DEMAND);
+    read_cells("1 65534 / 0 0 / 65535 0 / 1 0");
+    NOT_CARRIED(2, 4, 4, 204, 0, 4, .code = CV_LINE, .place = 0, .side = CV_OUTPUT, .about = CV_WISHED);
+    read_cells("1 0 / 0 65535 / 0 0 / 0 4");
+    NOT_CARRIED(2, 4, 4, 204, 1, 4, .code = CV_LINE, .place = 1, .side = CV_INPUT, .about = CV_SUM);
+    read_plan(2, "3:0 1;0:1 -;9:- 1");
+    NOT_CARRIED(2, 4, 4, 204, 0, 4, .code = CV_MALFORMED, .place = 1, .about = CV_PLAN); /* behind the first records */
+    NOT_CARRIED(2, 4, 4, 204, 9, 4, .code = CV_MALFORMED, .place = 1, .about = CV_PLAN); /* before 15 */
+    for (size_t k = 0; k < CV_MOST_RECORDS + 1; k++)
+        put_record(k, 1, 2);
+    NOT_CARRIED(2, 4, 4, (CV_MOST_RECORDS + 1) * CV_RECORD_SIZE, 0, 4, .code = CV_RECORDS, .place = 8192, .about = CV_PLAN);
+}
+
 int main(void)
 {
     planner *const planners[] = {cv_exact, cv_doubled, cv_doubled_every_rotation, cv_quick, cv_grating_doubled};
@@ -834,6 +976,10 @@ int main(void)
     stepping();
     reports();
     opening();
+    lookups();
+    lookup_refusals();
+    carry_overs();
+    carry_over_refusals();
     printf("%d passed, %d failed\n", passed, failed);
     return failed != 0;
 }

@@ -150,6 +150,36 @@ pub fn step_at(n: u64, plan: &[u8], at: u64) -> Step {
     }
 }
 
+/// The record in force at a slot, its own bytes: a part of tonight's plan or, once that is over, of the
+/// standby plan, which begins there and repeats.
+pub fn in_force<'a>(n: u64, tonight: &'a [u8], standby: &'a [u8], slot: u64) -> Result<&'a [u8], Refused> {
+    let part = unsafe {
+        sys::cv_in_force(n, tonight.as_ptr(), tonight.len(), standby.as_ptr(), standby.len(), slot)
+    };
+    part.answer.done()?;
+    let plan = if part.plan == 1 { tonight } else { standby };
+    Ok(&plan[part.start as usize..][..part.size as usize])
+}
+
+/// The new demand of a batch that was stopped after the plan's first `first` records: for each pair what
+/// it asked beyond its grants, and its new wish on top; the new wishes are cells too.
+pub fn carry_over(n: u64, asked: &[u32], plan: &[u8], first: u64, wished: &[u32], cells: &mut [u32]) -> Answer {
+    unsafe {
+        sys::cv_carry_over(
+            n,
+            asked.as_ptr(),
+            asked.len(),
+            plan.as_ptr(),
+            plan.len(),
+            first,
+            wished.as_ptr(),
+            wished.len(),
+            cells.as_mut_ptr(),
+            cells.len(),
+        )
+    }
+}
+
 /// One setting of a plan and its hold.
 #[derive(Clone, Copy, Debug, PartialEq, Eq)]
 pub struct Record {
@@ -241,13 +271,22 @@ pub struct Refused(pub Answer);
 
 impl fmt::Display for Refused {
     fn fmt(&self, f: &mut fmt::Formatter<'_>) -> fmt::Result {
-        let Answer { code, place, side, .. } = self.0;
+        let Answer { code, place, side, about, .. } = self.0;
         let line = match side {
             1 => format!("the line of input {place}"),
             2 => format!("the line of output {place}"),
             _ => "a line".to_string(),
         };
         write!(f, "refused, code {code}: ")?;
+        match about {
+            1 => write!(f, "in tonight's plan, ")?,
+            2 => write!(f, "in the standby plan, ")?,
+            3 => write!(f, "in the plan, ")?,
+            4 => write!(f, "in the demand, ")?,
+            5 => write!(f, "in the new wishes, ")?,
+            6 => write!(f, "in the new demand, ")?,
+            _ => (),
+        }
         match code {
             1 => write!(f, "the number of ports is 0 or over the largest"),
             2 => write!(f, "the cells lent are not {place}"),
@@ -262,6 +301,8 @@ impl fmt::Display for Refused {
             11 => write!(f, "record {place} is not well formed"),
             12 => write!(f, "wish {place} names a pair that was named before"),
             13 => write!(f, "cell {place} is not covered"),
+            14 => write!(f, "tonight's plan is over, and there is no standby plan"),
+            15 => write!(f, "the plan has only {place} records"),
             _ => write!(f, "place {place}"),
         }
     }

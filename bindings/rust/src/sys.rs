@@ -32,9 +32,21 @@ pub struct RawStep {
     pub outputs: [u8; 64],
 }
 
+/// Where the record in force stands: bytes start .. start + size of plan 1, tonight's, or 2, standby's;
+/// all three are 0 where the call is refused.
+#[repr(C)]
+#[derive(Clone, Copy, Debug, PartialEq, Eq)]
+pub struct RawPart {
+    pub answer: Answer,
+    pub plan: u64,
+    pub start: u64,
+    pub size: u64,
+}
+
 // The header pins the same sizes: an answer is returned by value, so both sides must agree on them.
 const _: () = assert!(size_of::<Answer>() == 88);
 const _: () = assert!(size_of::<RawStep>() == 88);
+const _: () = assert!(size_of::<RawPart>() == 112);
 
 extern "C" {
     pub fn cv_version() -> u64;
@@ -76,4 +88,24 @@ extern "C" {
     pub fn cv_write(hold: u16, n: u64, outputs: *const u8, plan: *mut u8, plan_len: usize) -> Answer;
     pub fn cv_open(n: u64, plan: *const u8, plan_len: usize) -> Answer;
     pub fn cv_step_at(n: u64, plan: *const u8, plan_len: usize, at: u64) -> RawStep;
+    pub fn cv_in_force(
+        n: u64,
+        tonight: *const u8,
+        tonight_len: usize,
+        standby: *const u8,
+        standby_len: usize,
+        slot: u64,
+    ) -> RawPart;
+    pub fn cv_carry_over(
+        n: u64,
+        asked: *const u32,
+        asked_len: usize,
+        plan: *const u8,
+        plan_len: usize,
+        first: u64,
+        wished: *const u32,
+        wished_len: usize,
+        cells: *mut u32,
+        cells_len: usize,
+    ) -> Answer;
 }

@@ -24,7 +24,7 @@ fn expected(outcome: Outcome) -> Answer {
 
 /// The codes met.
 #[derive(Default)]
-struct Met([usize; 14]);
+struct Met([usize; 16]);
 
 impl Met {
     fn note(&mut self, answer: Answer) {
@@ -398,6 +398,120 @@ fn open() {
         met.note(answer);
     }
     met.are(&[0, 1, 9, 10]);
+}
+
+fn named(refused: reference::Named) -> Answer {
+    let reference::Named(about, why) = refused;
+    Answer { about: about as u64, ..expected(Err(why)) }
+}
+
+/// A part of the reference with every field of the C struct.
+fn raw_part(part: Result<reference::Part, reference::Named>) -> sys::RawPart {
+    let (answer, plan, start) = match part {
+        Ok(reference::Part::Tonight(start)) => (Answer::default(), 1, start as u64),
+        Ok(reference::Part::Standby(start)) => (Answer::default(), 2, start as u64),
+        Err(refused) => return sys::RawPart { answer: named(refused), plan: 0, start: 0, size: 0 },
+    };
+    sys::RawPart { answer, plan, start, size: RECORD_SIZE as u64 }
+}
+
+/// The total hold of a plan, damaged or not.
+fn slots(plan: &[u8]) -> u64 {
+    plan.chunks_exact(RECORD_SIZE).map(|record| u64::from(record[0]) + 256 * u64::from(record[1])).sum()
+}
+
+/// A slot where something changes in two plans, or any.
+fn slot(rng: &mut Rng, tonight: &[u8], standby: &[u8]) -> u64 {
+    let (first, second) = (slots(tonight), slots(standby));
+    let within = rng.below(tonight.len() / RECORD_SIZE + 1) * RECORD_SIZE;
+    let edge = rng.pick(&[0, slots(&tonight[..within]), first, first + second, first + 2 * second, u64::MAX]);
+    match rng.below(4) {
+        0 => rng.draw(),
+        1 => rng.below((first + 3 * second) as usize + 1) as u64,
+        _ => edge.saturating_sub(rng.below(2) as u64),
+    }
+}
+
+#[test]
+fn in_force() {
+    let mut rng = Rng::new(31);
+    let mut met = Met::default();
+    let mut about = [0; 7];
+    for case in 0..2 * CASES {
+        let ports = cases::ports(&mut rng);
+        let tonight = if rng.one_in(8) { Vec::new() } else { plan(&mut rng, ports) };
+        let standby = match rng.below(6) {
+            0 => Vec::new(),
+            1 => tonight.clone(),
+            _ => plan(&mut rng, ports),
+        };
+        let n = if rng.one_in(24) { cases::wild_ports(&mut rng, ports) } else { ports as u64 };
+        let slot = slot(&mut rng, &tonight, &standby);
+        let wanted = raw_part(reference::in_force(n, &tonight, &standby, slot));
+        let (first, second) = ((tonight.as_ptr(), tonight.len()), (standby.as_ptr(), standby.len()));
+        let part = unsafe { sys::cv_in_force(n, first.0, first.1, second.0, second.1, slot) };
+        let said = || format!("case {case}: N = {n}, slot {slot}, {tonight:?} and {standby:?}");
+        assert_eq!(part, wanted, "{}", said());
+        let plan = [&[][..], &tonight, &standby][part.plan as usize];
+        let bytes = &plan[part.start as usize..][..part.size as usize];
+        match chordvenus::in_force(n, &tonight, &standby, slot) {
+            Ok(own) => assert!(own.as_ptr() == bytes.as_ptr() && own == bytes, "another part, {}", said()),
+            Err(refused) => assert_eq!((refused.0, bytes.len()), (wanted.answer, 0), "{}", said()),
+        }
+        about[part.answer.about as usize] += 1;
+        met.note(part.answer);
+    }
+    met.are(&[0, 1, 9, 10, 11, 14]);
+    assert!(about[1] >= ENOUGH && about[2] >= ENOUGH, "about: {about:?}");
+}
+
+/// Cells of a carry-over: fine, over a line's limit, or close to it.
+fn lines(rng: &mut Rng, n: usize) -> Vec<u32> {
+    let most = rng.pick(&[20, 1_000, 40_000, 65_535]);
+    let mut cells = cases::demand(rng, n, most);
+    if rng.one_in(10) {
+        cases::overload(rng, &mut cells);
+    }
+    cells
+}
+
+#[test]
+fn carry_over() {
+    let mut rng = Rng::new(32);
+    let mut met = Met::default();
+    let mut about = [0; 7];
+    for case in 0..2 * CASES {
+        let ports = cases::ports(&mut rng);
+        let (mut asked, mut wished) = (lines(&mut rng, ports), lines(&mut rng, ports));
+        let mut len = ports * ports;
+        if rng.one_in(12) {
+            let wrong = cases::wrong_size(&mut rng, ports);
+            match rng.below(3) {
+                0 => asked.resize(wrong, 1),
+                1 => wished.resize(wrong, 1),
+                _ => len = wrong,
+            }
+        }
+        let plan = plan(&mut rng, ports);
+        let n = if rng.one_in(24) { cases::wild_ports(&mut rng, ports) } else { ports as u64 };
+        let records = (plan.len() / RECORD_SIZE) as u64;
+        let first = match rng.below(8) {
+            0 => rng.pick(&[records + 1, u64::MAX, 1 << 32, 1 << 16]),
+            1 => records,
+            _ => rng.below(records as usize + 1) as u64,
+        };
+        let mut lent = Lent::new(&mut rng, len, |rng| rng.draw() as u32);
+        let mut wanted = lent.clone();
+        let answer = chordvenus::carry_over(n, &asked, &plan, first, &wished, lent.middle());
+        let done = reference::carry_over(n, &asked, &plan, first, &wished, wanted.middle());
+        let said = || format!("case {case}: N = {n}, first {first}, {asked:?}, {wished:?}, {plan:?}");
+        assert_eq!(answer, done.map_or_else(named, |()| Answer::default()), "{}", said());
+        assert!(lent == wanted, "other cells, {}", said());
+        about[answer.about as usize] += 1;
+        met.note(answer);
+    }
+    met.are(&[0, 1, 2, 3, 9, 10, 11, 15]);
+    assert!(about[3..].iter().all(|&times| times >= ENOUGH), "about: {about:?}");
 }
 
 /// A step of the reference with every field of the C struct.

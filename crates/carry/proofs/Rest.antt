@@ -1,4 +1,4 @@
--- The new demand, pair by pair: old asked plus new asked is the new demand plus what was usefully granted.
+-- The new demand, pair by pair: what was asked, before and newly, is the new demand and what the smaller of asked and granted served.
 use mathlib.Core.Path.{_≡_, refl, sym, ap, ap₂, _∙_}
 use mathlib.Core.List.{List, []}
 use mathlib.Core.Logic.{dite}
@@ -54,14 +54,14 @@ module _ (N : ℕ) (asked wished : List ℕ) (p : List Record) where
   new-at k l = getD-listOf (N * N) (λ x. renewed (cell N asked) (grant p) (cell N wished) (x / N) (x % N)) k l
 
   module _ (i j : ℕ) (li : i < N) (lj : j < N) where
-    -- in each cell what was asked and not granted, plus the new wish
+    -- a cell of the new demand
     pub new-cell : cell N (newDemand N asked wished p) i j ≡ (cell N asked i j - grant p i j) + cell N wished i j
     unfolding cell renewed
     new-cell =
         new-at (i * N + j) (digits-lt {q = i} {m = N} {r = j} {c = N} li lj)
         ∙ ap₂ {C = ℕ} (λ (a b : ℕ). renewed (cell N asked) (grant p) (cell N wished) a b) (digits-div i lj) (digits-mod i lj)
 
-    -- old asked plus new asked equals the new demand plus what was usefully granted
+    -- the books balance at each pair
     pub kept : cell N asked i j + cell N wished i j ≡ cell N (newDemand N asked wished p) i j + useful (cell N asked) (grant p) i j
     unfolding useful
     kept = omega (arith, new-cell)

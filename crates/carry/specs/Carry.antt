@@ -49,7 +49,7 @@ abbrev pub afterPlan : Outcome → Carried → Carried
 afterPlan (outcome.Done c) next = next
 afterPlan (outcome.Refused r) next = Refused about.Plan r
 
--- what is refused before the sum is known; code 2 where any of the three lent cell buffers is not N²
+-- what is refused before the sum is known; code 2 where asked, wished or new cells are not N²
 unfoldable pub faultOf : (E : Edition) (N : ℕ) (asked plan : List ℕ) (first : ℕ) (wished : List ℕ) (room : ℕ) → Carried
 faultOf E N asked plan first wished room =
     unless (portsFine (E .ports) N) (plain Ports)

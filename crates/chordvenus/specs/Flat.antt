@@ -5,8 +5,16 @@ use mathlib.Core.List.{List}
 use Prim.Native.Nat.{ℕ}
 use lib.Dec.{eqb}
 use Rattle.switch.specs.declared.Outcome.{Outcome}
-use Rattle.switch.specs.Answer.{codeOf, placeOf, sideOf, countsOf}
+use Rattle.switch.specs.declared.Outcome.the-variants.{Done, Refused}
+use Rattle.switch.specs.declared.About.{About}
+use Rattle.switch.specs.declared.About.the-variants as about
+use Rattle.switch.specs.declared.Edition.{Edition}
+use Rattle.switch.specs.Answer.{codeOf, placeOf, sideOf, countsOf, noCounts, aboutNumber}
 use Rattle.switch.specs.Result.{Result}
+use Rattle.lookup.specs.declared.Found.{Found}
+use Rattle.carry.specs.declared.Carried.{Carried}
+use Rattle.carry.specs.declared.Carried.the-variants as carried
+use Rattle.carry.specs.Carry.{newCells, carryOver, cellsAfter}
 use Rattle.wish.specs.declared.Wish.{Wish}
 use Rattle.wish.specs.Wish as wish
 use Rattle.plans.specs.declared.Step.{Step}
@@ -14,15 +22,16 @@ use Rattle.plans.specs.declared.Step.the-variants.{Record, End, Malformed}
 use Rattle.plans.specs.declared.Stepped.{Stepped}
 use Rattle.plans.specs.Read.{stepPlace}
 use Rattle.chordvenus.specs.declared.CvAnswer.{CvAnswer}
+use Rattle.chordvenus.specs.declared.CvPart.{CvPart}
 use Rattle.chordvenus.specs.declared.CvStep.{CvStep}
 
 -- the version of the edge, which the header names too
 abbrev pub version : ℕ
 version = 1
 
--- code, place, side, records, T, total, length and empty slots; nothing is added or dropped, and there is one plan or demand to be about
-abbrev pub flat : Outcome → CvAnswer
-flat o =
+-- code, place, side, records, T, total, length and empty slots, and what a refusal is about; nothing is added or dropped
+abbrev pub flatAbout : Outcome → About → CvAnswer
+flatAbout o a =
     record {
       code = codeOf o;
       place = placeOf o;
@@ -34,8 +43,12 @@ flat o =
       empty = countsOf o .empty;
       added = 0;
       dropped = 0;
-      about = 0;
+      about = aboutNumber a;
     }
+
+-- where there is one plan or demand to be about
+abbrev pub flat : Outcome → CvAnswer
+flat o = flatAbout o about.Nothing
 
 -- what crosses the edge is what a call gives: the numbers of its outcome, and the bytes that it leaves
 pub record Crosses (given : Result) (r : CvAnswer) (after : List ℕ) : Type 0 where
@@ -71,3 +84,17 @@ kindCode k = cond (eqb k 2) 11 0
 
 abbrev pub flatStep : Stepped → CvStep
 flatStep s = record { kind = kindOf (s .step); place = stepPlace (s .step); hold = s .hold; outputs = s .outputs }
+
+-- where a lookup found the record in force
+abbrev pub flatPart : Found → CvPart
+flatPart f = record { answer = flatAbout (f .outcome) (f .about); plan = f .plan; start = f .start; size = f .size }
+
+-- a carry-over counts nothing
+abbrev pub flatCarried : Carried → CvAnswer
+flatCarried carried.Done = flat (Done noCounts)
+flatCarried (carried.Refused a r) = flatAbout (Refused r) a
+
+-- a carry-over's answer in numbers, and the lent cells
+pub record CarriesFlat (E : Edition) (N : ℕ) (asked plan : List ℕ) (first : ℕ) (wished before : List ℕ) (r : CvAnswer) (after : List ℕ) : Type 0 where
+  pub answer : r ≡ flatCarried (carryOver E N asked plan first wished before)
+  pub cells : after ≡ cellsAfter (carryOver E N asked plan first wished before) (newCells E N asked plan first wished) before

@@ -1,7 +1,9 @@
 // The edge: every public call as a C function, for callers that are not written in Rattle. Each function calls one public function and
 // flattens its answer to the numbers of document 01; include/chordvenus.h says what each call does. No thinking stands here: what a
 // call promises is its own crate's matter, and every field of an answer is given by that promise.
+use carry::Carried;
 use plans::Step;
+use switch::About;
 use switch::Outcome;
 ghost use mathlib.Core.Path.{_≡_};
 ghost use lib.ListN.{length};
@@ -21,7 +23,8 @@ ghost use Rattle.wavelengths.specs.Report.{reported};
 ghost use Rattle.grating.specs.Grating.{gratingPlanned};
 ghost use Rattle.room.specs.declared.Planner.the-variants.{Exact, Doubled, Quick};
 ghost use Rattle.room.specs.Room.{secondEdition, roomed};
-ghost use Rattle.chordvenus.specs.Flat.{version, flat, kindOf, flatStep, flatWish, Crosses};
+ghost use Rattle.lookup.specs.Lookup.{spotOf, foundOf};
+ghost use Rattle.chordvenus.specs.Flat.{version, flat, flatAbout, kindOf, flatStep, flatWish, flatPart, flatCarried, Crosses, CarriesFlat};
 
 // The version of the structs and functions below. A struct that is returned by value cannot grow: whoever adds a field makes it one more.
 const VERSION: u64 = 1;
@@ -51,6 +54,15 @@ pub struct CvStep {
     pub place: u64,
     pub hold: u64,
     pub outputs: [u8; 64],
+}
+
+// Where the record in force stands: bytes start .. start + size of plan 1, tonight's, or 2, standby's; all 0 where the lookup is refused.
+#[repr(C)]
+pub struct CvPart {
+    pub answer: CvAnswer,
+    pub plan: u64,
+    pub start: u64,
+    pub size: u64,
 }
 
 // The version of the archive, for a caller to hold against its header's.
@@ -242,6 +254,37 @@ pub extern "C" fn cv_step_at(n: usize, plan: &[u8], at: usize) -> CvStep
     }
 }
 
+// The record in force at a slot of two plans.
+#[no_mangle]
+pub extern "C" fn cv_in_force(n: usize, tonight: &[u8], standby: &[u8], slot: u64) -> CvPart
+    ensures { λ r. ⌜ r ≡ flatPart (foundOf firstEdition (spotOf firstEdition n (now (tonight .entry)) (now (standby .entry)) slot)) ⌝ }
+{
+    let found = lookup::find(n, tonight, standby, slot);
+    let outcome = found.outcome;
+    let about = found.about;
+    CvPart {
+        answer: flatten_about(outcome, about),
+        plan: found.plan,
+        start: found.start as u64,
+        size: found.size as u64,
+    }
+}
+
+// The new demand of a batch that was stopped after its first records.
+#[no_mangle]
+pub extern "C" fn cv_carry_over(
+    n: usize,
+    asked: &[u32],
+    plan: &[u8],
+    first: usize,
+    wished: &[u32],
+    cells: &mut [u32],
+) -> CvAnswer
+    ensures { λ r. ⌜ CarriesFlat firstEdition n (now (asked .entry)) (now (plan .entry)) first (now (wished .entry)) (now (cells .entry)) r (now (cells .exit)) ⌝ }
+{
+    flatten_carried(carry::carry_over(n, asked, plan, first, wished, cells))
+}
+
 // A step's kind.
 fn kind_of(step: Step) -> u64
     ensures { λ r. ⌜ r ≡ kindOf step ⌝ }
@@ -264,9 +307,26 @@ fn place_of(step: Step) -> u64
     }
 }
 
-// An outcome as document 01's numbers.
+// An outcome in numbers, where there is one plan or demand to be about.
 fn flatten(o: Outcome) -> CvAnswer
     ensures { λ r. ⌜ r ≡ flat o ⌝ }
+{
+    flatten_about(o, About::Nothing)
+}
+
+// A carry-over's answer in numbers; nothing is counted.
+fn flatten_carried(c: Carried) -> CvAnswer
+    ensures { λ r. ⌜ r ≡ flatCarried c ⌝ }
+{
+    match c {
+        Carried::Done => flatten(Outcome::Done(plans::counted(0, 0, 0))),
+        Carried::Refused(about, r) => flatten_about(Outcome::Refused(r), about),
+    }
+}
+
+// An outcome in numbers, and what it is about.
+fn flatten_about(o: Outcome, about: About) -> CvAnswer
+    ensures { λ r. ⌜ r ≡ flatAbout o about ⌝ }
 {
     let told = switch::numbers_of(o);
     let counts = told.counts;
@@ -281,6 +341,6 @@ fn flatten(o: Outcome) -> CvAnswer
         empty: counts.empty,
         added: 0,
         dropped: 0,
-        about: 0,
+        about: switch::about_number(about),
     }
 }

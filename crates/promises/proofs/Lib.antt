@@ -22,3 +22,5 @@ pub mod Wrong
 pub mod Edge
 pub mod Larger
 pub mod Rooms
+pub mod Lookup
+pub mod Carry

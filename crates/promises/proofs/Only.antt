@@ -1,4 +1,7 @@
 -- Any two results that meet a call's contract are equal: each contract gives answer and lent memory by a definition, and what equals one thing is one thing.
+use Rattle.carry.specs.declared.Carried.{Carried}
+use Rattle.carry.specs.Carry.{newCells, cellsAfter}
+use Rattle.switch.specs.Editions.{firstEdition}
 use mathlib.Core.Path.{_≡_, sym, ap, _∙_}
 use mathlib.Core.List.{List}
 use Prim.Native.Nat.{ℕ}
@@ -93,6 +96,11 @@ find-one-answer N tonight standby slot = one _
 pub part-one-answer : (N : ℕ) (tonight standby : List ℕ) (slot : ℕ) → OneAnswer (call.PartInForce N tonight standby slot)
 part-one-answer N tonight standby slot = one _
 
+pub carry-over-one-result : (N : ℕ) (asked plan : List ℕ) (first : ℕ) (wished cells : List ℕ) → OneResult (call.CarryOver N asked plan first wished cells)
+carry-over-one-result N asked plan first wished cells a b l m p q =
+    let same : a ≡ b = one _ a b (p .answer) (q .answer) in
+    (same, p .cells ∙ ap (λ (x : Carried). cellsAfter x (newCells firstEdition N asked plan first wished) cells) same ∙ sym (q .cells))
+
 pub exact-room-one-answer : (E : Edition) (N T : ℕ) → OneAnswer (call.RoomFor E Exact N T)
 exact-room-one-answer E N T = one _
 
@@ -154,3 +162,9 @@ cv-open-one-answer N plan = one _
 
 pub cv-step-at-one-answer : (N : ℕ) (plan : List ℕ) (at : ℕ) → OneAnswer (call.CvStepAt N plan at)
 cv-step-at-one-answer N plan at = one _
+
+pub cv-in-force-one-answer : (N : ℕ) (tonight standby : List ℕ) (slot : ℕ) → OneAnswer (call.CvInForce N tonight standby slot)
+cv-in-force-one-answer N tonight standby slot = one _
+
+pub cv-carry-over-one-result : (N : ℕ) (asked plan : List ℕ) (first : ℕ) (wished cells : List ℕ) → OneResult (call.CvCarryOver N asked plan first wished cells)
+cv-carry-over-one-result N asked plan first wished cells a b l m p q = (one _ a b (p .answer) (q .answer), one _ l m (p .cells) (q .cells))

@@ -25,6 +25,8 @@ use Rattle.reader.specs.declared.Opened.{Opened}
 use Rattle.reader.specs.Reader.{starting, movedTo}
 use Rattle.room.specs.declared.Planner.{Planner}
 use Rattle.room.specs.Room.{roomed}
+use Rattle.carry.specs.declared.Carried.{Carried}
+use Rattle.carry.specs.Carry.{Carries}
 use Rattle.lookup.specs.declared.Found.{Found}
 use Rattle.lookup.specs.Lookup.{spotOf, partOf, foundOf}
 use Rattle.checker.specs.Check.{checkPlan}
@@ -35,7 +37,8 @@ use Rattle.grating.specs.Grating.{gratingPlanned}
 use Rattle.listing.specs.Listing.{listingOf}
 use Rattle.chordvenus.specs.declared.CvAnswer.{CvAnswer}
 use Rattle.chordvenus.specs.declared.CvStep.{CvStep}
-use Rattle.chordvenus.specs.Flat.{version, flat, flatWish, flatStep, Crosses}
+use Rattle.chordvenus.specs.declared.CvPart.{CvPart}
+use Rattle.chordvenus.specs.Flat.{version, flat, flatWish, flatStep, flatPart, Crosses, CarriesFlat}
 
 -- the answer is x, and the lent memory is m afterwards
 abbrev pub Leaves : {A : Type 0} → A → List ℕ → A → List ℕ → Type 0
@@ -123,6 +126,10 @@ FindInForce N tonight standby slot r = r ≡ foundOf firstEdition (spotOf firstE
 abbrev pub PartInForce : ℕ → List ℕ → List ℕ → ℕ → List ℕ → Type 0
 PartInForce N tonight standby slot r = r ≡ partOf firstEdition (spotOf firstEdition N tonight standby slot) tonight standby
 
+-- carry::carry_over(n, asked, plan, first, wished, cells)
+abbrev pub CarryOver : ℕ → List ℕ → List ℕ → ℕ → List ℕ → List ℕ → Carried → List ℕ → Type 0
+CarryOver N asked plan first wished cells = Carries firstEdition N asked plan first wished cells
+
 -- ---- room::exact_room(n, longest), doubled_room(n, longest) and quick_room(n, longest), and those of the second edition
 abbrev pub RoomFor : Edition → Planner → ℕ → ℕ → Outcome → Type 0
 RoomFor E planner N T r = r ≡ roomed E planner N T
@@ -196,3 +203,11 @@ CvOpen N plan r = r ≡ flat (opening firstEdition N plan)
 -- cv_step_at(n, plan, at)
 abbrev pub CvStepAt : ℕ → List ℕ → ℕ → CvStep → Type 0
 CvStepAt N plan at r = r ≡ flatStep (stepAt N plan at)
+
+-- cv_in_force(n, tonight, standby, slot)
+abbrev pub CvInForce : ℕ → List ℕ → List ℕ → ℕ → CvPart → Type 0
+CvInForce N tonight standby slot r = r ≡ flatPart (foundOf firstEdition (spotOf firstEdition N tonight standby slot))
+
+-- cv_carry_over(n, asked, plan, first, wished, cells)
+abbrev pub CvCarryOver : ℕ → List ℕ → List ℕ → ℕ → List ℕ → List ℕ → CvAnswer → List ℕ → Type 0
+CvCarryOver N asked plan first wished cells = CarriesFlat firstEdition N asked plan first wished cells

@@ -18,3 +18,5 @@ pub mod Checked
 pub mod Wrong
 pub mod Larger
 pub mod Rooms
+pub mod Lookup
+pub mod Carry

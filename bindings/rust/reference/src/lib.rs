@@ -5,6 +5,7 @@
 //! the proved library's speed is measured against, so it is written to be fast. [`slow`] says the
 //! same plans once more in the plainest words, to test the fast ones.
 
+mod console;
 mod exact;
 mod grating;
 mod join;
@@ -15,6 +16,7 @@ mod room;
 pub mod slow;
 mod wishes;
 
+pub use console::{carry_over, in_force, About, Named, Part};
 pub use exact::exact;
 pub use grating::{grating_doubled, grating_report};
 pub use join::join;
@@ -46,7 +48,7 @@ pub enum Side {
     Output(usize),
 }
 
-/// Why a call was refused, with its place where it has one, in the order of the codes 1 to 13.
+/// Why a call was refused, with its place where it has one, in the order of the codes 1 to 15.
 #[derive(Clone, Copy, Debug, PartialEq, Eq)]
 pub enum Refusal {
     Ports,
@@ -64,6 +66,8 @@ pub enum Refusal {
     Malformed(usize),
     Named(usize),
     Uncovered(usize),
+    NotInForce,
+    FirstOver(usize),
 }
 
 /// What a successful call counts; what does not apply is 0.
@@ -106,6 +110,8 @@ impl From<Outcome> for Numbers {
             Err(Refusal::Malformed(record)) => (11, record, 0),
             Err(Refusal::Named(record)) => (12, record, 0),
             Err(Refusal::Uncovered(cell)) => (13, cell, 0),
+            Err(Refusal::NotInForce) => (14, 0, 0),
+            Err(Refusal::FirstOver(records)) => (15, records, 0),
         };
         Numbers { code, place: place as u64, side, counts: Counts::default() }
     }

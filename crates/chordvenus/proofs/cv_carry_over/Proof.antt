@@ -1,0 +1,31 @@
+-- The call's own answer, flattened, and what it leaves in the lent cells.
+use mathlib.Core.Path.{ap, _∙_}
+use Rattle.carry.specs.declared.Carried.{Carried}
+use Rattle.carry.specs.Carry.{newCells, cellsAfter}
+use Rattle.switch.specs.Editions.{firstEdition}
+use Rattle.chordvenus.specs.Flat.{flatCarried}
+use borrow.Author.Needs.{needs}
+use Rattle.chordvenus.proofs.cv_carry_over.Statement.{statement}
+use Rattle.chordvenus.proofs.cv_carry_over.Tie as tie
+
+carry-over-requires : tie.Need-carry-over-requires
+carry-over-requires c κs = search needs
+
+flatten-carried-requires : tie.Need-flatten-carried-requires
+flatten-carried-requires c κs = search needs
+
+same-length : tie.Need-same-length
+same-length c = search needs
+
+returns : tie.Need-returns
+returns c =
+    let a = c .before .before .before .before .before .before .before .before .before .args in
+    let k = c .before .before .before .carry-over .ensures in
+    let new = newCells firstEdition (a .n) (a .asked .now) (a .plan .now) (a .first) (a .wished .now) in
+    record {
+      answer = c .flatten-carried .ensures ∙ ap flatCarried (k .answer);
+      cells = k .cells ∙ ap (λ (x : Carried). cellsAfter x new (a .cells .now)) (k .answer);
+    }
+
+pub cv-carry-over-spec : {M : Type 1} → statement M
+cv-carry-over-spec = tie.close (tie.spec carry-over-requires flatten-carried-requires same-length returns)
