@@ -28,7 +28,7 @@ def plans():
     """Lists that are planned."""
     rng = random.Random(8)
     example = wish(0, 0, 2) + wish(0, 1, 1) + wish(1, 0, 0.5) + wish(1, 1, 1.5)
-    yield case("document 01's example", example)
+    yield case("the specification's example", example)
     yield case("its records the other way round", b"".join(example[k : k + 8] for k in (24, 16, 8, 0)))
     yield case("one wish", wish(0, 0, 7))
     yield case("one wish of zero", wish(0, 0, 0))

@@ -1,4 +1,4 @@
--- The checker: whether a plan from anywhere covers a demand. Definitions only.
+-- The checker (§10): whether a plan from anywhere covers a demand. Definitions only.
 use mathlib.Core.Bool.{cond}
 use mathlib.Core.List.{List}
 use Prim.Native.Nat.{ℕ, _*_, _-_, _/_, _%_, _<_, _≤_}
@@ -50,6 +50,6 @@ abbrev pub afterDemand : Checked → (ℕ → Outcome) → Outcome
 afterDemand (Fine T) go = go T
 afterDemand (Faulty r) go = Refused r
 
--- checker 1, 2, 3, 9, 10, 11, 13
+-- codes 1, 2, 3, 9, 10, 11, 13 in this order (§9.9)
 unfoldable pub checkPlan : Edition → ℕ → List ℕ → List ℕ → Outcome
 checkPlan E N d plan = afterDemand (checkDemand (E .ports) N d) (λ T. reading E N plan (covering T N d))

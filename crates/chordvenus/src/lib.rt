@@ -1,5 +1,5 @@
 // The edge: every public call as a C function, for callers that are not written in Rattle. Each function calls one public function and
-// flattens its answer to the numbers of document 01; include/chordvenus.h says what each call does. No thinking stands here: what a
+// flattens its answer to the numbers of §9; include/chordvenus.h says what each call does. No thinking stands here: what a
 // call promises is its own crate's matter, and every field of an answer is given by that promise.
 use carry::Carried;
 use plans::Step;
@@ -206,7 +206,7 @@ pub extern "C" fn cv_check(n: usize, cells: &[u32], plan: &[u8]) -> CvAnswer
     flatten(checker::check_plan(n, cells, plan))
 }
 
-// The length of a plan at a switching time of d slots.
+// The length of a plan where switching takes d slots.
 #[no_mangle]
 pub extern "C" fn cv_length(n: usize, plan: &[u8], d: u16) -> CvAnswer
     ensures { λ r. ⌜ r ≡ flat (planLength firstEdition d n (now (plan .entry))) ⌝ }

@@ -1,4 +1,4 @@
--- The checks that every call on a demand shares, in document 01's order. Definitions only.
+-- The checks that every call on a demand shares: codes 1, 2 and 3, in this order (§9.9). Definitions only.
 use mathlib.Core.Path.{_≡_}
 use mathlib.Core.List.{List}
 use Prim.Native.Nat.{ℕ, _*_, _<_, _≤_}

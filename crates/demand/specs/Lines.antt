@@ -18,7 +18,7 @@ over c f (suc m) k = cond (ltb c (f k)) k (over c f m (suc k))
 unfoldable pub lineSide : ℕ → ℕ → Side
 lineSide N k = cond (ltb k N) (Input (record { 0 = k })) (Output (record { 0 = k - N }))
 
--- the first line that sums over 65,535, inputs before outputs
+-- the first line that sums over 65,535, inputs before outputs (§9.8)
 unfoldable pub lineOver : ℕ → List ℕ → Side
 lineOver N d = lineSide N (over 65535 (line N d) (N + N) 0)
 

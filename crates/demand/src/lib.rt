@@ -1,5 +1,5 @@
 // The checks that every call on a demand shares: N (code 1), the cells lent (code 2), and the lines (code 3, with the line's side).
-// It promises each refusal exactly in document 01's case and order, and T where there is none. Cells are any 32-bit numbers, so a
+// It promises each refusal exactly in its case and order (§9.9), and T where there is none. Cells are any 32-bit numbers, so a
 // line's sum is kept in 64 bits and cannot wrap. It also counts the slots asked. What a call then does with the demand is left to the crates above.
 use switch::InputPort;
 use switch::LONGEST;

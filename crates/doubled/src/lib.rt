@@ -1,6 +1,6 @@
-// The doubled planner: the exact plan of the cells divided by u, each hold then multiplied by u, and the rotations for what is left over,
+// The doubled planner (§7): the exact plan of the quotients by u, held u times as long, and the rotations for what is left over,
 // held by the tight rule or, for callers that ask for it by name, every one for u - 1. It promises the whole answer and every byte of the
-// lent plan, for any N and any cells: the refusals in document 01's order, all known before the first byte is written, and else the plan.
+// lent plan, for any N and any cells: the refusals in their order, all known before the first byte is written, and else the plan.
 // The lent demand is only read. The settings of the first part are `exact`'s; u, the quotients, the rotations and their rules are `turns`';
 // and what a demand is refused for is `demand`'s: this crate counts what both parts need, and adds up.
 use demand::Checked;

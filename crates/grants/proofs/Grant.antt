@@ -41,7 +41,7 @@ getD-inside [] i a b l = absurd (omega arith)
 getD-inside (x ∷ xs) zero a b l = λ _. x
 getD-inside (x ∷ xs) (suc i) a b l = getD-inside xs i a b (omega arith)
 
--- byte 4 + i is the output of input i
+-- the output of input i stands i bytes behind the head of four
 pub output-byte : (b : List ℕ) (i : ℕ) → i + 4 < length b → output (decoded b) i ≡ getD b (4 + i) 0
 unfolding output
 output-byte b i l = getD-drop 4 b i 255 ∙ getD-inside b (4 + i) 255 0 (omega arith)

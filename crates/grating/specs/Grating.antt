@@ -1,4 +1,4 @@
--- The doubled plan for the grating fabric, and what the call that writes it answers. Definitions only.
+-- The doubled plan for the grating fabric (§13.5), and what the call that writes it answers. Definitions only.
 use mathlib.Core.Bool.{cond}
 use mathlib.Core.List.{List, [], map}
 use Prim.Native.Nat.{ℕ}
@@ -11,11 +11,11 @@ use Rattle.rules.specs.Doubled.{unit, divide, stretch, opposite, turns, tight, 
 use Rattle.switch.specs.Result.{Result}
 use Rattle.planner.specs.Planned.{roomFor, afterCheck}
 
--- the doubled plan whose second part is the anti-rotations, each held for the largest remainder among its pairs and left out when that is 0
+-- the doubled plan with anti-rotations for its second part, held by the tight rule
 unfoldable pub gratingPlan : ℕ → ℕ → List ℕ → List Record
 gratingPlan W N d = doubledBy W N (opposite N) (tight N (opposite N) d) d
 
--- its first part: the exact plan of the cells divided by u, each hold multiplied by u; empty if T is 0
+-- its first part: the exact plan of the quotients by u, held u times as long; empty if T is 0
 unfoldable pub firstPart : ℕ → ℕ → List ℕ → List Record
 firstPart W N d =
     let u = unit N (longest N (cell N d)) in

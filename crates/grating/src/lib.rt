@@ -1,5 +1,5 @@
-// Plans for the grating fabric: the doubled plan with anti-rotations in the place of rotations. A layer above the planner that relies on
-// nothing but what the planner promises: its first part is what the public exact call writes for the divided demand. It promises its whole
+// Plans for the grating fabric (§13): the doubled plan with anti-rotations in the place of rotations. Of the planner below it knows the
+// promises alone: its first part is what the public exact call writes for the divided demand. It promises its whole
 // answer and every byte of the lent plan, for any N and any cells; all refusals are known before the first byte is written. What a plan
 // does to the wavelengths is told by the crate wavelengths.
 use demand::Checked;

@@ -15,7 +15,7 @@ use Rattle.settings.proofs.Grants.{grant-sums, total-sums, each-sums}
 use Rattle.joining.specs.Join.{held, pieces, cut, joinPlan}
 use Rattle.joining.proofs.Pieces.{pieces-more, pieces-total, pieces-each, total-cut, grant-cut, length-cut, each-cut}
 
--- every pair is granted exactly what it was granted before
+-- joining changes no pair's grant (§12.3)
 pub join-grant : (p : List Record) (i j : ℕ) → grant (joinPlan p) i j ≡ grant p i j
 unfolding joinPlan
 join-grant p i j = grant-cut (sums p) i j ∙ grant-sums p i j

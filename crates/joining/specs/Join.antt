@@ -19,7 +19,7 @@ unfoldable pub rest : ℕ → List ℕ → List Record
 rest zero o = []
 rest (suc h) o = held (suc h) o ∷ []
 
--- a sum above 65,535 is written as records of 65,535 followed by what is left, if any
+-- a sum as records of at most 65,535, of which only the last is shorter (§12.2)
 unfoldable pub pieces : ℕ → List ℕ → List Record
 pieces h o = replicate (h / 65535) (held 65535 o) ++ rest (h % 65535) o
 
@@ -28,7 +28,7 @@ unfoldable pub cut : List Record → List Record
 cut [] = []
 cut (s ∷ q) = pieces (s .hold) (s .outputs) ++ cut q
 
--- settings stand in order of first appearance; a setting's holds are summed
+-- the settings by first appearance, each with the sum of its holds (§12.2)
 unfoldable pub joinPlan : List Record → List Record
 joinPlan p = cut (sums p)
 

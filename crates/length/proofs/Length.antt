@@ -44,12 +44,12 @@ charge-le d p k = by (moves p k)
     by true = omega arith
     by false = omega arith
 
--- no length is longer than document 01's "total hold + d × number of records"
+-- no length is longer than it was when every record was charged: total hold and d × records (§11.4)
 pub length-le : (d : ℕ) (p : List Record) → lengthOf d p ≤ total p + d * length p
 unfolding lengthOf
 length-le d p = omega (arith, sum-mono (length p) (charge d p) (λ _. d) (λ k _. charge-le d p k), sum-const (length p) d)
 
--- "An empty plan has length 0."
+-- a plan without records has no length (§11.3)
 pub length-none : (d : ℕ) → lengthOf d [] ≡ 0
 unfolding lengthOf total
 length-none d = omega (arith, sum-zero (charge d []))

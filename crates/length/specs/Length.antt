@@ -1,4 +1,4 @@
--- The length of a plan at a switching time of d slots. Definitions only.
+-- The length of a plan where switching takes d slots (§11). Definitions only.
 use mathlib.Core.Path.{_≡_}
 use mathlib.Core.Bool.{Bool, true, not, cond}
 use mathlib.Core.List.{List}
@@ -13,7 +13,7 @@ use Rattle.switch.specs.declared.Edition.{Edition}
 use Rattle.settings.specs.Sums.{sameOutputs, settingAt}
 use Rattle.plans.specs.Reading.{reading}
 
--- the mirrors move for the first record, and for each later one whose outputs differ from those of the record before it
+-- the mirrors move for the first record, and wherever outputs are not those of the record before (§11.2)
 unfoldable pub moves : List Record → ℕ → Bool
 moves p zero = true
 moves p (suc k) = not (sameOutputs (settingAt p k) (settingAt p (suc k)))
@@ -30,7 +30,7 @@ lengthOf d p = total p + sum (length p) (charge d p)
 abbrev pub lengthCounts : ℕ → List Record → Counts
 lengthCounts d p = record { records = length p; longest = 0; total = total p; length = lengthOf d p; empty = 0 }
 
--- length 1, 9, 10, 11
+-- codes 1, 9, 10, 11 in this order (§9.9)
 unfoldable pub planLength : Edition → ℕ → ℕ → List ℕ → Outcome
 planLength E d N plan = reading E N plan (λ p. Done (lengthCounts d p))
 

@@ -1,4 +1,4 @@
--- Fields are parted by one space and each line ends with a line feed. Definitions only.
+-- A line of text: one space between fields, a line feed at the end (§14.3). Definitions only.
 use mathlib.Core.List.{List, [], _∷_, _++_}
 use Prim.Native.Nat.{ℕ}
 

@@ -1,4 +1,4 @@
--- The lines that the lister prints. Definitions only.
+-- The lines that the lister prints (§14.4, §14.5). Definitions only.
 use mathlib.Core.Bool.{cond}
 use mathlib.Core.List.{List, [], _∷_, _++_, map}
 use Prim.Native.Nat.{ℕ, zero, suc}
@@ -12,7 +12,7 @@ use Rattle.lines.specs.Ascii.{ascii}
 use Rattle.lines.specs.Decimal.{decimal}
 use Rattle.lines.specs.Line.{line}
 
--- First line: the words ports, longest, records, total, each followed by its number (N, T, records, total hold); and last, after the word empty, the empty slots.
+-- the first line: each number behind its word (§14.4)
 unfoldable pub firstLine : ℕ → Counts → List ℕ
 firstLine N c =
     line (ascii "ports")
@@ -23,7 +23,7 @@ firstLine N c =
 unfoldable pub outputField : ℕ → List ℕ
 outputField o = cond (eqb o 255) (ascii "-") (decimal o)
 
--- hold, then the N outputs by input
+-- a record's line: its hold and its N outputs
 unfoldable pub recordLine : ℕ → Record → List ℕ
 recordLine N r = line (decimal (r .hold)) (map outputField (take N (r .outputs)))
 
@@ -36,12 +36,12 @@ recordLines N (r ∷ p) = recordLine N r ++ recordLines N p
 unfoldable pub planText : ℕ → Counts → List Record → List ℕ
 planText N c p = firstLine N c ++ recordLines N p
 
--- code 3 prints the word input or output before its number
+-- the side of code 3 as a word, in front of its number (§14.5)
 abbrev pub sideField : ℕ → List (List ℕ)
 sideField zero = []
 sideField (suc zero) = ascii "input" ∷ []
 sideField (suc (suc k)) = ascii "output" ∷ []
 
--- A refusal prints one line: `refused`, code, place
+-- a refusal's only line: `refused`, code, place (§14.5)
 unfoldable pub refusedLine : Refusal → List ℕ
 refusedLine r = line (ascii "refused") (decimal (refusalCode r) ∷ (sideField (refusalSide r) ++ (decimal (refusalPlace r) ∷ [])))

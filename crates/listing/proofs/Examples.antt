@@ -1,4 +1,4 @@
--- Document 01's example, and a refusal of each kind, by computing them.
+-- The example of §14.7, and a refusal of each kind, by computing them.
 use mathlib.Core.Path.{_≡_, refl}
 use mathlib.Core.List.{List, [], _∷_, _++_, map}
 use Prim.Native.Nat.{ℕ}
@@ -43,7 +43,7 @@ largest i j = wish i j 255 127 71
 -- a wish list, and what the lister prints for it
 abbrev examples : List (List ℕ × String)
 examples =
-    -- document 01's case as Ask 7 has it: pairs (0,0) 2.0, (0,1) 1.0, (1,0) 0.5, (1,1) 1.5 are the demand 2 2 / 2 2
+    -- 2.0 for (0, 0), 1.0 for (0, 1), 0.5 for (1, 0) and 1.5 for (1, 1) are the demand 2 2 / 2 2 (§14.7)
     (wish 0 0 0 0 64 ++ one 0 1 ++ wish 1 0 0 0 63 ++ wish 1 1 0 192 63, "ports 2 longest 4 records 2 total 4 empty 0\n2 0 1\n2 1 0\n")
     -- nothing, and ports that are too many
     ∷ ([], "refused 1 0\n")

@@ -1,4 +1,4 @@
--- What the lister prints for the bytes at its standard input. Definitions only.
+-- What the lister prints for the bytes at its standard input (§14). Definitions only.
 use mathlib.Core.Path.{_≡_}
 use mathlib.Core.Logic.{_⊎_}
 use mathlib.Core.List.{List}
@@ -29,7 +29,7 @@ pub record PortsIn (s : List ℕ) (m N : ℕ) : Type 0 where
   pub outputs : (k : ℕ) → k < m → recordAt s k .output .0 < N
   pub least : (N ≡ 0) ⊎ ((k : ℕ) × (k < m) × ((recordAt s k .input .0 + 1 ≡ N) ⊎ (recordAt s k .output .0 + 1 ≡ N)))
 
--- N is one more than the largest port in any whole record
+-- how many ports a list names (§14.2)
 abbrev pub portsOf : List ℕ → ℕ
 portsOf s = portsIn s (length s / 8)
 
@@ -55,6 +55,6 @@ wishedText N s (Refused r) = refusedLine r
 unfoldable pub wishText : ℕ → List ℕ → List ℕ
 wishText N s = wishedText N s (outcome 16 N s (N * N))
 
--- only the first 4,096 bytes are read and count
+-- bytes behind the first 4,096 do not count (§14.1)
 unfoldable pub listingOf : List ℕ → List ℕ
 listingOf s = let w = take 4096 s in wishText (portsOf w) w

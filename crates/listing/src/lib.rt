@@ -12,7 +12,7 @@ ghost use Rattle.records.specs.Bytes.{laid};
 ghost use Rattle.lines.specs.Put.{Put};
 ghost use Rattle.listing.specs.Listing.{portsIn, portsOf, demandText, wishText, listingOf};
 
-// Only the first 4,096 bytes are read and count.
+// What is behind so many bytes of the input does not count.
 pub const LISTED: usize = 4096;
 
 // The bytes of a text that every listing fits: a first line and 226 lines of records take fewer.
@@ -56,7 +56,7 @@ fn list_text(list: &[u8], text: &mut [u8]) -> usize
     wish_text(n, list, &mut cells[..square], text)
 }
 
-// One more than the largest port in any whole record.
+// How many ports a list names: its largest, and one.
 fn ports_of(list: &[u8]) -> usize
     ensures { λ r. ⌜ r ≡ portsOf (now (list .entry)) ⌝ }
 {

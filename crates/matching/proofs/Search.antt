@@ -129,7 +129,7 @@ ports-of w n E by out g = record { holders = g .holders; port = g .port }
 
 -- ---- the tried set comes back
 
--- as it was, where none is left to try
+-- it stays where all was tried before
 pub tries-none : (w t outputs : ℕ) → Sub outputs t → Tries w t outputs t
 tries-none w t outputs s = record { more = λ k x. x; larger = λ k l x f. absurd (f (s k x)); same = λ _ k x. x }
 

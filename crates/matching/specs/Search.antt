@@ -141,7 +141,7 @@ abbrev pub seenIn : Asked → ℕ
 seenIn (Freed g u) = triedOf u
 seenIn (Stuck u) = triedOf u
 
--- the set of outputs already tried comes back larger; or as it was, where none of those asked for is left to try
+-- what was tried grows by asking, and stays only where everything asked for was tried before
 pub record Tries (w t outputs u : ℕ) : Type 0 where
   pub more : Sub t u
   pub larger : (k : ℕ) → k < w → In outputs k → (In t k → ⊥) → (j : ℕ) × In u j × (In t j → ⊥)

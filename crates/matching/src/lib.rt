@@ -1,4 +1,4 @@
-// Finding a setting is bipartite matching: an input asks its outputs, and a held output asks its holder to move.
+// Finding a setting is matching two sides (§6.7): inputs ask for outputs, and an output that is held asks whoever holds it to move.
 // The crate takes a label of outputs for each input and the tables of a matching, and promises the full setting that is first in
 // dictionary order. The matching is kept from setting to setting: only inputs that hold nothing ask again, and only those from the
 // first of them on are settled anew where the others can stay. Which pairs are allowed, and what is taken off them, is left to the planners.
@@ -25,7 +25,7 @@ pub const PLACES: usize = 128;
 // What the holders have where nobody holds an output; input i stands there as i + 1.
 const FREE: u8 = 0;
 
-// The outputs already tried. The set goes into the search and comes back larger, or as it was where none is left to try.
+// The outputs tried so far. The search is handed the set and hands it back with more in it, or unchanged where nothing was left to try (§6.7).
 struct Tried {
     outputs: Outputs,
 }

@@ -20,7 +20,7 @@ use Rattle.records.specs.Bytes.{whole, bytes, laid}
 unfoldable pub writes : ℕ → ℕ → ℕ → ℕ → List Record → List ℕ → Result
 writes e N T empty p buf = record { outcome = Done (demandCounts (length p) T (total p) empty); bytes = laid buf 0 (bytes e N p) }
 
--- code 5: the plan buffer holds fewer whole records than the plan has
+-- code 5: there is room for fewer whole records than the plan has (§9.7)
 unfoldable pub roomFor : ℕ → ℕ → ℕ → ℕ → ℕ → List Record → List ℕ → Result
 roomFor W e N T empty p buf = unless (leb (length p) (whole W buf)) (refuses (Room (length p)) buf) (writes e N T empty p buf)
 

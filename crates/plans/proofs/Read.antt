@@ -122,11 +122,11 @@ module _ (N : ℕ) (plan : List ℕ) (at : ℕ) where
       by (Done c) f = stays-in (c .records) N plan at f
       by (Refused r) f = refl
 
-  -- after the end or code 11 every further step gives the same answer
+  -- at the end, and at code 11, a reader's later steps are the same (§5.6)
   pub sticky : (stepAt N plan at .step ≡ step.Record → ⊥) → stepAt N plan (stepAt N plan at .next) ≡ stepAt N plan at
   sticky none = ap (stepAt N plan) (stays none)
 
--- every step of a refused reader is the end
+-- a refused reader gives the end at each of its steps (§5.7)
 pub refused-ends : (N : ℕ) (plan : List ℕ) (r : Refusal) → Refused r ≡ opening firstEdition N plan → (at : ℕ) → stepAt N plan at ≡ nothing step.End at
 refused-ends N plan r e at = sym (step-refused N plan at e)
 

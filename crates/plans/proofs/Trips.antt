@@ -89,7 +89,7 @@ module _ (h N : ℕ) (o buf : List ℕ) where
     unfolding laid bytes
     front = ap (take 68) written-bytes ∙ take-at (encode 0 h N o) (drop (0 + length (encode 0 h N o)) buf) 68 (omega arith) ∙ sym (append-nil (encode 0 h N o))
 
-    -- a written record reads back as the same hold and outputs
+    -- what was written is read back with its hold and its outputs (§5.9)
     pub write-read : stepAt N (take 68 (written h N o buf .bytes)) 0 ≡ record { step = step.Record; hold = h; outputs = o; next = 1 }
     write-read =
         let w = wrote c done in
@@ -140,7 +140,7 @@ module _ (N : ℕ) (plan : List ℕ) (at : ℕ) (found : stepAt N plan at .step 
         let m = means 64 0 N b size (gave .few) (omega (arith, gave .few)) (gave .fine) in
         encode-decoded 0 N b (omega (arith, size)) (rw (getD-take 68 (drop (at * 68) plan) 0 0 (omega arith), getD-drop (at * 68) plan 0 0) (byte (at * 68 + 0))) (m .ports) (m .edition)
 
-    -- a record read and written again gives the same 68 bytes
+    -- what was read, written anew, is the same 68 bytes (§5.9)
     pub read-write : (buf : List ℕ) → 68 ≤ length buf
         → written (stepAt N plan at .hold) N (stepAt N plan at .outputs) buf ≡ record { outcome = Done (planCounts 1 0 (stepAt N plan at .hold)); bytes = laid buf 0 (recordAt 64 plan at) }
     read-write buf room =

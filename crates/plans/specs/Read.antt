@@ -1,4 +1,4 @@
--- Opening a plan, reading it record by record, and checking it whole. Definitions only.
+-- Opening a plan, reading it record by record (§5.4 to §5.7), and checking it whole. Definitions only.
 use mathlib.Core.Bool.{cond}
 use mathlib.Core.List.{List}
 use Prim.Native.Nat.{ℕ, zero, suc, _+_, _%_, _≤_}
@@ -19,7 +19,7 @@ use Rattle.plans.specs.declared.Stepped.{Stepped}
 use Rattle.records.specs.Record.{hold, outputs, wellFormed}
 use Rattle.records.specs.Bytes.{recordAt, whole, planFrom}
 
--- opening refuses by codes 1, 9 and 10, and gives records only
+-- opening refuses by codes 1, 9 and 10, and counts records only (§5.4)
 unfoldable pub opening : Edition → ℕ → List ℕ → Outcome
 opening E N plan =
     unless (portsFine (E .ports) N) (Refused Ports)
@@ -37,7 +37,7 @@ stepPlace step.Record = 0
 stepPlace step.End = 0
 stepPlace (step.Malformed k) = k
 
--- both come with hold 0 and 64 outputs of 255, and leave the place reached
+-- what the end and code 11 come with: no hold, every output idle, and the place as it was (§5.6)
 abbrev pub nothing : Step → ℕ → Stepped
 nothing s at = record { step = s; hold = 0; outputs = replicate 64 255; next = at }
 
@@ -45,14 +45,14 @@ nothing s at = record { step = s; hold = 0; outputs = replicate 64 255; next = a
 abbrev pub given : List ℕ → ℕ → Stepped
 given b next = record { step = step.Record; hold = hold b; outputs = outputs b; next = next }
 
--- of m records: the next, or code 11 with the record's number, or the end
+-- of m records: the next, or code 11 with the record's number, or the end (§5.5)
 unfoldable pub stepIn : ℕ → ℕ → List ℕ → ℕ → Stepped
 stepIn m N plan at =
     cond (ltb at m)
     (cond (wellFormed 64 0 N (recordAt 64 plan at)) (given (recordAt 64 plan at) (at + 1)) (nothing (step.Malformed at) at))
     (nothing step.End at)
 
--- the step at record `at` of a plan opened for N; every step of a refused reader is the end
+-- the step at record `at` of a plan opened for N; where opening is refused all its steps are the end
 unfoldable pub stepAt : ℕ → List ℕ → ℕ → Stepped
 stepAt N plan at = byOutcome (opening firstEdition N plan) (λ r. nothing step.End at) (λ c. stepIn (c .records) N plan at)
 

@@ -1,4 +1,4 @@
-// A plan as records one after the other: opening it, reading it step by step, and checking it whole, as document 01 has them.
+// A plan as records one after the other: opening it, reading it step by step, and checking it whole (§5).
 // Every call promises its whole answer for any N and any bytes. The functions below the public calls take an edition, which says what
 // its records and their number are; the `Reader` over a plan stands in a crate of its own, and what a plan grants is left to others.
 use records::EDITION;

@@ -34,18 +34,18 @@ small-plans = refl
 
 -- ---- beside the table
 
--- "P7 meets 2T - 1"
+-- P7 has the quick cover's most records (§15.3)
 pub p7-meets : length (quickPlan 64 3 d6) ≡ 2 * longest 3 (cell 3 d6) - 1
 unfolding quickPlan quickFrom slots slot visits seat may lowest put peel tab longest most row col cell sum δ ind
 p7-meets = refl
 
--- "and P8 meets both doubled bounds.", which document 02 says of its plan by the rule of every rotation
+-- P8 by the rule of every rotation has a doubled plan's most records and its longest total (§15.3)
 pub p8-meets : (length (doubledPlan 64 1 (5 ∷ [])) ≡ 2 * 1) × (total (doubledPlan 64 1 (5 ∷ [])) ≡ 2 * longest 1 (cell 1 (5 ∷ [])) - 1)
 unfolding total doubledPlan doubledBy flat turns held rotate stretch divide unit
     exactPlan exactFrom peels recordOf least tab firstSetting complete free pick put peel fill fillTo fillCell lack longest most row col cell sum δ ind
 p8-meets = (refl, refl)
 
--- "T = 4 with N = 4 gives u = 1 and no rotations, T = 5 gives u = 2", by the rule of every rotation
+-- four ports: no rotation at T = 4, where u is 1; u is 2 at T = 5 (§15.5); by the rule of every rotation
 pub units : (unit 4 4 ≡ 1) × (turns 64 (rotate 4) (flat 1) 4 0 ≡ []) × (unit 4 5 ≡ 2)
 unfolding unit turns held flat
 units = (refl, refl, refl)
@@ -59,7 +59,7 @@ none-left N d (suc n) k = rw (nothing (tight N (rotate N) d 1 k) (tight-most N (
     nothing : (h : ℕ) → h ≤ 0 → h ≡ 0
     nothing h l = omega arith
 
--- "The first record of P1 starts 02 00 02 00 00 01, then 62 bytes of 255."
+-- the bytes of P1's first record (§15.4)
 pub p1-starts : take 68 (bytes 0 2 (exactPlan 64 2 d1)) ≡ 2 ∷ 0 ∷ 2 ∷ 0 ∷ 0 ∷ 1 ∷ replicate 62 255
 unfolding bytes
     exactPlan exactFrom peels recordOf least tab firstSetting complete free pick put peel fill fillTo fillCell lack longest most row col cell sum δ ind
@@ -67,13 +67,13 @@ p1-starts = refl
 
 -- ---- the lengths of P8: one setting in two records moves the mirrors once
 
--- "The plan of P8 now has length 9 + d instead of 9 + 2d", by the rule of every rotation
+-- by the rule of every rotation (§11.5)
 pub p8-old-length : (d : ℕ) → lengthOf d (doubledPlan 64 1 (5 ∷ [])) ≡ 9 + d
 unfolding lengthOf charge moves sameOutputs total doubledPlan doubledBy flat turns held rotate stretch divide unit
     exactPlan exactFrom peels recordOf least tab firstSetting complete free pick put peel fill fillTo fillCell lack longest most row col cell sum δ ind
 p8-old-length d = omega arith
 
--- "by the new one its length is 5 + d"
+-- by the tight rule (§11.5)
 pub p8-length : (d : ℕ) → lengthOf d (tightPlan 64 1 (5 ∷ [])) ≡ 5 + d
 unfolding lengthOf charge moves total tightPlan tight doubledBy turns held rotate stretch divide unit
     exactPlan exactFrom peels recordOf least tab firstSetting complete free pick put peel fill fillTo fillCell lack longest most row col cell sum δ ind

@@ -104,7 +104,7 @@ module _ (N : ℕ) (pos : 0 < N) where
 -- ---- the second part
 
 module _ (W N : ℕ) (pos : 0 < N) (top : N ≤ W) (H : ℕ → ℕ) where
-  -- each of its records uses a wavelength at most once when N is odd and at most twice when N is even
+  -- none of its records has a wavelength twice for N odd, or three times for N even (§13.6)
   pub second-spread : (n k : ℕ) → Each (Spread N) (turns W (opposite N) H n k)
   unfolding turns
   second-spread zero k = none

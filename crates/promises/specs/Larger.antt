@@ -33,7 +33,7 @@ abbrev pub largerBytes : Outcome → Edition → (N k : ℕ) (d buf : List ℕ) 
 largerBytes (Done c) E N k d buf = laid buf 0 (bytes (E .byte) N (map (stretch k) (exactPlan (E .width) N d)))
 largerBytes (Refused r) E N k d buf = buf
 
--- with k at least 1 and k × T at most 65,535: outcome and bytes for the multiplied demand, from those for the demand
+-- k is 1 or more, and T times k no more than a line may be: outcome and bytes for the multiplied demand, from those for the demand
 pub record LargerCall (E : Edition) : Type 0 where
   pub outcome : (N k : ℕ) (d buf : List ℕ) → 1 ≤ k → longest N (cell N d) * k ≤ 65535
       → exactGiven E N (multiplied k d) buf .outcome ≡ larger k (exactGiven E N d buf .outcome)

@@ -1,4 +1,4 @@
--- Document 01's "Small plans to prove", as document 02 amends them: for each row what is asked, and by what method, and what is given.
+-- The small plans of §15: for each row what is asked, and by what method, and what is given.
 -- Definitions only.
 use mathlib.Core.List.{List, [], _∷_, _++_}
 use Prim.Native.Nat.{ℕ, _-_}
@@ -31,7 +31,7 @@ give (wish bits) = slots (codeOf (wishBits bits)) (slotsOf (wishBits bits))
 unfoldable pub rec : ℕ → List ℕ → Record
 rec hold outputs = record { hold = hold; outputs = outputs ++ replicate (64 - length outputs) 255 }
 
--- a dash in document 01
+-- a dash in §15
 abbrev pub idle : ℕ
 idle = 255
 

@@ -54,7 +54,7 @@ pub data Why (E : Edition) (most N : ℕ) (d : List ℕ) (p : List Record) (buf 
   faulty : {f : Refusal} → Fault E N d f → Why E most N d p buf f
   -- code 4: no line is over 65,535, and T is over the planner's own limit
   over-limit : Fair E 65535 N d → most < longest N (cell N d) → Why E most N d p buf Longest
-  -- code 5: the buffer holds fewer whole records than the plan has
+  -- code 5: there is room for fewer whole records than the plan has
   no-room : Fair E most N d → whole (E .width) buf < length p → Why E most N d p buf (Room (length p))
 
 -- the bytes of the records that an answer counts

@@ -5,7 +5,7 @@ use lib.Dec.{eqb}
 use Rattle.switch.specs.Plan.{Record}
 use Rattle.wavelengths.specs.Shared.{sharing}
 
--- how often one of them may use a wavelength: once when N is odd, twice when N is even
+-- how often one of them may use a wavelength: once when N is odd, twice when N is even (§13.6)
 unfoldable pub allowed : ℕ → ℕ
 allowed N = cond (eqb (N % 2) 0) 2 1
 

@@ -1,5 +1,5 @@
 // The quick cover: one record of hold 1 per slot, until nothing is left of the demand.
-// It promises the whole answer and every byte of the lent plan, for any N and any cells: the refusals in document 01's order, all known
+// It promises the whole answer and every byte of the lent plan, for any N and any cells: the refusals in their order, all known
 // before the first byte is written, and else the plan. The lent demand is only read: what is counted down is a working copy.
 // What a demand is refused for, how one slot is filled and the layout of a record are left to the crates below.
 use demand::Checked;

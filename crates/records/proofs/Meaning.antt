@@ -1,4 +1,4 @@
--- What `wellFormed` computes is what document 01 says in plain statements, both ways: each test is told by its own statement.
+-- What `wellFormed` computes is what §5.2 says in plain statements, both ways: each test is told by its own statement.
 use mathlib.Core.Path.{_≡_, refl, sym, _∙_}
 use mathlib.Core.Bool.{true, not, _&&_}
 use mathlib.Core.Logic.{⊎-elim, dite, _⊎_, inl, inr}

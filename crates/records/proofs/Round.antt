@@ -12,11 +12,11 @@ use Rattle.switch.specs.Sound.{Each, none, more, OfWidth}
 use Rattle.records.specs.Bytes.{encode, recordAt, planFrom, planOf, bytes}
 use Rattle.records.proofs.Bytes.{encode-size, bytes-size}
 
--- a written record reads back as the same hold and outputs
+-- what was written is read back with its hold and its outputs (§5.9)
 pub decoded-encode : (e h N : ℕ) (o : List ℕ) → decoded (encode e h N o) ≡ record { hold = h; outputs = o }
 decoded-encode e h N o = ap {B = Record} (λ (k : ℕ). record { hold = k; outputs = o }) (let same : h % 256 + 256 * (h / 256) ≡ h = omega arith in same)
 
--- a record read and written again gives the same bytes
+-- what was read, written anew, is the same bytes (§5.9)
 pub encode-decoded : (e N : ℕ) (b : List ℕ) → 4 ≤ length b → getD b 0 0 < 256 → getD b 2 0 ≡ N → getD b 3 0 ≡ e → encode e (hold b) N (drop 4 b) ≡ b
 encode-decoded e N b long byte ports edition =
     let lo : hold b % 256 ≡ getD b 0 0 = omega arith in

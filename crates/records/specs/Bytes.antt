@@ -1,4 +1,4 @@
--- Plans as bytes: one record after the other, W outputs and W + 4 bytes each, no header. Definitions only.
+-- Plans as bytes (§5.1): one record after the other, W outputs and W + 4 bytes each. Definitions only.
 use mathlib.Core.List.{List, [], _∷_, _++_}
 use Prim.Native.Nat.{ℕ, zero, suc, _+_, _*_, _/_, _%_}
 use lib.ListN.{length, take, drop}

@@ -1,4 +1,4 @@
--- A plan record over its width W (the number of its outputs, 64) and its edition byte e (0), and when it is well formed. Definitions only.
+-- A plan record (§5.1) over its width W (the number of its outputs, 64) and its edition byte e (0), and when it is well formed. Definitions only.
 use mathlib.Core.Path.{_≡_}
 use mathlib.Core.Bool.{Bool, true, false, not, _&&_, _||_}
 use mathlib.Core.List.{List}
@@ -22,7 +22,7 @@ any (suc n) p = any n p || p n
 abbrev pub hold : List ℕ → ℕ
 hold b = getD b 0 0 + 256 * getD b 1 0
 
--- byte 4 + i is the output of input i
+-- the output of input i stands i bytes behind the head of four
 abbrev pub outputs : List ℕ → List ℕ
 outputs b = drop 4 b
 
@@ -30,7 +30,7 @@ outputs b = drop 4 b
 abbrev pub idle : List ℕ → ℕ → Bool
 idle o i = eqb (getD o i 0) 255
 
--- each of the first N outputs below N or 255
+-- the outputs of the N inputs are ports or idle
 unfoldable pub inside : ℕ → List ℕ → ℕ → Bool
 inside N o i = ltb (getD o i 0) N || idle o i
 
@@ -38,15 +38,15 @@ inside N o i = ltb (getD o i 0) N || idle o i
 unfoldable pub new : List ℕ → ℕ → Bool
 new o i = idle o i || not (any i (λ j. eqb (getD o j 0) (getD o i 0)))
 
--- all later outputs 255
+-- what stands behind them is idle
 unfoldable pub later : ℕ → List ℕ → ℕ → Bool
 later N o i = ltb i N || idle o i
 
--- each of the first N outputs below N or 255, no output below N twice, all later outputs 255
+-- the outputs are fine where these three are so
 unfoldable pub outputsFine : ℕ → ℕ → List ℕ → Bool
 outputsFine W N o = all N (inside N o) && all N (new o) && all W (later N o)
 
--- well formed means: hold at least 1, the N of the call, the zero byte zero (the edition's byte), and the outputs fine
+-- well formed (§5.2): held at all, for this N, with the edition's byte in its place, and the outputs fine
 unfoldable pub wellFormed : ℕ → ℕ → ℕ → List ℕ → Bool
 wellFormed W e N b = ltb 0 (hold b) && eqb (getD b 2 0) N && eqb (getD b 3 0) e && outputsFine W N (outputs b)
 

@@ -1,4 +1,4 @@
--- Writing one record at the start of a lent buffer. Definitions only.
+-- Writing one record at the start of a lent buffer (§5.8). Definitions only.
 use mathlib.Core.List.{List}
 use Prim.Native.Nat.{ℕ}
 use lib.ListN.{length}
@@ -15,7 +15,7 @@ use Rattle.records.specs.Bytes.{encode, laid}
 abbrev pub writes : ℕ → ℕ → List ℕ → List ℕ → Result
 writes hold N outputs buf = record { outcome = Done (planCounts 1 0 hold); bytes = laid buf 0 (encode 0 hold N outputs) }
 
--- refusals 1, 5 (place 1), 11 (place 0)
+-- refusals 1, 5 (place 1), 11 (place 0), in this order (§9.9)
 unfoldable pub written : ℕ → ℕ → List ℕ → List ℕ → Result
 written hold N outputs buf =
     unless (portsFine 64 N) (refuses Ports buf)

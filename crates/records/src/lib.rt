@@ -1,4 +1,4 @@
-// One plan record: when it is well formed, its hold and outputs, and writing one, as document 01 has them.
+// One plan record (§5): when it is well formed, its hold and outputs, and writing one.
 // The description in specs/ is over a record's width and its edition byte, and so are the functions below the public call.
 // Writing promises its whole answer and every byte of lent memory, for any N; plans of many records are left to the crates above.
 use labels::Outputs;
@@ -18,7 +18,7 @@ ghost use Rattle.records.specs.Write.{written};
 // Outputs follow the hold in two bytes, N and the edition's byte.
 pub const HEAD: usize = 4;
 
-// A record of document 01 has 64 outputs, in 68 bytes, and a zero byte.
+// A record of the first edition has 64 outputs, in 68 bytes, and a zero byte (§5.1).
 pub const OUTPUTS: usize = 64;
 
 pub const RECORD: usize = 68;
@@ -28,7 +28,7 @@ pub const EDITION: u8 = 0;
 // The output of an input that is joined to none.
 pub const IDLE: u8 = 255;
 
-// Writes one record at the start of a lent buffer: refusals 1, 5 and 11.
+// Writes one record where a lent buffer begins, or refuses with 1, 5 or 11 (§5.8).
 pub fn write_record(hold: u16, n: usize, outputs: &[u8; 64], plan: &mut [u8]) -> Outcome
     ensures { λ r. ⌜ Gives (written hold n (now (outputs .entry)) (now (plan .entry))) r (now (plan .exit)) ⌝ }
 {
@@ -95,7 +95,7 @@ fn outputs_fine(outputs: &[u8], n: usize) -> bool
     later_idle(outputs, n)
 }
 
-// Is each of the first n outputs below n or idle, and none below n twice? The test that most outputs pass comes first.
+// Are the outputs of the n inputs ports or idle, and is none of the ports there twice? The test that most outputs pass comes first.
 fn setting_fine(outputs: &[u8], n: usize) -> bool
     requires { ⌜ (n ≤ 128) × (n ≤ length (now outputs)) ⌝ }
     ensures { λ r. ⌜ r ≡ (all n (inside n (now (outputs .entry))) && all n (new (now (outputs .entry)))) ⌝ }

@@ -15,7 +15,7 @@ use Rattle.room.specs.declared.Planner.the-variants.{Exact, Doubled, Qui
 abbrev pub secondEdition : Edition
 secondEdition = record { width = 128; byte = 2; ports = 128; records = 32768 }
 
--- the exact plan: the smaller of T and N² - 2N + 2
+-- the exact plan: T, or N² - 2N + 2 where that is less
 unfoldable pub exactRoom : (N T : ℕ) → ℕ
 exactRoom N T = min T (N * N + 2 - 2 * N)
 

@@ -58,7 +58,7 @@ module _ (W N : ℕ) (pos : 0 < N) (top : N ≤ W) (d : List ℕ) (s : N * N ≤
   exact-full : AllFull N (exactPlan W N d)
   exact-full = peels-full (exact-peels W N pos top d s)
 
-  -- "For the exact plan this is N × T less the sum of all cells."
+  -- of the exact plan: what N × T has beyond all cells (§6.8)
   pub exact-empty-slots : emptySlots N (cell N d) (exactPlan W N d) ≡ N * longest N (cell N d) - allSlots N (cell N d)
   exact-empty-slots = omega (
     arith,

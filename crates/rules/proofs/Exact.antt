@@ -1,4 +1,4 @@
--- The promises of the exact plan, in document 01's order: all follow from its being peeled off the filled demand, whose lines all sum to T.
+-- The promises of the exact plan (§6): all follow from its being peeled off the filled demand, whose lines all sum to T.
 use mathlib.Core.Path.{_≡_, sym, ap, _∙_}
 use mathlib.Core.List.{List, []}
 use Prim.Native.Nat.{ℕ, _+_, _*_, _-_, _≤_, _<_, min}
@@ -20,11 +20,11 @@ use Rattle.rules.proofs.Room.{peels-room, length-le-total}
 
 -- W is the number of outputs of a record, 64 or another edition's; d may have cells to spare
 module _ (W N : ℕ) (pos : 0 < N) (top : N ≤ W) (d : List ℕ) (s : N * N ≤ length d) where
-  -- "If T is 0, the plan is empty."
+  -- no records where T is 0 (§6.1)
   pub exact-empty : longest N (cell N d) ≡ 0 → exactPlan W N d ≡ []
   exact-empty e = unfold exactPlan in exact-end W N (filled N d) (filled-row N d s 0 pos ∙ e)
 
-  -- "Afterwards every line sums to T.": filled-row, filled-col. Step 3 then makes the plan,
+  -- all lines of the filled demand have one sum (§6.2): filled-row, filled-col. Peeling it makes the plan (§6.3),
   pub exact-peels : Peels W N (filled N d) (exactPlan W N d)
   unfolding exactPlan
   exact-peels = from-peels W N pos top (longest N (cell N d)) (filled N d) (filled-row N d s) (filled-col N d s)
@@ -37,7 +37,7 @@ module _ (W N : ℕ) (pos : 0 < N) (top : N ≤ W) (d : List ℕ) (s : N * N ≤
   pub exact-plan : Plan N (exactPlan W N d)
   exact-plan = peels-plan N exact-peels
 
-  -- "The plan's granted slots equal the filled demand."
+  -- what is granted is the filled demand (§6.4)
   pub exact-grants : (i j : ℕ) → i < N → j < N → grant (exactPlan W N d) i j ≡ filled N d i j
   exact-grants = peels-grant N exact-peels
 
@@ -57,7 +57,7 @@ module _ (W N : ℕ) (pos : 0 < N) (top : N ≤ W) (d : List ℕ) (s : N * N ≤
   pub exact-records : length (exactPlan W N d) ≤ min (longest N (cell N d)) (N * N + 2 - 2 * N)
   exact-records = omega (arith, exact-total, length-le-total exact-plan, peels-room N pos exact-peels)
 
-  -- "It has at most N² - N + 1 records."
+  -- and so at most N² - N + 1 (§6.5)
   pub exact-records-paper : length (exactPlan W N d) ≤ N * N - N + 1
   exact-records-paper = omega (arith, exact-records, mul-le-mul-left {m = 1} N pos)
 

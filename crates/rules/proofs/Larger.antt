@@ -154,7 +154,7 @@ module _ (N k : ℕ) (pos : 0 < k) where
       Peels.more (record { fits = fits-times (f .fits); first = λ q g. f .first q (fits-once g) }) t (least-times l)
       (peels-cong N (peels-times s) (peel (r .hold * k) (output r) (times k M)) (λ i j _ _. peel-times (r .hold) (output r) M i j))
 
--- the exact plan of k times the demand has the same settings in the same order, each held k times as long
+-- k times the demand: the exact plan keeps its settings and their order, and each is held k times as long
 pub exact-multiplied : LargerBatch
 exact-multiplied W N k some top pos d s =
     sym (exact-only W N some top (multiplied k d) size (map (stretch k) (exactPlan W N d))

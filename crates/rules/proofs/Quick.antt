@@ -146,11 +146,11 @@ module _ (W N : ℕ) (pos : 0 < N) (wide : N ≤ W) (top : N ≤ 255) where
     pub quick-covers : Covers N (cell N d) (quickPlan W N d)
     quick-covers i j li lj = omega (arith, quick-grants i j li lj)
 
-    -- "One record of hold 1 per slot"
+    -- every record has hold 1 (§8.1)
     pub quick-total : total (quickPlan W N d) ≡ length (quickPlan W N d)
     quick-total = quick-is .ones
 
-    -- "The number of records is T to 2T - 1 when T is at least 1, and 0 when T is 0."
+    -- how many records there are (§8.4)
     pub quick-at-least : longest N (cell N d) ≤ length (quickPlan W N d)
     quick-at-least = omega (arith, quick-total, least-total N (cell N d) (quickPlan W N d) quick-plan quick-covers)
 

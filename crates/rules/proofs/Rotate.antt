@@ -57,12 +57,12 @@ module _ (N : ℕ) (pos : 0 < N) where
       joins : (i j : ℕ) → i < N → j < N → rotate N ((j + (N - i)) % N) i ≡ j
       joins i j li lj = rotate-in N ((j + (N - i)) % N) i li ∙ add-mod-mod i (j + (N - i)) N ∙ ap (λ x. x % N) (omega arith) ∙ around-once j lj
 
--- "If T is 0, empty."
+-- no records where T is 0 (§7.1)
 pub doubled-empty : (W N : ℕ) (d : List ℕ) → longest N (cell N d) ≡ 0 → doubledPlan W N d ≡ []
 unfolding doubledPlan doubledBy
 doubled-empty W N d e = rw (eq-eqb (longest N (cell N d)) 0 e)
 
--- "At most 2N records; total at most 2T - 1.", and it covers
+-- both bounds, and it covers (§7.6)
 pub doubled : (W N : ℕ) → 0 < N → N ≤ W → (d : List ℕ) → N * N ≤ length d → Doubled N d (doubledPlan W N d)
 unfolding doubledPlan flat
 doubled W N pos top d s = doubled-any W N pos top (rotate N) (rotate-joins N pos) d s flat (λ v k. omega arith)

@@ -1,4 +1,4 @@
--- The doubled plan: the exact plan of the cells divided by u, each hold then multiplied by u, and N settings that hold the remainders. Definitions only.
+-- The doubled plan (§7): the exact plan of the quotients by u, held u times as long, and N settings that hold the remainders. Definitions only.
 use mathlib.Core.Path.{_≡_}
 use mathlib.Core.Bool.{cond}
 use mathlib.Core.List.{List, [], _∷_, _++_, map}
@@ -10,11 +10,11 @@ use Rattle.switch.specs.Demand.{cell, longest}
 use Rattle.switch.specs.Plan.{Full, Record, Plan, total, Covers}
 use Rattle.rules.specs.Exact.{tab, exactPlan}
 
--- u is T / N rounded up
+-- u is T / N rounded up (§7.1)
 unfoldable pub unit : ℕ → ℕ → ℕ
 unit N T = (T + (N - 1)) / N
 
--- the cells divided by u, rounded down
+-- the quotients: every cell divided by u, rounded down (§7.2)
 unfoldable pub divide : ℕ → List ℕ → List ℕ
 divide u d = map (λ x. x / u) d
 
@@ -22,11 +22,11 @@ divide u d = map (λ x. x / u) d
 unfoldable pub stretch : ℕ → Record → Record
 stretch u r = record { hold = r .hold * u; outputs = r .outputs }
 
--- rotation k: input i to output (i + k) mod N
+-- rotation k: input i to output (i + k) mod N (§7.3)
 unfoldable pub rotate : ℕ → ℕ → ℕ → ℕ
 rotate N k i = cond (ltb i N) ((i + k) % N) 255
 
--- anti-rotation k: input i to output (k - i) mod N
+-- anti-rotation k: input i to output (k - i) mod N (§13.5)
 unfoldable pub opposite : ℕ → ℕ → ℕ → ℕ
 opposite N k i = cond (ltb i N) ((k + (N - i)) % N) 255
 
@@ -50,15 +50,15 @@ doubledBy W N τ H d =
 unfoldable pub flat : ℕ → ℕ → ℕ
 flat u k = u - 1
 
--- the doubled plan: then, if u is at least 2, N rotations, hold u - 1
+-- the doubled plan by the rule of every rotation (§7.5)
 unfoldable pub doubledPlan : ℕ → ℕ → List ℕ → List Record
 doubledPlan W N d = doubledBy W N (rotate N) flat d
 
--- the tight rule: setting τ k is held for the largest remainder (cell modulo u) among its pairs, and left out where that is 0
+-- the tight rule (§7.4): setting τ k is held for the largest remainder, modulo u, that its pairs have; 0 leaves it out
 unfoldable pub tight : ℕ → (ℕ → ℕ → ℕ) → List ℕ → ℕ → ℕ → ℕ
 tight N τ d u k = most N (λ i. cell N d i (τ k i) % u)
 
--- the doubled plan by the tight rule
+-- the doubled plan by the tight rule (§7.4)
 unfoldable pub tightPlan : ℕ → ℕ → List ℕ → List Record
 tightPlan W N d = doubledBy W N (rotate N) (tight N (rotate N) d) d
 
@@ -69,7 +69,7 @@ pub record Joins (N : ℕ) (τ : ℕ → ℕ → ℕ) : Type 0 where
   pub inside : (i j : ℕ) → i < N → j < N → which i j < N
   pub joins : (i j : ℕ) → i < N → j < N → τ (which i j) i ≡ j
 
--- at most 2N records; total at most 2T - 1, and 0 if T is 0; and it covers the demand
+-- what a doubled plan is worth (§7.6): it covers, with 2N records or fewer and a total of 2T - 1 or less, 0 if T is 0
 pub record Doubled (N : ℕ) (d : List ℕ) (p : List Record) : Type 0 where
   pub plan : Plan N p
   pub few : length p ≤ 2 * N

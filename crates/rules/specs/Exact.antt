@@ -1,4 +1,4 @@
--- The exact plan, computed: fill to T, then take the first full setting for as long as its smallest cell, until all is zero. Definitions only.
+-- The exact plan (§6), computed: fill to T, then take the first full setting for as long as its smallest cell, until all is zero. Definitions only.
 use mathlib.Core.Path.{_≡_}
 use mathlib.Core.List.{List, [], _∷_}
 use mathlib.Core.Option.{none, some}

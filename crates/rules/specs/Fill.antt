@@ -1,4 +1,4 @@
--- Fill: over cells in order (row by row), add to each cell the smaller of what its row and its column still lack of T. Definitions only.
+-- Fill (§6.2): cells in order are topped up, each by as much as both its lines allow. Definitions only.
 use mathlib.Core.List.{List}
 use Prim.Native.Nat.{ℕ, zero, suc, _+_, _*_, _-_, _/_, _%_, min}
 use lib.ListN.{set}

@@ -1,4 +1,4 @@
--- The full settings that use only pairs that E allows, and the first of them in dictionary order. Definitions only.
+-- The full settings that use only pairs that E allows, and the first of them in dictionary order (§6.3). Definitions only.
 use mathlib.Core.Path.{_≡_}
 use Prim.Native.Nat.{ℕ, _<_}
 use Rattle.switch.specs.Plan.{Full}

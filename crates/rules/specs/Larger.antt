@@ -1,4 +1,4 @@
--- A larger batch: every cell of a demand multiplied by k. Definitions only.
+-- A larger batch (§22): every cell of a demand multiplied by k. Definitions only.
 use mathlib.Core.Path.{_≡_}
 use mathlib.Core.List.{List, map}
 use Prim.Native.Nat.{ℕ, _*_, _≤_, _<_}

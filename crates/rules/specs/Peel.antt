@@ -1,4 +1,4 @@
--- What the third step of the exact plan's rule asks of a plan: which setting, how long it is held, and what is left. Definitions only.
+-- What peeling asks of a plan (§6.3): which setting, how long it is held, and what is left. Definitions only.
 use mathlib.Core.Path.{_≡_}
 use mathlib.Core.Bool.{cond}
 use mathlib.Core.List.{List, [], _∷_}

@@ -1,4 +1,4 @@
--- The quick cover, slot by slot: each input in turn takes the lowest free output with slots left. Definitions only.
+-- The quick cover (§8), slot by slot: each input in turn takes the lowest free output with slots left. Definitions only.
 use mathlib.Core.Path.{_≡_}
 use mathlib.Core.Bool.{Bool, true, false, cond, _&&_, not}
 use mathlib.Core.List.{List, [], _∷_}
@@ -31,7 +31,7 @@ may M taken i j = ltb 0 (M i j) && not (taken j)
 unfoldable pub seat : Slot → ℕ → ℕ → Slot
 seat x i j = record { outputs = put (x .outputs) i j; taken = put (x .taken) j true }
 
--- the first v visits of slot s: inputs s mod N, the next, and so on around, each takes the lowest output that it may
+-- the first v visits of slot s: from input s mod N on and around, each takes the lowest output that it may (§8.1)
 unfoldable pub visits : ℕ → (ℕ → ℕ → ℕ) → ℕ → ℕ → Slot
 visits N M s zero = record { outputs = λ _. 255; taken = λ _. false }
 visits N M s (suc v) = let x = visits N M s v in let i = (v + s) % N in seat x i (lowest N 0 (may M (x .taken) i))

@@ -1,4 +1,4 @@
--- The settings of a plan, each once, in order of first appearance and with its holds summed. Definitions only.
+-- The settings of a plan, each once, in order of first appearance and with its holds summed (§12.2). Definitions only.
 use mathlib.Core.Path.{_≡_}
 use mathlib.Core.Bool.{Bool, true, false, cond, _&&_}
 use mathlib.Core.List.{List, [], _∷_}

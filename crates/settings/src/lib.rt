@@ -11,7 +11,7 @@ ghost use Rattle.records.specs.Bytes.{recordAt, whole};
 ghost use Rattle.settings.specs.Sums.{sameOutputs};
 ghost use Rattle.settings.specs.Table.{Listed, Roomy, bucketOf, stirred, Chained, Empty, Found};
 
-// Chains of entries, twice as many as a plan of document 01 has records.
+// Chains of entries, twice as many as a plan of the first edition has records.
 pub const BUCKETS: usize = 16384;
 
 // An odd number near 2^32 divided by the golden ratio: it spreads the outputs over all bits.

@@ -1,5 +1,5 @@
 // One slot of the quick cover, on a working copy with a label of outputs for each input: every input in turn, from one of them around,
-// takes the lowest free output with slots left for that pair. Inputs without slots left are passed over, by a set of those that may ask.
+// takes the lowest output that is free and that it has slots left for (§8.1). Inputs without any are passed over, by a set of those that may ask.
 // It promises that what was still to come is this slot's record and what is still to come of the cells it leaves, for any number of ports
 // up to 128. When the slots end and where their records go is left to the crate above.
 use labels::FoundInput;
@@ -88,7 +88,7 @@ fn visit_each(
     }
 }
 
-// One input's turn: it takes the lowest free output with slots left for that pair, and one slot is subtracted; else it stays idle.
+// One input's turn: the lowest output that is free and for which it has slots left is its own for this slot, or it stays idle (§8.1).
 fn visit(
     n: usize,
     work: &mut [u32],

@@ -13,7 +13,7 @@ use Rattle.switch.specs.declared.Counts.{Counts}
 use Rattle.switch.specs.declared.Outcome.{Outcome}
 use Rattle.switch.specs.declared.Outcome.the-variants.{Done, Refused}
 
--- the table of codes
+-- the table of codes (§9.7)
 abbrev pub refusalCode : Refusal → ℕ
 refusalCode Ports = 1
 refusalCode (Cells k) = 2
@@ -39,7 +39,7 @@ abbrev pub lineNumber : Side → ℕ
 lineNumber (Input p) = p .0
 lineNumber (Output p) = p .0
 
--- the table of places
+-- the table of places (§9.7)
 abbrev pub refusalPlace : Refusal → ℕ
 refusalPlace Ports = 0
 refusalPlace (Cells k) = k
@@ -60,7 +60,7 @@ refusalPlace (FirstOver k) = k
 refusalPlace (ListRoom k) = k
 refusalPlace Limit = 0
 
--- the side's number: 1 input, 2 output
+-- the side's number: 1 input, 2 output (§9.8)
 abbrev pub sideNumber : Side → ℕ
 sideNumber (Input p) = 1
 sideNumber (Output p) = 2
@@ -99,7 +99,7 @@ abbrev pub sideOf : Outcome → ℕ
 sideOf (Done c) = 0
 sideOf (Refused r) = refusalSide r
 
--- a refusal gives 0 for records, T, total, length and empty slots
+-- a refusal counts nothing (§9.6)
 abbrev pub noCounts : Counts
 noCounts = record { records = 0; longest = 0; total = 0; length = 0; empty = 0 }
 
@@ -121,10 +121,10 @@ aboutNumber about.Demand = 4
 aboutNumber about.Wished = 5
 aboutNumber about.Sum = 6
 
--- what the planners and the checker count: records, T, total and empty slots
+-- what the planners and the checker count: records, T, total and empty slots (§9.2)
 abbrev pub demandCounts : ℕ → ℕ → ℕ → ℕ → Counts
 demandCounts records longest total empty = record { records = records; longest = longest; total = total; length = 0; empty = empty }
 
--- what a call counts that sets no plan against a demand: no empty slots
+-- what a call counts that sets no plan against a demand: no empty slots (§9.4)
 abbrev pub planCounts : ℕ → ℕ → ℕ → Counts
 planCounts records longest total = demandCounts records longest total 0

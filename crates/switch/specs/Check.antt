@@ -1,4 +1,4 @@
--- How many ports a switch may have. Definitions only.
+-- How many ports a switch may have (§3.1). Definitions only.
 use mathlib.Core.Bool.{Bool, _&&_}
 use Prim.Native.Nat.{ℕ}
 use lib.Dec.{ltb, leb}

@@ -1,4 +1,4 @@
--- A demand is N × N cells, cell i×N + j being the slots asked from input i to output j. Definitions only.
+-- A demand's cells, its lines and the longest of them (§3.3, §3.4). Definitions only.
 use mathlib.Core.Bool.{cond}
 use mathlib.Core.List.{List}
 use Prim.Native.Nat.{ℕ, _+_, _*_, _-_, max}
@@ -7,14 +7,14 @@ use lib.Dec.{ltb}
 use Rattle.counting.specs.Sum.{most}
 use Rattle.counting.specs.Matrix.{row, col}
 
--- the slots asked from input i to output j; 0 past the list's end
+-- what is asked for the pair (i, j), which stands at i × N + j (§3.3); 0 past the list's end
 unfoldable pub cell : ℕ → List ℕ → ℕ → ℕ → ℕ
 cell N d i j = getD d (i * N + j) 0
 
--- a line is one input's row or one output's column; counted with the inputs before the outputs
+-- the sum of line k (§3.4): the rows come first, then the columns
 unfoldable pub line : ℕ → List ℕ → ℕ → ℕ
 line N d k = cond (ltb k N) (row N (cell N d) k) (col N (cell N d) (k - N))
 
--- T is the largest line sum
+-- T, the largest sum of a line (§3.4)
 unfoldable pub longest : ℕ → (ℕ → ℕ → ℕ) → ℕ
 longest N M = max (most N (row N M)) (most N (col N M))

@@ -1,4 +1,4 @@
--- The slots that a plan connects and that carry nothing asked for. Definitions only.
+-- The slots that a plan connects and that carry nothing asked for (§3.9). Definitions only.
 use mathlib.Core.List.{List, [], _∷_}
 use Prim.Native.Nat.{ℕ, _-_}
 use Rattle.counting.specs.Sum.{sum}

@@ -1,4 +1,4 @@
-// The model: ports, sides, refusals and the outcome of a call, with document 01's numbers for each of its cases.
+// The model: ports, sides, refusals and the outcome of a call, with the numbers of §9 for each of its cases.
 // What a demand, a line, T, a setting, a plan, its grants, its cover and its empty slots are stands in specs/, over any number of ports, and
 // in proofs/ that no plan that covers a demand is held for less than T. Checking a demand and planning it are left to the crates above.
 ghost use mathlib.Core.Path.{_≡_};
@@ -22,7 +22,7 @@ pub struct Edition {
     pub records: usize,
 }
 
-// Ingress and egress numbers count apart: an input's number never stands where an output's is meant.
+// The two sides are counted apart (§3.2): no function can take an input for an output.
 pub struct InputPort(pub usize);
 
 pub struct OutputPort(pub usize);
@@ -43,7 +43,7 @@ pub enum Refusal {
     Line(Side),
     // T is over what the quick cover takes.
     Longest,
-    // The plan buffer holds fewer whole records than the plan has, which it holds.
+    // There is too little room for the plan; it holds how many records that has.
     Room(usize),
     // A wish is a NaN or an infinity.
     NotFinite(usize),
@@ -67,7 +67,7 @@ pub enum Refusal {
     NotInForce,
     // More first records are asked for than the plan has, which is what it holds.
     FirstOver(usize),
-    // The list's buffer holds fewer whole entries than are needed, which it holds.
+    // The list has no room for all its entries; it holds how many they are.
     ListRoom(usize),
     // At most 0 inputs may share a wavelength.
     Limit,
@@ -110,7 +110,7 @@ pub struct Numbers {
     pub counts: Counts,
 }
 
-// Document 01's numbers of an outcome.
+// The numbers of an outcome (§9).
 pub fn numbers_of(o: Outcome) -> Numbers
     ensures { λ r. ⌜ r ≡ numbersOf o ⌝ }
 {

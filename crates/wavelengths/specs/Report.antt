@@ -1,4 +1,4 @@
--- What the report of a plan answers, and the report buffer's bytes afterwards. Definitions only.
+-- What the report of a plan answers, and the report buffer's bytes afterwards (§13.3, §13.4). Definitions only.
 use mathlib.Core.List.{List}
 use Prim.Native.Nat.{ℕ}
 use lib.ListN.{length}

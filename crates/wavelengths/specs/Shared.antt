@@ -1,4 +1,4 @@
--- Wavelengths on the grating fabric, and how many inputs of a record share one. Definitions only.
+-- Wavelengths on the grating fabric (§13.1), and how many inputs of a record share one. Definitions only.
 use mathlib.Core.Path.{_≡_}
 use mathlib.Core.Bool.{Bool, _&&_}
 use mathlib.Core.List.{List, map}
@@ -9,7 +9,7 @@ use Rattle.counting.specs.Sum.{most}
 use Rattle.counting.specs.Count.{count}
 use Rattle.switch.specs.Plan.{Record, output}
 
--- input i reaches output j by wavelength (j - i) mod N
+-- the wavelength that leads from input i to output j (§13.1)
 unfoldable pub wavelength : ℕ → ℕ → ℕ → ℕ
 wavelength N i j = (j + (N - i)) % N
 
@@ -21,7 +21,7 @@ uses N r w i = ltb (output r i) N && eqb (wavelength N i (output r i)) w
 unfoldable pub sharing : ℕ → Record → ℕ → ℕ
 sharing N r w = count N (uses N r w)
 
--- the most inputs that share one wavelength
+-- the most inputs that share one wavelength (§13.3)
 unfoldable pub mostShared : ℕ → Record → ℕ
 mostShared N r = most N (sharing N r)
 

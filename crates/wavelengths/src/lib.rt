@@ -1,5 +1,5 @@
-// What a plan does on the grating fabric, where input i reaches output j by wavelength (j - i) mod N: for each record of a plan the most
-// inputs that share one wavelength. It judges the plan as every reader of plans does, and promises its whole answer and every byte of the
+// What a plan does on the grating fabric, where the pair (i, j) has wavelength (j - i) mod N: the largest number of inputs on one
+// wavelength, record by record (§13.3). It judges the plan as every reader of plans does, and promises its whole answer and every byte of the
 // report for any N and any bytes; everything is decided before the first byte is written. Who made the plan makes no difference.
 use plans::check_plan;
 use plans::record_at;
@@ -75,7 +75,7 @@ fn count_inputs(n: usize, rec: &[u8], shares: &mut [u8])
     }
 }
 
-// Input i reaches output j by wavelength (j - i) mod N.
+// The wavelength that leads from input i to output j: (j - i) mod N.
 fn wavelength_of(n: usize, i: InputPort, j: OutputPort) -> usize
     requires { ⌜ (i .0 < n) × (j .0 < n) × (n ≤ 128) ⌝ }
     ensures { λ r. ⌜ (r ≡ wavelength n (i .0) (j .0)) × (r < n) ⌝ }

@@ -1,4 +1,4 @@
--- What is computed is what document 01 asks, and nothing else is: each case of `wishOf` meets its rule, and a wish meets one rule alone.
+-- What is computed is what §4 asks, and nothing else is: each case of `wishOf` meets its rule, and a wish meets one rule alone.
 use Prim.Native.Nat.{ℕ, _*_, _<_, _≤_}
 use native.Mathlib.Nat.{mul-le-mul-right}
 use native.Mathlib.Omega.{arith}

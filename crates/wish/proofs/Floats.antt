@@ -1,4 +1,4 @@
--- Over whole numbers each comparison that `classify` makes is one of document 01's rules, so each way out has the answer that is asked for.
+-- Over whole numbers each comparison that `classify` makes is one of the rules of §4, so each way out has the answer that is asked for.
 use Prim.Native.Nat.{ℕ, _*_}
 use native.Mathlib.Nat.{mul-one, zero-mul, add-zero}
 use native.Mathlib.Omega.{arith}

@@ -1,4 +1,4 @@
--- Document 01's table of bits holds, by computing it.
+-- The table of bits in §4.4 holds, by computing it.
 use Prim.Native.Nat.{ℕ}
 use mathlib.Core.Path.{_≡_, refl}
 use mathlib.Core.List.{List, [], _∷_, map}

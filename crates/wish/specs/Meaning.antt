@@ -1,4 +1,4 @@
--- What document 01 asks of a wish's answer, without saying how it is computed. Definitions only.
+-- What is asked of a wish's answer (§4.2 to §4.4), without saying how it is computed. Definitions only.
 use Prim.Native.Nat.{ℕ, _*_, _<_, _≤_}
 use mathlib.Core.Bool.{Bool, true, false}
 use mathlib.Core.Path.{_≡_}
@@ -8,7 +8,7 @@ use Rattle.wish.specs.Wish.{mostSlots, worth}
 use Rattle.wish.specs.declared.Wish.{Wish}
 use Rattle.wish.specs.declared.Wish.the-variants.{Slots, NotFinite, BelowZero, AboveMost}
 
--- k is "the least whole number of slots not below the wish" num / den
+-- k is the wish num / den rounded up: not below it, and no smaller whole number is (§4.3)
 pub record LeastNotBelow (num den k : ℕ) : Type 0 where
   pub enough : num ≤ k * den
   pub least : (j : ℕ) → j < k → j * den < num

@@ -16,7 +16,7 @@ mostSlots = 65535
 unfoldable pub ceil : ℕ → ℕ → ℕ
 ceil num den = (num + (den - 1)) / den
 
--- the slots given for a wish whose least whole number not below it is k: above zero the larger of 2 and that, and zero stays 0
+-- the slots of a wish whose ceiling is k: that, but 2 in the place of 1 (§4.3)
 unfoldable pub worth : ℕ → ℕ
 worth zero = 0
 worth (suc k) = max 2 (suc k)
@@ -38,7 +38,7 @@ wishOf (fin s m e) = finite s (m * up e) (down e)
 unfoldable pub wishBits : ℕ → Wish
 wishBits b = wishOf (ofBits binary32 b)
 
--- document 01's code of a wish, 0 where nothing is refused
+-- the code of a wish (§4.4), 0 where nothing is refused
 abbrev pub codeOf : Wish → ℕ
 codeOf (Slots k) = 0
 codeOf NotFinite = 6

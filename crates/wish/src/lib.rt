@@ -57,7 +57,7 @@ pub fn classify(x: f32) -> Wish
     Wish::Slots(worth_of(rounded_up(x)))
 }
 
-// Document 01's code of a wish, 0 where nothing is refused.
+// The code of a wish, 0 where nothing is refused.
 pub fn code_of(wish: Wish) -> u8
     ensures { λ r. ⌜ r ≡ codeOf wish ⌝ }
 {

@@ -1,4 +1,4 @@
--- The first faulty record of a wish list, tried in the order 11, 12, 6, 7, 8. Definitions only.
+-- The first faulty record of a wish list, tried in the order 11, 12, 6, 7, 8 (§4.7, §9.9). Definitions only.
 use Prim.Native.Nat.{ℕ, zero, suc, _<_}
 use mathlib.Core.Bool.{Bool, false, _||_, cond}
 use mathlib.Core.List.{List}

@@ -1,4 +1,4 @@
--- A wish list is 8-byte records, no header: input, output, two zero bytes, then a binary32 value, low byte first. Definitions only.
+-- The records of a wish list (§4.5): a pair of ports, two spare bytes, and the wish's bits, low byte first. Definitions only.
 use Prim.Native.Nat.{ℕ, _+_, _*_}
 use mathlib.Core.Bool.{Bool, _&&_}
 use mathlib.Core.List.{List}

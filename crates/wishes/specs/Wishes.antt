@@ -1,4 +1,4 @@
--- What the call on a wish list answers, and what the cells are then. Definitions only.
+-- What the call on a wish list answers, and what the cells are then (§4.6). Definitions only.
 use Prim.Native.Nat.{ℕ, zero, suc, _+_, _*_, _/_, _%_, _<_}
 use mathlib.Core.List.{List}
 use mathlib.Core.Path.{_≡_}
@@ -33,12 +33,12 @@ pub record Demanded (N : ℕ) (s : List ℕ) (m : ℕ) (d : List ℕ) : Type 0 w
   pub named : (k : ℕ) → k < m → cell N d (recordAt s k .input .0) (recordAt s k .output .0) ≡ slotsOf (wishBits (recordAt s k .bits))
   pub other : (i j : ℕ) → i < N → j < N → (NamedBy s m i j → ⊥) → cell N d i j ≡ 0
 
--- wishes give as records the number of wish records, and no T or total
+-- the number of wish records, or the first fault (§9.2)
 abbrev pub ofFault : ℕ → Fault → Outcome
 ofFault count Nothing = Done (planCounts count 0 0)
 ofFault count (At r) = Refused r
 
--- wishes 1, 2, 9, then the first faulty record; for a list s and len cells, of a switch of up to `most` ports
+-- codes 1, 2 and 9, then the first fault (§9.9); for a list s and len cells, of a switch of up to `most` ports
 unfoldable pub outcome : ℕ → ℕ → List ℕ → ℕ → Outcome
 outcome most N s len =
     unless (portsFine most N) (Refused Ports)

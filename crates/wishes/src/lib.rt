@@ -19,7 +19,7 @@ ghost use Rattle.wishes.specs.Fault.{wishFault, faultOf, firstFault};
 ghost use Rattle.wishes.specs.Seen.{Room, Empty, Marks, seenPair};
 ghost use Rattle.wishes.specs.Wishes.{put, demandOf, outcome, cellsAfter};
 
-// A record: input, output, two zero bytes, then a binary32 value of four bytes, low byte first.
+// A wish record and where its parts stand (§4.5).
 const RECORD: usize = 8;
 
 const OUTPUT: usize = 1;

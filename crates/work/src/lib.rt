@@ -33,7 +33,7 @@ pub fn copy(demand: &[u32], cells: &mut [u32])
     }
 }
 
-// Every cell in order gets the smaller of what its row and its column still lack of T.
+// Cells in order are topped up, each by as much as its row and its column both allow (§6.2).
 pub fn fill_up(cells: &mut [u32], n: usize, longest: u64)
     requires { ⌜ Within n longest (now cells) ⌝ }
     ensures { λ _. ⌜ now (cells .exit) ≡ fill n longest (now (cells .entry)) ⌝ }

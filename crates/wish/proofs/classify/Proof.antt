@@ -1,4 +1,4 @@
--- Each way out of `wish::classify` is one of document 01's cases: past the three tests for what is not finite, comparisons over whole numbers decide.
+-- Each way out of `wish::classify` is one of the cases of §4: past the three tests for what is not finite, comparisons over whole numbers decide.
 use borrow.Author.Needs.{needs}
 use mathlib.Core.Bool.{true, false}
 use lib.Ieee.{ofBits, neg, div}

@@ -1,4 +1,4 @@
--- Each return is the first of document 01's faults that the record has, in their order.
+-- Each return is the first of the faults of §4.7 that the record has, in their order.
 use native.Mathlib.Nat.{lt-of-lt-of-le}
 use mathlib.Core.Path.{sym, ap, _∙_}
 use borrow.Author.Tests.{not-true, not-false}
