@@ -2,4 +2,3 @@ pub mod Standing
 pub mod Filling
 pub mod Loading
 pub mod Planning
-pub mod Rounds

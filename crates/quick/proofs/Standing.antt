@@ -1,10 +1,14 @@
 -- Between two slots the working copy is in step with its labels, and what is still to come is no more than there are slots left.
 use mathlib.Core.Path.{_≡_, sym, _∙_, subst}
 use mathlib.Core.List.{List, [], _∷_}
-use Prim.Native.Nat.{ℕ, _+_, _≤_}
+use Prim.Native.Nat.{ℕ, _+_, _*_, _≤_}
+use native.Mathlib.Nat.{mul-le-mul}
 use native.Mathlib.Omega.{arith}
 use lib.ListN.{length}
 use Rattle.switch.specs.Demand.{cell}
+use Rattle.switch.specs.Empty.{allSlots}
+use Rattle.switch.proofs.Empty.{asked-most}
+use Rattle.demand.specs.Lines.{Short}
 use Rattle.rules.proofs.QuickFrom.{quick-short, quick-end}
 use Rattle.work.specs.Level.{Sized}
 use Rattle.slot.specs.declared.Rest.{Rest}
@@ -14,6 +18,11 @@ use Rattle.slot.specs.Filled.{leftIn, leftover, Copy, Filled}
 pub leftover-short : (W N s : ℕ) (w : List ℕ) → Sized N w → length (leftover W N s w) ≤ leftIn N w
 unfolding leftover leftIn
 leftover-short W N s w z = quick-short W N (z .some) (omega (arith, z .few)) s (cell N w)
+
+-- which are few where no line is too long
+pub left-few : (N : ℕ) (w : List ℕ) → Short N w → leftIn N w ≤ 128 * 65535
+unfolding leftIn allSlots
+left-few N w s = omega (arith, asked-most N (cell N w), mul-le-mul (s .sized .few) (s .lines))
 
 pub record Standing (W N : ℕ) (w lows highs out : List ℕ) (rest : Rest) : Type 0 where
   pub copy : Copy N rest w lows highs

@@ -4,11 +4,14 @@ use mathlib.Core.Bool.{Bool, true, false, cond}
 use mathlib.Core.List.{List}
 use Prim.Native.Nat.{ℕ, _+_, _*_, _≤_, _<_}
 use lib.ListN.{length}
-use Rattle.switch.specs.Demand.{cell, longest}
+use Rattle.switch.specs.Demand.{cell}
+use Rattle.demand.specs.declared.Checked.{Checked}
+use Rattle.demand.specs.declared.Checked.the-variants.{Fine}
+use Rattle.demand.specs.Check.{checkDemand}
+use Rattle.records.specs.Bytes.{encode, laid, whole}
+use Rattle.rules.specs.Quick.{quickPlan}
+use Rattle.planner.specs.Planned.{shortage}
 use Rattle.work.specs.Level.{Sized}
-use Rattle.records.specs.Bytes.{encode, laid}
-use Rattle.slot.specs.declared.Rest.{Rest}
-use Rattle.slot.specs.Filled.{Copy}
 
 -- room for the working copy of a demand of N ports, for its labels and for the outputs of a slot
 pub record Space (N : ℕ) (w lows highs out : List ℕ) : Type 0 where
@@ -25,16 +28,26 @@ pub record Lent (w lows highs out : List ℕ) : Type 0 where
   pub low : length out ≤ length lows
   pub high : length out ≤ length highs
 
--- a demand of N ports whose lines are no longer than a hold can be
-pub record Small (N : ℕ) (d : List ℕ) : Type 0 where
-  pub few : N ≤ 128
-  pub size : length d ≡ N * N
-  pub lines : longest N (cell N d) ≤ 65535
-
 -- the working copy has the demand's cells
-pub record Loaded (N : ℕ) (d w' lows' highs' : List ℕ) (rest' : Rest) : Type 0 where
-  pub copy : Copy N rest' w' lows' highs'
-  pub same : (i j : ℕ) → i < N → j < N → cell N w' i j ≡ cell N d i j
+abbrev pub Copied : ℕ → List ℕ → List ℕ → Type 0
+Copied N d w = (i j : ℕ) → i < N → j < N → cell N w i j ≡ cell N d i j
+
+-- the demand is checked, and where nothing refuses it by itself it is copied in
+pub record CopyChecked (W N : ℕ) (d w' : List ℕ) (r : Checked) : Type 0 where
+  pub checked : r ≡ checkDemand W N d
+  pub copied : (T : ℕ) → r ≡ Fine T → Copied N d w'
+
+-- a demand that nothing but the room can refuse, and its working copy
+pub record Asked (W N T : ℕ) (d w : List ℕ) : Type 0 where
+  pub fine : checkDemand W N d ≡ Fine T
+  pub small : T ≤ 1024
+  pub copied : Copied N d w
+
+-- how many records do not fit; where all do, the demand is copied in
+pub record ShortOf (W N : ℕ) (d plan plan' w' : List ℕ) (need : ℕ) : Type 0 where
+  pub lacks : need ≡ shortage (whole W plan) (length (quickPlan W N d))
+  pub same : plan' ≡ plan
+  pub copied : need ≡ 0 → Copied N d w'
 
 -- the plan with a string laid over it from a place on, where that is to be written
 unfoldable pub laidIf : Bool → List ℕ → ℕ → List ℕ → List ℕ

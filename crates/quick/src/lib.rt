@@ -22,15 +22,13 @@ ghost use mathlib.Core.Path.{_≡_};
 ghost use mathlib.Core.Bool.{true};
 ghost use Prim.Native.Nat.{_+_, _*_, _-_, _<_, _≤_};
 ghost use lib.ListN.{length};
-ghost use Rattle.demand.specs.Check.{checkDemand};
-ghost use Rattle.demand.specs.declared.Checked.the-variants.{Fine};
+ghost use Rattle.demand.specs.Lines.{Short};
 ghost use Rattle.records.specs.Bytes.{bytes};
 ghost use Rattle.rules.specs.Quick.{quickPlan};
 ghost use Rattle.switch.specs.Result.{Gives};
 ghost use Rattle.planner.specs.Planned.{plannedUpTo};
-ghost use Rattle.work.specs.Level.{Sized};
 ghost use Rattle.slot.specs.Filled.{leftover, Copy};
-ghost use Rattle.quick.specs.Lent.{Space, Lent, Small, Loaded, laidIf, LaidOne};
+ghost use Rattle.quick.specs.Lent.{Space, Lent, Asked, CopyChecked, ShortOf, laidIf, LaidOne};
 
 // T is at most 1,024 here.
 pub const MOST_SLOTS: u64 = 1024;
@@ -72,7 +70,7 @@ fn plan_with(
     requires { ⌜ Lent (now work) (now lows) (now highs) (now out) ⌝ }
     ensures { λ r. ⌜ Gives (plannedUpTo 1024 (length (now (out .entry))) edition n (now (cells .entry)) (quickPlan (length (now (out .entry))) n (now (cells .entry))) (now (plan .entry))) r (now (plan .exit)) ⌝ }
 {
-    let checked = check_demand(n, out.len(), cells);
+    let checked = copy_checked(n, out.len(), cells, work);
     match checked {
         Checked::Faulty(r) => Outcome::Refused(r),
         Checked::Fine(longest) => {
@@ -94,8 +92,21 @@ fn plan_with(
     }
 }
 
-// The same for a demand that nothing but the room can refuse. Room for 2T - 1 records is always enough; with less they are counted
-// first, and nothing is written.
+// Codes 1, 2 and 3, and else T. The demand is copied in before its lines are summed, so that each of the caller's cells is read once;
+// one of more cells than any switch here has is refused unread.
+fn copy_checked(n: usize, most: usize, cells: &[u32], work: &mut [u32]) -> Checked
+    requires { ⌜ (most ≤ 128) × (most * most ≤ length (now work)) ⌝ }
+    ensures { λ r. ⌜ CopyChecked most n (now (cells .entry)) (now (work .exit)) r ⌝ }
+{
+    let size = cells.len();
+    if work.len() < size {
+        return check_demand(n, most, cells);
+    }
+    copy(cells, work);
+    check_demand(n, most, &work[..size])
+}
+
+// The same for a demand that nothing but the room can refuse, and that is copied in.
 fn plan_checked(
     n: usize,
     cells: &[u32],
@@ -107,28 +118,49 @@ fn plan_checked(
     highs: &mut [u64],
     out: &mut [u8],
 ) -> Outcome
-    requires { ⌜ (checkDemand (length (now out)) n (now cells) ≡ Fine longest) × (longest ≤ 1024) × Space n (now work) (now lows) (now highs) (now out) ⌝ }
+    requires { ⌜ Asked (length (now out)) n longest (now cells) (now work) × Space n (now work) (now lows) (now highs) (now out) ⌝ }
     ensures { λ r. ⌜ Gives (plannedUpTo 1024 (length (now (out .entry))) edition n (now (cells .entry)) (quickPlan (length (now (out .entry))) n (now (cells .entry))) (now (plan .entry))) r (now (plan .exit)) ⌝ }
 {
-    let room = plan.len() / (out.len() + HEAD);
-    let mut writes = most_records(longest) <= room;
-    loop {
-        let rest = load(n, cells, work, lows, highs);
-        let records = fill_slots(n, edition, plan, writes, work, lows, highs, rest, out);
-        if writes {
-            return Outcome::Done(Counts {
-                records: records,
-                longest: longest,
-                total: records as u64,
-                length: 0,
-                empty: 0,
-            });
-        }
-        if room < records {
-            return Outcome::Refused(Refusal::Room(records));
-        }
-        writes = true;
+    let need = short_of(n, cells, longest, edition, plan, work, lows, highs, out);
+    if need != 0 {
+        return Outcome::Refused(Refusal::Room(need));
     }
+    let records = fill_slots(n, edition, plan, true, work, lows, highs, out);
+    Outcome::Done(Counts {
+        records: records,
+        longest: longest,
+        total: records as u64,
+        length: 0,
+        empty: 0,
+    })
+}
+
+// How many records the plan has, where the room is too small for them; and 0 where it is not. Room for 2T - 1 records is always enough;
+// with less they are counted, and the demand is copied in again.
+fn short_of(
+    n: usize,
+    cells: &[u32],
+    longest: u64,
+    edition: u8,
+    plan: &mut [u8],
+    work: &mut [u32],
+    lows: &mut [u64],
+    highs: &mut [u64],
+    out: &mut [u8],
+) -> usize
+    requires { ⌜ Asked (length (now out)) n longest (now cells) (now work) × Space n (now work) (now lows) (now highs) (now out) ⌝ }
+    ensures { λ r. ⌜ ShortOf (length (now (out .entry))) n (now (cells .entry)) (now (plan .entry)) (now (plan .exit)) (now (work .exit)) r ⌝ }
+{
+    let room = plan.len() / (out.len() + HEAD);
+    if most_records(longest) <= room {
+        return 0;
+    }
+    let need = fill_slots(n, edition, plan, false, work, lows, highs, out);
+    if room < need {
+        return need;
+    }
+    copy(cells, work);
+    0
 }
 
 // The number of records that always suffices: 2T - 1, or 0 when T is 0.
@@ -142,7 +174,7 @@ fn most_records(longest: u64) -> usize
     (2 * longest - 1) as usize
 }
 
-// All slots, until nothing is left: how many they are, and their records at the plan's start where they are to be written.
+// All slots of the working copy, until nothing is left: how many they are, and their records at the plan's start where they are to be written.
 // The working copy is spent.
 fn fill_slots(
     n: usize,
@@ -152,13 +184,12 @@ fn fill_slots(
     work: &mut [u32],
     lows: &mut [u64],
     highs: &mut [u64],
-    all: Rest,
     out: &mut [u8],
 ) -> usize
-    requires { ⌜ Copy n all (now work) (now lows) (now highs) × (n ≤ length (now out)) × (writes ≡ true → length (bytes edition n (leftover (length (now out)) n 0 (now work))) ≤ length (now plan)) ⌝ }
+    requires { ⌜ Short n (now work) × Space n (now work) (now lows) (now highs) (now out) × (writes ≡ true → length (bytes edition n (leftover (length (now out)) n 0 (now work))) ≤ length (now plan)) ⌝ }
     ensures { λ r. ⌜ (r ≡ length (leftover (length (now (out .entry))) n 0 (now (work .entry)))) × (now (plan .exit) ≡ laidIf writes (now (plan .entry)) 0 (bytes edition n (leftover (length (now (out .entry))) n 0 (now (work .entry))))) ⌝ }
 {
-    let mut rest = all;
+    let mut rest = load(n, work, lows, highs);
     let mut s: usize = 0;
     let mut at: usize = 0;
     while rest.left != 0 {
@@ -181,15 +212,14 @@ fn lay(plan: &mut [u8], at: usize, writes: bool, edition: u8, n: usize, out: &[u
     at
 }
 
-// The demand copied in, with its labels. It answers what there is to serve: any input may ask.
-fn load(n: usize, cells: &[u32], work: &mut [u32], lows: &mut [u64], highs: &mut [u64]) -> Rest
-    requires { ⌜ Small n (now cells) × Sized n (now work) × (length (now lows) ≡ n) × (length (now highs) ≡ n) ⌝ }
-    ensures { λ r. ⌜ Loaded n (now (cells .entry)) (now (work .exit)) (now (lows .exit)) (now (highs .exit)) r ⌝ }
+// The labels of the working copy, and what there is to serve: any input may ask.
+fn load(n: usize, work: &[u32], lows: &mut [u64], highs: &mut [u64]) -> Rest
+    requires { ⌜ Short n (now work) × (0 < n) × (length (now lows) ≡ n) × (length (now highs) ≡ n) ⌝ }
+    ensures { λ r. ⌜ Copy n r (now (work .entry)) (now (lows .exit)) (now (highs .exit)) ⌝ }
 {
-    copy(cells, work);
     label_rows(work, n, lows, highs);
     Rest {
         inputs: Inputs::first(n),
-        left: asked_slots(n, cells),
+        left: asked_slots(n, work),
     }
 }

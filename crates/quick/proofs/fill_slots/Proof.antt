@@ -5,7 +5,7 @@ use Prim.Native.Nat.{_+_}
 use native.Mathlib.Omega.{arith}
 use lib.ListN.{length}
 use Rattle.slot.specs.Filled.{leftover}
-use Rattle.quick.proofs.Standing.{leftover-short, Standing, standing-end, standing-more, standing-next}
+use Rattle.quick.proofs.Standing.{left-few, leftover-short, Standing, standing-end, standing-more, standing-next}
 use Rattle.quick.proofs.Filling.{Filling, filling-none, filling-all, filling-room, filling-next}
 use Rattle.quick.proofs.fill_slots.Statement.{statement}
 use Rattle.quick.proofs.fill_slots.Tie as tie
@@ -17,21 +17,27 @@ Inv-loop n edition plan₀ writes work₀ lows₀ highs₀ out₀ rest₀ s₀ a
 abbrev μ-loop : tie.MeasureT-loop
 μ-loop n edition plan₀ writes work₀ lows₀ highs₀ out₀ rest₀ s₀ at₀ plan work lows highs out rest s at = length (leftover (length out₀) n s work)
 
+load-requires : tie.Need-load-requires Inv-loop μ-loop
+load-requires c κs = let p = c .before .before .before .before .before .before .before .before .pre in (p .0, p .1 .sized .some, p .1 .low, p .1 .high)
+
 loop-holds : tie.Need-loop-holds Inv-loop μ-loop
 loop-holds c =
-    let s = c .before .before .before .before .before in
+    let s = c .before .before .before .before .before .before .before .before .before .before .before .before .before in
     let a = s .args in
-    (record { copy = s .pre .0; seats = s .pre .1; wide = refl }, filling-none (a .writes) (a .edition) (a .n) _ _ (s .pre .2), refl)
+    (record { copy = c .before .before .before .before .load .ensures; seats = s .pre .1 .seats; wide = refl }, filling-none (a .writes) (a .edition) (a .n) _ _ (s .pre .2), refl)
 
 fill-slot-requires : tie.Need-fill-slot-requires Inv-loop μ-loop
 fill-slot-requires c κs =
     let g = c .before .before .before .before .before .before .loop .inv .0 in
     (g .copy, g .seats, omega (arith, c .before .before .before .before .if1 .taken))
 
+abbrev start : tie.After-fill-slot Inv-loop μ-loop → tie.Start Inv-loop μ-loop
+start c = c .before .before .before .before .before .before .before .before .before .before .before .before .before .before .before .before .before .before .before .before .before
+
 -- the slot that is filled is the first of those still to come
 more : (c : tie.After-fill-slot Inv-loop μ-loop)
-    → leftover (length (c .before .before .before .before .before .before .before .before .before .before .before .before .before .args .out .now)) (c .before .before .before .before .before .before .before .before .before .before .before .before .before .args .n) (c .before .before .before .before .before .before .before .loop .s) (c .before .before .before .before .before .before .before .loop .work)
-    ≡ record { hold = 1; outputs = c .fill-slot .last .1 .1 .1 .1 .1 .1 .0 } ∷ leftover (length (c .before .before .before .before .before .before .before .before .before .before .before .before .before .args .out .now)) (c .before .before .before .before .before .before .before .before .before .before .before .before .before .args .n) (c .before .before .before .before .before .before .before .loop .s + 1) (c .fill-slot .last .1 .0)
+    → leftover (length (start c .args .out .now)) (start c .args .n) (c .before .before .before .before .before .before .before .loop .s) (c .before .before .before .before .before .before .before .loop .work)
+    ≡ record { hold = 1; outputs = c .fill-slot .last .1 .1 .1 .1 .1 .1 .0 } ∷ leftover (length (start c .args .out .now)) (start c .args .n) (c .before .before .before .before .before .before .before .loop .s + 1) (c .fill-slot .last .1 .0)
 more c = standing-more _ _ _ _ _ _ _ (c .before .before .before .before .before .before .before .loop .inv .0) _ _ _ _ _ _ (c .fill-slot .ensures) (c .fill-slot .kept .1 .1 .1 .1 .1 .1 .0)
 
 lay-requires : tie.Need-lay-requires Inv-loop μ-loop
@@ -42,8 +48,10 @@ lay-requires c κs =
 
 add-s : tie.Need-add-s Inv-loop μ-loop
 add-s c =
-    let s = c .before .before .before .before .before .before .before .before .before .before .before .before .before .before .before .before .before .before .before .before .before .before .before .before .before .before in
-    omega (arith, s .pre .0 .all, leftover-short (length (s .args .out .now)) (s .args .n) 0 (s .args .work .now) (s .pre .0 .sized), c .before .before .before .before .before .before .before .before .before .before .before .before .before .before .before .before .before .before .before .before .loop .inv .1 .count, ap length (more (c .before .before .before .before .before .before .before .before .before .before .before .before .before)))
+    let f = c .before .before .before .before .before .before .before .before .before .before .before .before .before in
+    let a = start f .args in
+    let l = c .before .before .before .before .before .before .before .before .before .before .before .before .before .before .before .before .before .before .before .before .before .before .before .before .before .load .ensures in
+    omega (arith, left-few (a .n) (a .work .now) (start f .pre .0), leftover-short (length (a .out .now)) (a .n) 0 (a .work .now) (l .sized), c .before .before .before .before .before .before .before .before .before .before .before .before .before .before .before .before .before .before .before .before .loop .inv .1 .count, ap length (more f))
 
 loop-less : tie.Need-loop-less Inv-loop μ-loop
 loop-less c = omega (arith, ap length (more (c .before .before .before .before .before .before .before .before .before .before .before .before .before)))
@@ -65,10 +73,10 @@ same-length-2 : tie.Need-same-length-2 Inv-loop μ-loop
 same-length-2 c = c .before .before .loop .inv .2
 
 same-length-3 : tie.Need-same-length-3 Inv-loop μ-loop
-same-length-3 c = c .before .before .loop .inv .0 .copy .labels .low ∙ sym (c .before .before .before .before .before .before .before .before .pre .0 .labels .low)
+same-length-3 c = c .before .before .loop .inv .0 .copy .labels .low ∙ sym (c .before .before .before .before .before .before .before .before .before .before .before .before .before .before .before .before .pre .1 .low)
 
 same-length-4 : tie.Need-same-length-4 Inv-loop μ-loop
-same-length-4 c = c .before .before .loop .inv .0 .copy .labels .high ∙ sym (c .before .before .before .before .before .before .before .before .pre .0 .labels .high)
+same-length-4 c = c .before .before .loop .inv .0 .copy .labels .high ∙ sym (c .before .before .before .before .before .before .before .before .before .before .before .before .before .before .before .before .pre .1 .high)
 
 same-length-5 : tie.Need-same-length-5 Inv-loop μ-loop
 same-length-5 c = c .before .before .loop .inv .0 .wide
@@ -84,6 +92,7 @@ fill-slots-spec =
     (tie.spec
     Inv-loop
     μ-loop
+    load-requires
     loop-holds
     fill-slot-requires
     lay-requires

@@ -1,6 +1,7 @@
 -- What the demand is refused for by itself comes first, then T, and then what is left to the room.
 use mathlib.Core.Path.{_≡_, sym, _∙_}
 use Prim.Native.Nat.{_≤_}
+use native.Mathlib.Omega.{arith}
 use lib.ListN.{length, take}
 use Rattle.demand.specs.declared.Checked.the-variants.{Fine}
 use Rattle.demand.specs.Check.{checkDemand}
@@ -10,8 +11,8 @@ use borrow.Author.Needs.{needs}
 use Rattle.quick.proofs.plan_with.Statement.{statement}
 use Rattle.quick.proofs.plan_with.Tie as tie
 
-check-demand-requires : tie.Need-check-demand-requires
-check-demand-requires c κs = c .before .before .before .before .before .before .pre .few
+copy-checked-requires : tie.Need-copy-checked-requires
+copy-checked-requires c κs = search needs
 
 enum-known-checked : tie.Need-enum-known-checked
 enum-known-checked c = search needs
@@ -19,12 +20,15 @@ enum-known-checked c = search needs
 enum-known-checked-2 : tie.Need-enum-known-checked-2
 enum-known-checked-2 c = search needs
 
+same-length : tie.Need-same-length
+same-length c = search needs
+
 -- the demand is not refused by itself
 abbrev start : tie.After-checked2 → tie.Start
-start c = c .before .before .before .before .before .before .before .before .before
+start c = c .before .before .before .before .before .before .before .before .before .before .before .before
 
 fine : (c : tie.After-checked2) → checkDemand (length (start c .args .out .now)) (start c .args .n) (start c .args .cells .now) ≡ Fine (c .checked2 .given .0 .0)
-fine c = sym (c .before .before .check-demand .ensures) ∙ c .checked2 .given .1
+fine c = sym (c .before .before .before .before .copy-checked .ensures .checked) ∙ c .checked2 .given .1
 
 returns : tie.Need-returns
 returns c =
@@ -34,10 +38,13 @@ returns c =
 
 -- what it lends
 lent : (c : tie.After-checked2) → (start c .args .n ≤ length (start c .args .lows .now)) × (start c .args .n ≤ length (start c .args .highs .now))
-    × Space (start c .args .n) (start c .args .work .now) (take (start c .args .n) (start c .args .lows .now)) (take (start c .args .n) (start c .args .highs .now)) (start c .args .out .now)
+    × Space (start c .args .n) (c .before .before .before .before .copy-checked .last .1 .1 .1 .0) (take (start c .args .n) (start c .args .lows .now)) (take (start c .args .n) (start c .args .highs .now)) (start c .args .out .now)
 lent c =
     let a = start c .args in
-    lends (a .n) (c .checked2 .given .0 .0) (a .cells .now) (a .work .now) (a .lows .now) (a .highs .now) (a .out .now) (start c .pre) (fine c)
+    let p = start c .pre in
+    let k = c .before .before .before .before .copy-checked in
+    lends (a .n) (c .checked2 .given .0 .0) (a .cells .now) (k .last .1 .1 .1 .0) (a .lows .now) (a .highs .now) (a .out .now)
+    (record { few = p .few; cells = omega (arith, p .cells, k .kept .1 .1 .1 .0); low = p .low; high = p .high }) (fine c)
 
 slice-relend-prefix-plan-checked : tie.Need-slice-relend-prefix-plan-checked
 slice-relend-prefix-plan-checked c = lent (c .before .before .before .before) .0
@@ -52,19 +59,18 @@ slice-aggregate-plan-checked-2 : tie.Need-slice-aggregate-plan-checked-2
 slice-aggregate-plan-checked-2 c = sym (lent (c .before .before .before .before .before .before) .2 .high)
 
 plan-checked-requires : tie.Need-plan-checked-requires
-plan-checked-requires c κs = (fine (c .before .before .before .before .before .before .before), c .before .before .before .before .before .if1 .left, lent (c .before .before .before .before .before .before .before) .2)
+plan-checked-requires c κs =
+    let f = c .before .before .before .before .before .before .before in
+    (record { fine = fine f; small = c .before .before .before .before .before .if1 .left; copied = f .before .before .before .before .copy-checked .ensures .copied _ (f .checked2 .given .1) }, lent f .2)
+
+same-length-2 : tie.Need-same-length-2
+same-length-2 c = search needs
 
 returns-2 : tie.Need-returns-2
 returns-2 c =
     let k = c .before in
-    let a = c .before .before .before .before .before .before .before .before .before .before .args in
-    gives-fault (length (a .out .now)) (a .edition) (a .n) (a .cells .now) (a .plan .now) (k .checked .given .0 .0) (sym (k .before .before .check-demand .ensures) ∙ k .checked .given .1)
-
-same-length : tie.Need-same-length
-same-length c = search needs
-
-same-length-2 : tie.Need-same-length-2
-same-length-2 c = search needs
+    let a = c .before .before .before .before .before .before .before .before .before .before .before .before .before .args in
+    gives-fault (length (a .out .now)) (a .edition) (a .n) (a .cells .now) (a .plan .now) (k .checked .given .0 .0) (sym (c .before .before .before .before .before .copy-checked .ensures .checked) ∙ k .checked .given .1)
 
 same-length-3 : tie.Need-same-length-3
 same-length-3 c = search needs
@@ -75,26 +81,34 @@ same-length-4 c = search needs
 same-length-5 : tie.Need-same-length-5
 same-length-5 c = search needs
 
+same-length-6 : tie.Need-same-length-6
+same-length-6 c = search needs
+
+same-length-7 : tie.Need-same-length-7
+same-length-7 c = search needs
+
 returns-3 : tie.Need-returns-3
-returns-3 c = c .before .before .before .before .before .before .before .before .before .before .plan-checked .ensures
+returns-3 c = search needs
 
 pub plan-with-spec : {M : Type 1} → statement M
 plan-with-spec =
     tie.close
     (tie.spec
-    check-demand-requires
+    copy-checked-requires
     enum-known-checked
     enum-known-checked-2
+    same-length
     returns
     slice-relend-prefix-plan-checked
     slice-aggregate-plan-checked
     slice-relend-prefix-plan-checked-2
     slice-aggregate-plan-checked-2
     plan-checked-requires
-    returns-2
-    same-length
     same-length-2
+    returns-2
     same-length-3
     same-length-4
     same-length-5
+    same-length-6
+    same-length-7
     returns-3)

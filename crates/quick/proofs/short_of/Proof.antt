@@ -1,0 +1,126 @@
+-- Where the room is for 2T - 1 records all fit; else they are counted, and only where all fit is the demand copied in again.
+use mathlib.Core.Path.{_≡_, refl, sym, ap, _∙_, subst}
+use mathlib.Core.Bool.{true≢false}
+use native.Mathlib.Omega.{arith}
+use lib.ListN.{length}
+use Rattle.switch.proofs.Demand.{cell-append}
+use Rattle.demand.proofs.Check.{fine-asked}
+use Rattle.records.specs.Bytes.{whole}
+use Rattle.rules.specs.Quick.{quickPlan}
+use Rattle.planner.proofs.Planned.{fits-room, lacks-room}
+use Rattle.quick.specs.Lent.{Copied, laidIf}
+use Rattle.quick.proofs.Loading.{copied-short, copied-plan}
+use Rattle.quick.proofs.Planning.{enough}
+use borrow.Author.Needs.{needs}
+use Rattle.quick.proofs.short_of.Statement.{statement}
+use Rattle.quick.proofs.short_of.Tie as tie
+
+add-room : tie.Need-add-room
+add-room c = search needs
+
+div-room : tie.Need-div-room
+div-room c = search needs
+
+most-records-requires : tie.Need-most-records-requires
+most-records-requires c κs = search needs
+
+returns : tie.Need-returns
+returns c =
+    let s = c .before .before .before .before .before .before .before .before in
+    let a = s .args in
+    let W = length (a .out .now) in
+    record {
+      lacks = fits-room (whole W (a .plan .now)) (length (quickPlan W (a .n) (a .cells .now)))
+          (enough W (a .n) (a .longest) (whole W (a .plan .now)) (a .cells .now) (s .pre .1 .wide) (fine-asked _ _ _ _ (s .pre .0 .fine)) (omega (arith, c .before .most-records .ensures, c .if1 .taken)));
+      same = refl;
+      copied = λ _. s .pre .0 .copied;
+    }
+
+fill-slots-requires : tie.Need-fill-slots-requires
+fill-slots-requires c κs =
+    let s = c .before .before .before .before .before .before .before .before .before .before .before .before .before in
+    (copied-short _ _ _ _ (s .pre .1 .sized) (s .pre .0 .copied) _ (fine-asked _ _ _ _ (s .pre .0 .fine)), s .pre .1, λ e. absurd (true≢false (sym e)))
+
+same-length : tie.Need-same-length
+same-length c = search needs
+
+same-length-2 : tie.Need-same-length-2
+same-length-2 c = search needs
+
+same-length-3 : tie.Need-same-length-3
+same-length-3 c = search needs
+
+same-length-4 : tie.Need-same-length-4
+same-length-4 c = search needs
+
+same-length-5 : tie.Need-same-length-5
+same-length-5 c = search needs
+
+-- the records are counted, and nothing is written
+abbrev start : tie.After-fill-slots → tie.Start
+start c = c .before .before .before .before .before .before .before .before .before .before .before .before .before .before
+
+counted : (c : tie.After-fill-slots) → c .fill-slots .result ≡ length (quickPlan (length (start c .args .out .now)) (start c .args .n) (start c .args .cells .now))
+counted c = c .fill-slots .ensures .0 ∙ ap length (copied-plan _ _ _ _ (start c .pre .1 .sized) (start c .pre .0 .copied))
+
+unwritten : (c : tie.After-fill-slots) → c .fill-slots .last .1 .1 .0 ≡ start c .args .plan .now
+unfolding laidIf
+unwritten c = c .fill-slots .ensures .1
+
+returns-2 : tie.Need-returns-2
+returns-2 c =
+    let f = c .before .before .before .before .before .before .before .before .before .before .before in
+    record { lacks = counted f ∙ lacks-room _ _ (omega (arith, counted f, c .if2 .taken)); same = unwritten f; copied = λ z. absurd (omega (arith, z, c .if2 .taken)) }
+
+copy-requires : tie.Need-copy-requires
+copy-requires c κs =
+    let s = c .before .before .before .before .before .before .before .before .before .before .before .before .before .before .before .before .before .before .before .before .before .before .before .before .before .before in
+    omega (arith, fine-asked _ _ _ _ (s .pre .0 .fine) .size, s .pre .1 .sized .room, c .before .before .before .before .before .before .before .before .before .before .before .before .fill-slots .kept .1 .1 .1 .1 .0)
+
+same-length-6 : tie.Need-same-length-6
+same-length-6 c = search needs
+
+same-length-7 : tie.Need-same-length-7
+same-length-7 c = search needs
+
+same-length-8 : tie.Need-same-length-8
+same-length-8 c = search needs
+
+same-length-9 : tie.Need-same-length-9
+same-length-9 c = search needs
+
+same-length-10 : tie.Need-same-length-10
+same-length-10 c = search needs
+
+returns-3 : tie.Need-returns-3
+returns-3 c =
+    let f = c .before .before .before .before .before .before .before .before .before .before .before .before .before .before .before in
+    let s = start f in
+    record {
+      lacks = fits-room _ _ (omega (arith, counted f, c .before .before .before .before .if2 .left));
+      same = unwritten f;
+      copied = λ _. subst (Copied (s .args .n) (s .args .cells .now)) (sym (c .before .before .copy .ensures)) (cell-append (s .args .n) (s .args .cells .now) _ (fine-asked _ _ _ _ (s .pre .0 .fine) .size));
+    }
+
+pub short-of-spec : {M : Type 1} → statement M
+short-of-spec =
+    tie.close
+    (tie.spec
+    add-room
+    div-room
+    most-records-requires
+    returns
+    fill-slots-requires
+    same-length
+    same-length-2
+    same-length-3
+    same-length-4
+    same-length-5
+    returns-2
+    copy-requires
+    same-length-6
+    same-length-7
+    same-length-8
+    same-length-9
+    same-length-10
+    returns-3)
