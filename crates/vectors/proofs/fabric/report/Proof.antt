@@ -1,3 +1,4 @@
+-- The bytes lent are arrays cut to what is asked for, which is never longer than they are.
 use borrow.Author.Needs.{needs}
 use Rattle.vectors.proofs.fabric.report.Statement.{statement}
 use Rattle.vectors.proofs.fabric.report.Tie as tie

@@ -1,3 +1,4 @@
+-- A plan's records times the size of one stay within the buffer that the plan was written to.
 use mathlib.Core.Path.{refl}
 use borrow.Author.Needs.{needs}
 use Rattle.vectors.proofs.fabric.report_written.Statement.{statement}

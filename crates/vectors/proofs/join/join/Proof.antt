@@ -1,3 +1,4 @@
+-- What is asked for is small, so the size of the buffer does not wrap.
 use borrow.Author.Needs.{needs}
 use Rattle.vectors.proofs.join.join.Statement.{statement}
 use Rattle.vectors.proofs.join.join.Tie as tie

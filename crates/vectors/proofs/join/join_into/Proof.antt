@@ -1,3 +1,4 @@
+-- Calls that promise without asking are printed; lent memory keeps its length.
 use mathlib.Core.Path.{refl}
 use borrow.Author.Needs.{needs}
 use Rattle.vectors.proofs.join.join_into.Statement.{statement}

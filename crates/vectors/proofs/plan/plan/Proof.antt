@@ -1,3 +1,4 @@
+-- N is small, so cells and buffer are parts of the arrays, and their sizes do not wrap.
 use borrow.Author.Needs.{needs}
 use Rattle.vectors.proofs.plan.plan.Statement.{statement}
 use Rattle.vectors.proofs.plan.plan.Tie as tie

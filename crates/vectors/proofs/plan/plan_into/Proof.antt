@@ -1,3 +1,4 @@
+-- Calls that promise without asking are printed; only the report asks for the records of the plan just written.
 use mathlib.Core.Path.{refl}
 use borrow.Author.Needs.{needs}
 use Rattle.vectors.proofs.plan.plan_into.Statement.{statement}

@@ -1,3 +1,4 @@
+-- A step is one of three, and its numbers are small.
 use mathlib.Core.Path.{refl}
 use borrow.Author.Needs.{needs}
 use Rattle.vectors.proofs.record.show_step.Statement.{statement}
