@@ -18,7 +18,6 @@ use Rattle.switch.specs.Demand.{cell, longest}
 use Rattle.switch.specs.Plan.{Record, Plan, grant, total, Covers}
 use Rattle.switch.specs.Empty.{emptySlots}
 use Rattle.switch.specs.Result.{byOutcome}
-use Rattle.switch.proofs.Plan.{least-total}
 use Rattle.demand.specs.declared.Checked.{Checked}
 use Rattle.demand.specs.declared.Checked.the-variants.{Fine, Faulty}
 use Rattle.demand.specs.Lines.{lineOver}
@@ -163,12 +162,6 @@ module _ (E : Edition) (N : ℕ) (d plan : List ℕ) where
             counts = same (R .answer ∙ sym (covering-done (R .longest) N d records place refl end))
                 ∙ (λ i. demandCounts (length-plan (E .width) plan 0 (whole (E .width) plan) i) (a .longest-is i) (total records) (emptySlots N (cell N d) records));
           }
-
-  -- no plan that passes has a total hold below T
-  pub passes-total : Bounded E → (c : Counts) → Done c ≡ checkPlan E N d plan → c .longest ≤ c .total
-  passes-total bounds c e =
-      let p = passes bounds c e in
-      omega (arith, least-total N (cell N d) records (p .plan) (p .covers), ap (λ (x : Counts). x .longest) (p .counts), ap (λ (x : Counts). x .total) (p .counts))
 
   -- ---- a plan that is refused with 13
 

@@ -14,7 +14,7 @@ ghost use Rattle.rules.specs.Doubled.{doubledPlan, tightPlan};
 ghost use Rattle.rules.specs.Quick.{quickPlan};
 ghost use Rattle.planner.specs.Planned.{planned, plannedUpTo};
 ghost use Rattle.records.specs.Write.{written};
-ghost use Rattle.switch.specs.Editions.{firstEdition};
+ghost use Rattle.switch.specs.Editions.{firstEdition, secondEdition};
 ghost use Rattle.plans.specs.Read.{opening, stepAt, stepPlace};
 ghost use Rattle.checker.specs.Check.{checkPlan};
 ghost use Rattle.length.specs.Length.{planLength};
@@ -22,7 +22,7 @@ ghost use Rattle.joining.specs.Join.{joining};
 ghost use Rattle.wavelengths.specs.Report.{reported};
 ghost use Rattle.grating.specs.Grating.{gratingPlanned};
 ghost use Rattle.room.specs.declared.Planner.the-variants.{Exact, Doubled, Quick};
-ghost use Rattle.room.specs.Room.{secondEdition, roomed};
+ghost use Rattle.room.specs.Room.{roomed};
 ghost use Rattle.lookup.specs.Lookup.{spotOf, foundOf};
 ghost use Rattle.chordvenus.specs.Flat.{version, flat, flatAbout, kindOf, flatStep, flatWish, flatPart, flatCarried, Crosses, CarriesFlat};
 

@@ -12,10 +12,6 @@ pub sum-zero : (f : ℕ → ℕ) → sum 0 f ≡ 0
 unfolding sum
 sum-zero f = refl
 
-pub sum-suc : (n : ℕ) (f : ℕ → ℕ) → sum (suc n) f ≡ sum n f + f n
-unfolding sum
-sum-suc n f = refl
-
 -- the code's j + 1
 pub sum-next : (n : ℕ) (f : ℕ → ℕ) → sum (n + 1) f ≡ sum n f + f n
 unfolding sum

@@ -33,7 +33,7 @@ pub fn grant_plan(n: usize, plan: &[u8], e: Edition, records: usize, grants: &mu
 }
 
 // Adds a record's hold to the grant of each pair that the record joins. An idle input's 255 is no output.
-fn grant_record(rec: &[u8], n: usize, hold: u32, grants: &mut [u32])
+pub fn grant_record(rec: &[u8], n: usize, hold: u32, grants: &mut [u32])
     requires { ⌜ Granting n (now rec) hold (now grants) ⌝ }
     ensures { λ _. ⌜ Granted n hold (decoded (now (rec .entry))) (now (grants .entry)) (now (grants .exit)) ⌝ }
 {

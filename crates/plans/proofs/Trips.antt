@@ -51,10 +51,6 @@ module _ (N : ℕ) (some : 0 < N) (few : N ≤ 64) {p : List Record} (s : Each (
       ∙ ap (λ (b : List ℕ). given b (k + 1)) (record-bytes 0 N 64 (each-width 64 N s) k l d)
       ∙ ap {B = Stepped} (λ (h : ℕ). record { step = step.Record; hold = h; outputs = getD p k d .outputs; next = k + 1 }) (hold-encode 0 (getD p k d .hold) N (getD p k d .outputs))
 
-  -- and then comes the end
-  pub step-bytes-end : (k : ℕ) → length p ≤ k → stepAt N (bytes 0 N p) k ≡ nothing step.End k
-  step-bytes-end k l = sym (step-end _ N (bytes 0 N p) k (omega (arith, count)) ∙ step-opened N (bytes 0 N p) k opens)
-
 -- ---- one record: written, then read
 
 -- what is known of a record that writing does not refuse

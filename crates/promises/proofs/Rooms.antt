@@ -29,8 +29,10 @@ use Rattle.rules.proofs.Exact.{exact}
 use Rattle.rules.proofs.Quick.{quick}
 use Rattle.room.specs.declared.Planner.{Planner}
 use Rattle.room.specs.declared.Planner.the-variants.{Exact, Doubled, Quick}
-use Rattle.room.specs.Room.{secondEdition, exactRoom, doubledRoom, quickRoom, sufficing, roomOf, roomed}
-use Rattle.room.proofs.Room.{second-bounded, roomed-over, roomed-fine}
+use Rattle.switch.specs.Editions.{secondEdition}
+use Rattle.switch.proofs.Editions.{second-bounded}
+use Rattle.room.specs.Room.{exactRoom, doubledRoom, quickRoom, sufficing, roomOf, roomed}
+use Rattle.room.proofs.Room.{roomed-over, roomed-fine}
 use Rattle.promises.specs.Papers.{d1, d6}
 use Rattle.promises.specs.Planner.{Serves, Fair, bad-ports, bad-cells, long-line, Why, faulty, over-limit, no-room, Plans}
 use Rattle.promises.specs.Rooms.{Method, exactly, quickly, doubling, numberOf, Suffices, five}

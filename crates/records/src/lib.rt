@@ -96,7 +96,7 @@ fn outputs_fine(outputs: &[u8], n: usize) -> bool
 }
 
 // Are the outputs of the n inputs ports or idle, and is none of the ports there twice? The test that most outputs pass comes first.
-fn setting_fine(outputs: &[u8], n: usize) -> bool
+pub fn setting_fine(outputs: &[u8], n: usize) -> bool
     requires { ⌜ (n ≤ 128) × (n ≤ length (now outputs)) ⌝ }
     ensures { λ r. ⌜ r ≡ (all n (inside n (now (outputs .entry))) && all n (new (now (outputs .entry)))) ⌝ }
 {

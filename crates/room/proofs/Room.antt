@@ -7,15 +7,9 @@ use borrow.Author.Tests.{le-leb, lt-leb}
 use Rattle.switch.specs.declared.Edition.{Edition}
 use Rattle.switch.specs.declared.Outcome.the-variants.{Refused}
 use Rattle.switch.specs.declared.Refusal.the-variants.{Ports, LongestOver}
-use Rattle.switch.specs.Check.{portsFine}
-use Rattle.switch.specs.Editions.{Bounded}
 use Rattle.switch.proofs.Check.{no-ports, many-ports, some-ports}
 use Rattle.room.specs.declared.Planner.{Planner}
-use Rattle.room.specs.Room.{secondEdition, roomOf, roomed}
-
--- the second edition's numbers are small
-pub second-bounded : Bounded secondEdition
-second-bounded = record { width = omega arith; ports = omega arith; records = omega arith }
+use Rattle.room.specs.Room.{roomOf, roomed}
 
 -- N² - 2N + 2 is not below zero
 pub twice-small : (n : ℕ) → 2 * n ≤ n * n + 2

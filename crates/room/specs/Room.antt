@@ -11,10 +11,6 @@ use Rattle.switch.specs.Result.{unless}
 use Rattle.room.specs.declared.Planner.{Planner}
 use Rattle.room.specs.declared.Planner.the-variants.{Exact, Doubled, Quick}
 
--- the second edition: 128 outputs, the byte 2, N of 1 to 128, at most 32,768 records; it goes to switch with the first plan of that edition
-abbrev pub secondEdition : Edition
-secondEdition = record { width = 128; byte = 2; ports = 128; records = 32768 }
-
 -- the exact plan: T, or N² - 2N + 2 where that is less
 unfoldable pub exactRoom : (N T : ℕ) → ℕ
 exactRoom N T = min T (N * N + 2 - 2 * N)

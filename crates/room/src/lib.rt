@@ -8,19 +8,12 @@ use switch::Outcome;
 use switch::Refusal;
 ghost use mathlib.Core.Path.{_≡_};
 ghost use Prim.Native.Nat.{_*_, _≤_};
-ghost use Rattle.switch.specs.Editions.{firstEdition, Bounded};
+ghost use Rattle.switch.specs.Editions.{firstEdition, secondEdition, Bounded};
 ghost use Rattle.room.specs.declared.Planner.the-variants.{Exact, Doubled, Quick};
-ghost use Rattle.room.specs.Room.{secondEdition, exactRoom, quickRoom, sufficing, roomOf, roomed};
+ghost use Rattle.room.specs.Room.{exactRoom, quickRoom, sufficing, roomOf, roomed};
 
 // The quick cover takes no T above this.
 pub const MOST_QUICK: u64 = 1024;
-
-// The second edition's outputs to a record, the byte that tells its records, and the most records of its plans.
-const WIDE_PORTS: usize = 128;
-
-const WIDE_BYTE: u8 = 2;
-
-const WIDE_RECORDS: usize = 32768;
 
 // Whose plan is to find room.
 pub enum Planner {
@@ -54,33 +47,21 @@ pub fn quick_room(n: usize, longest: u64) -> Outcome
 pub fn exact_room_second(n: usize, longest: u64) -> Outcome
     ensures { λ r. ⌜ r ≡ roomed secondEdition Exact n longest ⌝ }
 {
-    room_for(n, longest, Planner::Exact, second_edition())
+    room_for(n, longest, Planner::Exact, switch::second_edition())
 }
 
 // The doubled plan's.
 pub fn doubled_room_second(n: usize, longest: u64) -> Outcome
     ensures { λ r. ⌜ r ≡ roomed secondEdition Doubled n longest ⌝ }
 {
-    room_for(n, longest, Planner::Doubled, second_edition())
+    room_for(n, longest, Planner::Doubled, switch::second_edition())
 }
 
 // The quick cover's.
 pub fn quick_room_second(n: usize, longest: u64) -> Outcome
     ensures { λ r. ⌜ r ≡ roomed secondEdition Quick n longest ⌝ }
 {
-    room_for(n, longest, Planner::Quick, second_edition())
-}
-
-// The edition for switches of 128 ports; its place is beside the first one's as soon as there are plans of it.
-pub fn second_edition() -> Edition
-    ensures { λ r. ⌜ r ≡ secondEdition ⌝ }
-{
-    Edition {
-        width: WIDE_PORTS,
-        byte: WIDE_BYTE,
-        ports: WIDE_PORTS,
-        records: WIDE_RECORDS,
-    }
+    room_for(n, longest, Planner::Quick, switch::second_edition())
 }
 
 // The room of a planner of an edition: refusals 1, 3 and, for the quick cover, 4.

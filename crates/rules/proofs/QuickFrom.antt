@@ -1,7 +1,7 @@
 -- The quick cover goes on slot by slot: what a slot leaves is planned as any other demand, since slots that serve nobody are never reached.
 use mathlib.Core.Path.{_≡_, refl, sym, ap, _∙_}
 use mathlib.Core.Logic.{_≢_}
-use mathlib.Core.Bool.{false, cond}
+use mathlib.Core.Bool.{cond}
 use mathlib.Core.List.{[], _∷_}
 use Prim.Native.Nat.{ℕ, zero, suc, _+_, _%_, _≤_, _<_}
 use native.Mathlib.Decide.{ℕ-discrete}
@@ -23,10 +23,6 @@ use Rattle.rules.proofs.Slot.{lowest-cong, may-cong, slot-maximal}
 use Rattle.rules.proofs.Quick.{fewer, some-left}
 
 -- ---- as a loop over the visits runs
-
-pub visits-zero : (N : ℕ) (M : ℕ → ℕ → ℕ) (s : ℕ) → visits N M s 0 ≡ record { outputs = λ _. 255; taken = λ _. false }
-unfolding visits
-visits-zero N M s = refl
 
 pub visits-next : (N : ℕ) (M : ℕ → ℕ → ℕ) (s v : ℕ)
     → visits N M s (v + 1) ≡ seat (visits N M s v) ((v + s) % N) (lowest N 0 (may M (visits N M s v .taken) ((v + s) % N)))

@@ -48,15 +48,6 @@ sums-next p r = sums-append [] p (r ∷ [])
 
 -- ---- where a setting appears
 
-appears-le : (o : List ℕ) (p : List Record) → appears o p ≤ length p
-unfolding appears
-appears-le o [] = omega arith
-appears-le o (r ∷ p) = by (same? (r .outputs) o) (appears-le o p)
-  where
-    by : Dec (r .outputs ≡ o) → appears o p ≤ length p → appears o (r ∷ p) ≤ suc (length p)
-    by (yes e) l = rw (same-yes _ _ e) (omega arith)
-    by (no n) l = rw (same-no _ _ n) (omega arith)
-
 -- the record at which it appears has it, and none before
 appears-is : (o : List ℕ) (p : List Record) → appears o p < length p → settingAt p (appears o p) ≡ o
 unfolding appears

@@ -55,7 +55,7 @@ pub fn fill_slot(
 }
 
 // Every input is idle.
-fn idle_all(out: &mut [u8])
+pub fn idle_all(out: &mut [u8])
     ensures { λ _. ⌜ ((i : ℕ) → getD (now (out .exit)) i 255 ≡ 255) ⌝ }
 {
     for i in 0..out.len() {

@@ -2,7 +2,7 @@
 // What a demand, a line, T, a setting, a plan, its grants, its cover and its empty slots are stands in specs/, over any number of ports, and
 // in proofs/ that no plan that covers a demand is held for less than T. Checking a demand and planning it are left to the crates above.
 ghost use mathlib.Core.Path.{_≡_};
-ghost use Rattle.switch.specs.Editions.{firstEdition};
+ghost use Rattle.switch.specs.Editions.{firstEdition, secondEdition};
 ghost use Rattle.switch.specs.Answer.{refusalCode, refusalPlace, refusalSide, noCounts, numbersOf, aboutNumber};
 
 // N is 1 to 64.
@@ -10,6 +10,13 @@ pub const PORTS: usize = 64;
 
 // A plan has at most 8,192 records.
 pub const RECORDS: usize = 8192;
+
+// The second edition's N is 1 to 128, its plans have at most 32,768 records, and this byte tells its records from the first one's.
+pub const WIDE_PORTS: usize = 128;
+
+pub const WIDE_RECORDS: usize = 32768;
+
+pub const WIDE_BYTE: u8 = 2;
 
 // A line sums to at most 65,535, the most that a hold of two bytes can be.
 pub const LONGEST: u64 = 65535;
@@ -200,5 +207,17 @@ pub fn first_edition() -> Edition
         byte: 0,
         ports: PORTS,
         records: RECORDS,
+    }
+}
+
+// The edition for switches of 128 ports.
+pub fn second_edition() -> Edition
+    ensures { λ r. ⌜ r ≡ secondEdition ⌝ }
+{
+    Edition {
+        width: WIDE_PORTS,
+        byte: WIDE_BYTE,
+        ports: WIDE_PORTS,
+        records: WIDE_RECORDS,
     }
 }

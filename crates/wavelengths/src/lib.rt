@@ -76,7 +76,7 @@ fn count_inputs(n: usize, rec: &[u8], shares: &mut [u8])
 }
 
 // The wavelength that leads from input i to output j: (j - i) mod N.
-fn wavelength_of(n: usize, i: InputPort, j: OutputPort) -> usize
+pub fn wavelength_of(n: usize, i: InputPort, j: OutputPort) -> usize
     requires { ⌜ (i .0 < n) × (j .0 < n) × (n ≤ 128) ⌝ }
     ensures { λ r. ⌜ (r ≡ wavelength n (i .0) (j .0)) × (r < n) ⌝ }
 {

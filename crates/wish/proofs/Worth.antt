@@ -9,10 +9,6 @@ pub worth-one : worth 1 ≡ 2
 unfolding worth
 worth-one = refl
 
-pub worth-zero : worth 0 ≡ 0
-unfolding worth
-worth-zero = refl
-
 -- a wish above zero never gives fewer than 2
 pub worth-two : (k : ℕ) → 0 < k → 2 ≤ worth k
 unfolding worth

@@ -10,11 +10,8 @@ use mathlib.Core.Logic.{inl, inr}
 use lib.Dec.{ltb}
 use borrow.Author.Tests.{ltb-true}
 use Rattle.switch.specs.declared.Refusal.{Refusal}
-use Rattle.switch.specs.declared.Refusal.the-variants.{NotFinite, BelowZero, AboveMost, Malformed, Named}
-use Rattle.switch.specs.Answer.{refusalCode, refusalPlace}
-use Rattle.wish.specs.Wish.{wishBits, codeOf}
-use Rattle.wish.specs.declared.Wish.{Wish}
-use Rattle.wish.specs.declared.Wish.the-variants as Wish
+use Rattle.switch.specs.declared.Refusal.the-variants.{Malformed, Named}
+use Rattle.wish.specs.Wish.{wishBits}
 use Rattle.wishes.specs.declared.WishRecord.{WishRecord}
 use Rattle.wishes.specs.declared.Fault.{Fault}
 use Rattle.wishes.specs.declared.Fault.the-variants.{At, Nothing}
@@ -35,13 +32,6 @@ module _ (N k : ℕ) (before : Bool) (r : WishRecord) where
   pub its-wish : wellFormed N r ≡ true → before ≡ false → faultOf N k before r ≡ wishFault k (wishBits (r .bits))
   unfolding faultOf
   its-wish e b = rw (e, b)
-
--- a wish's refusal has the wish's code, and the record's number for its place
-pub wish-code : (k : ℕ) (w : Wish) (r : Refusal) → wishFault k w ≡ At r → (refusalCode r ≡ codeOf w) × (refusalPlace r ≡ k)
-wish-code k (Wish.Slots n) r h = absurd (let z : _≡_ {A = ℕ} 0 1 = cc in omega arith)
-wish-code k Wish.NotFinite r h = let e : r ≡ NotFinite k = cc in (ap refusalCode e, ap refusalPlace e)
-wish-code k Wish.BelowZero r h = let e : r ≡ BelowZero k = cc in (ap refusalCode e, ap refusalPlace e)
-wish-code k Wish.AboveMost r h = let e : r ≡ AboveMost k = cc in (ap refusalCode e, ap refusalPlace e)
 
 -- whether the pair was named before matters only for a record that is well formed
 pub fault-agree : (N k : ℕ) (a b : Bool) (r : WishRecord) → (wellFormed N r ≡ true → a ≡ b) → faultOf N k a r ≡ faultOf N k b r
