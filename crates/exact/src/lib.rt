@@ -5,7 +5,6 @@
 use demand::Checked;
 use demand::check_demand;
 use demand::empty_slots;
-use matching::PLACES;
 use peel::start;
 use peel::take_off;
 use records::EDITION;
@@ -17,6 +16,7 @@ use switch::Counts;
 use switch::Outcome;
 use switch::PORTS;
 use switch::Refusal;
+use switch::WIDE_PORTS;
 ghost use mathlib.Core.Path.{_≡_};
 ghost use mathlib.Core.List.{map};
 ghost use Prim.Native.Nat.{ℕ, _*_, _≤_};
@@ -101,10 +101,10 @@ pub fn count(work: &mut [u32], n: usize, longest: u64) -> usize
     requires { ⌜ Cells n longest (now work) ⌝ }
     ensures { λ r. ⌜ ((W : ℕ) → n ≤ W → W ≤ 128 → r ≡ length (exactPlan W n (now (work .entry)))) ⌝ }
 {
-    let mut lows = [0u64; PLACES];
-    let mut highs = [0u64; PLACES];
-    let mut by = [0u8; PLACES];
-    let mut out = [IDLE; PLACES];
+    let mut lows = [0u64; WIDE_PORTS];
+    let mut highs = [0u64; WIDE_PORTS];
+    let mut by = [0u8; WIDE_PORTS];
+    let mut out = [IDLE; WIDE_PORTS];
     count_off(
         work,
         n,
@@ -130,10 +130,10 @@ pub fn lay(
     requires { ⌜ Cells n longest (now work) × Place n longest unit width at (exactPlan width n (now work)) (now plan) ⌝ }
     ensures { λ r. ⌜ (r ≡ length (exactPlan width n (now (work .entry)))) × (now (plan .exit) ≡ laid (now (plan .entry)) at (bytes edition n (map (stretch unit) (exactPlan width n (now (work .entry)))))) ⌝ }
 {
-    let mut lows = [0u64; PLACES];
-    let mut highs = [0u64; PLACES];
-    let mut by = [0u8; PLACES];
-    let mut out = [IDLE; PLACES];
+    let mut lows = [0u64; WIDE_PORTS];
+    let mut highs = [0u64; WIDE_PORTS];
+    let mut by = [0u8; WIDE_PORTS];
+    let mut out = [IDLE; WIDE_PORTS];
     lay_off(
         work,
         n,

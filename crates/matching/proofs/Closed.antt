@@ -13,10 +13,10 @@ use Rattle.counting.proofs.Count.{ind-true, ind-false}
 use Rattle.counting.proofs.Pigeonhole.{pigeonhole}
 use Rattle.labels.specs.Label.{digit, In, isIn}
 use Rattle.rules.specs.First.{Fits}
-use Rattle.matching.specs.Tables.{Held, Holds, Matching}
-use Rattle.matching.specs.Search.{Stays, Closed}
+use Rattle.search.specs.Tables.{Held, Holds, Matching}
+use Rattle.search.specs.Search.{Stays, Closed}
 use Rattle.matching.specs.Chosen.{AllHeld, Keeps}
-use Rattle.matching.proofs.Tables.{one-output, place}
+use Rattle.search.proofs.Tables.{one-output, place}
 
 both : (a b : Bool) → T (a && b) → T a × T b
 both true true t = (tt, tt)

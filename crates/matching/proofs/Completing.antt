@@ -11,11 +11,11 @@ use lib.Seq.{getD-set-other}
 use borrow.Author.Tests.{eqb-true, eqb-false}
 use Rattle.labels.specs.Label.{In, Marked, Cleared}
 use Rattle.labels.proofs.Digits.{same-or}
-use Rattle.matching.specs.Tables.{Held, Holds, joined, Matching}
-use Rattle.matching.specs.Search.{Free, AskPre, Gained, Moved, Unmoved}
+use Rattle.search.specs.Tables.{Held, Holds, joined, Matching}
+use Rattle.search.specs.Search.{Free, AskPre, Gained, Moved, Unmoved}
 use Rattle.matching.specs.Chosen.{Fixed, CompletePre, CompletePost, HoldsPost}
-use Rattle.matching.proofs.Tables.{held-in, held-not-free, taken-good}
-use Rattle.matching.proofs.Search.{around-same, around-through, take-gains}
+use Rattle.search.proofs.Tables.{held-in, held-not-free, taken-good}
+use Rattle.search.proofs.Search.{around-same, around-through, take-gains}
 use Rattle.matching.proofs.Closed.{not-there}
 
 -- where all are held none is free

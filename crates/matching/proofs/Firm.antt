@@ -7,10 +7,10 @@ use native.Mathlib.Omega.{arith}
 use Rattle.labels.specs.Label.{In}
 use Rattle.rules.specs.First.{Fits}
 use Rattle.rules.proofs.First.{first-of}
-use Rattle.matching.specs.Tables.{Held, Holds, joined, Matching}
-use Rattle.matching.specs.Search.{Free}
+use Rattle.search.specs.Tables.{Held, Holds, joined, Matching}
+use Rattle.search.specs.Search.{Free}
 use Rattle.matching.specs.Chosen.{Fixed, AllHeld, Best, CompletePre, CompletePost, Settled, SettledPost, Ready, Chosen}
-use Rattle.matching.proofs.Tables.{one-holder, place}
+use Rattle.search.proofs.Tables.{one-holder, place}
 use Rattle.matching.proofs.Completing.{told}
 
 -- the inputs below `firm` hold what they held at the start, and those below `kept` hold an output

@@ -5,9 +5,9 @@ use Prim.Native.Nat.{ℕ, zero, suc, _<_}
 use lib.ListN.{length, getD, replicate, length-replicate}
 use Rattle.rules.specs.First.{First}
 use Rattle.rules.proofs.First.{not-lower, fits-cong}
-use Rattle.matching.specs.Tables.{joined, Matching}
+use Rattle.search.specs.Tables.{joined, Matching}
 use Rattle.matching.specs.Chosen.{Best}
-use Rattle.matching.proofs.Tables.{held-not-free}
+use Rattle.search.proofs.Tables.{held-not-free}
 
 -- nobody holds anything: any pairs may be allowed, and nothing is kept
 pub fresh : (w n : ℕ) (E : ℕ → ℕ → Type 0) (out : List ℕ) → length out ≡ w → Matching w n E (replicate w 0) out

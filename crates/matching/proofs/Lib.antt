@@ -1,6 +1,3 @@
-pub mod Tables
-pub mod Search
-pub mod Waves
 pub mod Closed
 pub mod Completing
 pub mod Settling

@@ -10,14 +10,14 @@ use lib.Seq.{getD-set-same, set-getD}
 use Rattle.labels.specs.Label.{In, Sub, Marked, Cleared, Below, absent}
 use Rattle.labels.proofs.Digits.{same-or, absent-less}
 use Rattle.rules.specs.First.{Agree}
-use Rattle.matching.specs.declared.Asked.the-variants.{Freed, Stuck}
-use Rattle.matching.specs.declared.Given.{Given}
-use Rattle.matching.specs.declared.Tried.{Tried}
-use Rattle.matching.specs.Tables.{triedOf, Held, Holds, joined, Matching}
-use Rattle.matching.specs.Search.{Stays, Closed, AskPre, Gained, Moved, Unmoved}
+use Rattle.search.specs.declared.Asked.the-variants.{Freed, Stuck}
+use Rattle.search.specs.declared.Given.{Given}
+use Rattle.search.specs.declared.Tried.{Tried}
+use Rattle.search.specs.Tables.{triedOf, Held, Holds, joined, Matching}
+use Rattle.search.specs.Search.{Stays, Closed, AskPre, Gained, Moved, Unmoved}
 use Rattle.matching.specs.Chosen.{Best, Settled, SettledPost, Dead, Lowering, Lowered}
-use Rattle.matching.proofs.Tables.{held-in, one-holder, freed-back, freed-other, set-back, place, freed-good, freed-idle, taken-good}
-use Rattle.matching.proofs.Search.{closed-through, take-gains}
+use Rattle.search.proofs.Tables.{held-in, one-holder, freed-back, freed-other, set-back, place, freed-good, freed-idle, taken-good}
+use Rattle.search.proofs.Search.{closed-through, take-gains}
 use Rattle.matching.proofs.Closed.{not-there}
 use Rattle.matching.proofs.Completing.{one-more, fixed-more, told}
 

@@ -8,7 +8,7 @@ use native.Mathlib.Omega.{arith}
 use lib.ListN.{getD}
 use lib.Seq.{ext-getD}
 use Rattle.rules.proofs.First.{first-unique}
-use Rattle.matching.specs.Tables.{Held, joined}
+use Rattle.search.specs.Tables.{Held, joined}
 use Rattle.matching.specs.Chosen.{Chosen}
 
 module _ (w n : ℕ) (E : ℕ → ℕ → Type 0) (out : List ℕ) where

@@ -6,10 +6,10 @@ use Prim.Native.Nat.{ℕ, _<_, _≤_}
 use lib.ListN.{set}
 use Rattle.labels.specs.Label.{In, Sub}
 use Rattle.rules.specs.First.{Fits, Agree, First}
-use Rattle.matching.specs.Tables.{triedOf, Held, Holds, joined, Matching}
-use Rattle.matching.specs.declared.Asked.{Asked}
-use Rattle.matching.specs.declared.Asked.the-variants.{Freed, Stuck}
-use Rattle.matching.specs.Search.{Around, Closed, Free, Gained, Unmoved}
+use Rattle.search.specs.Tables.{triedOf, Held, Holds, joined, Matching}
+use Rattle.search.specs.declared.Asked.{Asked}
+use Rattle.search.specs.declared.Asked.the-variants.{Freed, Stuck}
+use Rattle.search.specs.Search.{Around, Closed, Free, Gained, Unmoved}
 
 -- the outputs of the inputs below i, and no others, are fixed
 pub record Fixed (out : List ℕ) (i fixed : ℕ) : Type 0 where

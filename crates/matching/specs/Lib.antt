@@ -1,3 +1,1 @@
-pub mod Tables
-pub mod Search
 pub mod Chosen

@@ -1,52 +1,29 @@
-// Finding a setting is matching two sides (§6.7): inputs ask for outputs, and an output that is held asks whoever holds it to move.
-// The crate takes a label of outputs for each input and the tables of a matching, and promises the full setting that is first in
-// dictionary order. The matching is kept from setting to setting: only inputs that hold nothing ask again, and only those from the
-// first of them on are settled anew where the others can stay. Which pairs are allowed, and what is taken off them, is left to the planners.
-use labels::Found;
+// The first setting (§6.7): inputs that hold nothing ask for an output, and from the first on each is settled on the lowest that leaves
+// the others one. The crate takes a label of outputs for each input and the tables of a matching, and promises the full setting that is
+// first in dictionary order. The matching is kept from setting to setting: only inputs that hold nothing ask again, and only those from the
+// first of them on are settled anew where the others can stay. How an output is freed is `search`'s; which pairs are allowed, and what is
+// taken off them, is left to the planners.
 use labels::FoundOutput;
-use labels::Label;
 use labels::Outputs;
 use labels::row_of;
+use search::Asked;
+use search::FREE;
+use search::Tried;
+use search::ask_inputs;
+use search::join;
+use search::release;
 use switch::InputPort;
 use switch::OutputPort;
+use switch::WIDE_PORTS;
 ghost use mathlib.Core.Path.{_≡_};
 ghost use mathlib.Core.Logic.{_⊎_};
 ghost use Prim.Native.Nat.{ℕ, _+_, _<_, _≤_};
-ghost use lib.ListN.{length, set};
-ghost use Rattle.labels.specs.Label.{In, Sub, Marked, Union};
-ghost use Rattle.labels.specs.Wide.{outputsOf, Untried};
-ghost use Rattle.matching.specs.Tables.{triedOf, Allowed, Rows, joined};
-ghost use Rattle.matching.specs.Search.{Ports, Reaches, Leads, AskPre, Wave, AskPost, Tries, seenIn, Movable, Mover, Handed, Free};
+ghost use lib.ListN.{length};
+ghost use Rattle.labels.specs.Label.{In, Sub};
+ghost use Rattle.labels.specs.Wide.{outputsOf};
+ghost use Rattle.search.specs.Tables.{triedOf, Allowed, Rows, joined};
+ghost use Rattle.search.specs.Search.{Free};
 ghost use Rattle.matching.specs.Chosen.{Fixed, CompletePre, CompletePost, Lowering, Lowered, Dead, SettledPost, SettledAll, Settled, Ready, Chosen, HoldsPost};
-
-// Both tables have a place for each port of the largest switch.
-pub const PLACES: usize = 128;
-
-// What the holders have where nobody holds an output; input i stands there as i + 1.
-const FREE: u8 = 0;
-
-// The outputs tried so far. The search is handed the set and hands it back with more in it, or unchanged where nothing was left to try (§6.7).
-struct Tried {
-    outputs: Outputs,
-}
-
-// What asking came to: one of the outputs asked for was made free, or none can be. What is tried by then comes back either way.
-enum Asked {
-    Freed(Given, Tried),
-    Stuck(Tried),
-}
-
-// The output that was made free, and the one that nobody held and that is spent on it: the same where nobody had to move.
-struct Given {
-    output: OutputPort,
-    spent: OutputPort,
-}
-
-// What a wave of outputs leads to: to one of them that is free, or to all that their holders may take.
-struct Reached {
-    free: FoundOutput,
-    outputs: Outputs,
-}
 
 // Where joining inputs ended: whether all are joined, the outputs that are held, and what the one that is stuck has tried.
 struct Seats {
@@ -61,46 +38,6 @@ struct Prefix {
     fixed: Tried,
     dead: Tried,
     alone: bool,
-}
-
-impl Tried {
-    // Nothing is tried.
-    fn none() -> Tried
-        ensures { λ r. ⌜ ((k : ℕ) → In (triedOf r) k → ⊥) ⌝ }
-    {
-        Tried {
-            outputs: Outputs::none(),
-        }
-    }
-
-    // Output j is tried too.
-    fn mark(self, j: OutputPort) -> Tried
-        requires { ⌜ j .0 < 128 ⌝ }
-        ensures { λ r. ⌜ Marked (triedOf self) (j .0) (triedOf r) ⌝ }
-    {
-        let seen = self.outputs;
-        Tried {
-            outputs: seen.mark(j),
-        }
-    }
-
-    // A wave of outputs is tried too.
-    fn with(self, wave: Outputs) -> Tried
-        ensures { λ r. ⌜ Union (triedOf self) (outputsOf wave) (triedOf r) ⌝ }
-    {
-        let seen = self.outputs;
-        Tried {
-            outputs: seen.with(wave),
-        }
-    }
-
-    // The lowest output of the row that is not tried.
-    fn next(self, row: Outputs) -> FoundOutput
-        ensures { λ r. ⌜ Untried 128 (outputsOf row) (triedOf self) r ⌝ }
-    {
-        let seen = self.outputs;
-        row.lowest_untried(seen)
-    }
 }
 
 // The first setting in dictionary order. The inputs below `kept` keep their outputs, or as many of them from the front as the
@@ -121,15 +58,6 @@ pub fn next_setting(lows: &[u64], highs: &[u64], by: &mut [u8], out: &mut [u8], 
         held = s.held;
         firm = give_way(out, firm, s.seen);
     }
-}
-
-// Nobody holds output j any more.
-pub fn release(by: &mut [u8], j: OutputPort)
-    requires { ⌜ j .0 < length (now by) ⌝ }
-    ensures { λ _. ⌜ now (by .exit) ≡ set (now (by .entry)) (j .0) 0 ⌝ }
-{
-    let k = j.0;
-    by[k] = FREE;
 }
 
 // The outputs of the inputs below `kept`.
@@ -247,7 +175,7 @@ fn holds(by: &[u8], out: &[u8], i: InputPort) -> bool
     let k = i.0;
     let told = output_of(out, i);
     let j = told.0;
-    if PLACES <= j {
+    if WIDE_PORTS <= j {
         return false;
     }
     by[j] as usize == k + 1
@@ -369,194 +297,6 @@ fn ask_lower(
             Asked::Freed(g, seen)
         }
     }
-}
-
-// Inputs ask for one of these outputs: for one that can be had at once, else for those that are not tried yet.
-fn ask_inputs(
-    lows: &[u64],
-    highs: &[u64],
-    by: &mut [u8],
-    out: &mut [u8],
-    held: Outputs,
-    tried: Tried,
-    outputs: Outputs,
-) -> Asked
-    requires { ⌜ Rows 128 (now lows) (now highs) × AskPre 128 (length (now lows)) (Allowed (now lows) (now highs)) (now by) (now out) (outputsOf held) (triedOf tried) ⌝ }
-    ensures { λ r. ⌜ AskPost 128 (length (now (lows .entry))) (Allowed (now (lows .entry)) (now (highs .entry))) (now (by .entry)) (now (out .entry)) (triedOf tried) (outputsOf outputs) (now (by .exit)) (now (out .exit)) r × Tries 128 (triedOf tried) (outputsOf outputs) (seenIn r) ⌝ }
-{
-    let s = outputs.lowest_untried(held);
-    match s {
-        FoundOutput::At(spare) => Asked::Freed(
-            Given {
-                output: spare,
-                spent: spare,
-            },
-            tried.mark(spare),
-        ),
-        FoundOutput::Nothing => {
-            let f = tried.next(outputs);
-            match f {
-                FoundOutput::Nothing => Asked::Stuck(tried),
-                FoundOutput::At(_) => ask_outputs(
-                    lows,
-                    highs,
-                    by,
-                    out,
-                    held,
-                    tried,
-                    outputs.but(tried.outputs),
-                ),
-            }
-        }
-    }
-}
-
-// The outputs of a wave are marked as tried and ask their holders to move, all at once; one whose holder can is handed on.
-fn ask_outputs(
-    lows: &[u64],
-    highs: &[u64],
-    by: &mut [u8],
-    out: &mut [u8],
-    held: Outputs,
-    tried: Tried,
-    wave: Outputs,
-) -> Asked
-    requires { ⌜ Rows 128 (now lows) (now highs) × AskPre 128 (length (now lows)) (Allowed (now lows) (now highs)) (now by) (now out) (outputsOf held) (triedOf tried) × Wave 128 (outputsOf held) (triedOf tried) (outputsOf wave) ⌝ }
-    ensures { λ r. ⌜ AskPost 128 (length (now (lows .entry))) (Allowed (now (lows .entry)) (now (highs .entry))) (now (by .entry)) (now (out .entry)) (triedOf tried) (outputsOf wave) (now (by .exit)) (now (out .exit)) r × Tries 128 (triedOf tried) (outputsOf wave) (seenIn r) ⌝ }
-{
-    let marked = tried.with(wave);
-    let w = leads_to(lows, highs, by, wave);
-    let f = w.free;
-    match f {
-        FoundOutput::At(j) => Asked::Freed(
-            Given {
-                output: j,
-                spent: j,
-            },
-            marked,
-        ),
-        FoundOutput::Nothing => {
-            let a = ask_inputs(lows, highs, by, out, held, marked, w.outputs);
-            match a {
-                Asked::Stuck(seen) => Asked::Stuck(seen),
-                Asked::Freed(g, seen) => {
-                    let wanted = g.output;
-                    let spent = g.spent;
-                    let j = hand_on(lows, highs, by, out, wave, wanted);
-                    Asked::Freed(
-                        Given {
-                            output: j,
-                            spent: spent,
-                        },
-                        seen,
-                    )
-                }
-            }
-        }
-    }
-}
-
-// What a wave of outputs leads to, word by word.
-fn leads_to(lows: &[u64], highs: &[u64], by: &[u8], wave: Outputs) -> Reached
-    requires { ⌜ Rows 128 (now lows) (now highs) × Ports 128 (length (now lows)) (now by) ⌝ }
-    ensures { λ r. ⌜ Leads (Allowed (now (lows .entry)) (now (highs .entry))) (now (by .entry)) (outputsOf wave) (r .free) (outputsOf (r .outputs)) ⌝ }
-{
-    let words = wave.0;
-    let low = word_leads_to(lows, highs, by, words.low, 0, Outputs::none());
-    let f = low.free;
-    match f {
-        FoundOutput::At(_) => low,
-        FoundOutput::Nothing => word_leads_to(lows, highs, by, words.high, 64, low.outputs),
-    }
-}
-
-// What the outputs of one word lead to, with what was led to before; output k of the word is output `base` + k of the switch.
-fn word_leads_to(
-    lows: &[u64],
-    highs: &[u64],
-    by: &[u8],
-    word: Label,
-    base: usize,
-    before: Outputs,
-) -> Reached
-    requires { ⌜ Rows 128 (now lows) (now highs) × Ports 128 (length (now lows)) (now by) × (base + 64 ≤ 128) ⌝ }
-    ensures { λ r. ⌜ Reaches (Allowed (now (lows .entry)) (now (highs .entry))) (now (by .entry)) (word .0) base (outputsOf before) (r .free) (outputsOf (r .outputs)) ⌝ }
-{
-    let mut rest = word;
-    let mut outputs = before;
-    loop {
-        let f = rest.lowest();
-        let Found::At(j) = f else {
-            return Reached {
-                free: FoundOutput::Nothing,
-                outputs: outputs,
-            };
-        };
-        let k = base + j;
-        let v = by[k];
-        if v == FREE {
-            return Reached {
-                free: FoundOutput::At(OutputPort(k)),
-                outputs: outputs,
-            };
-        }
-        let w = v as usize;
-        outputs = outputs.with(row_of(lows, highs, InputPort(w - 1)));
-        rest = rest.without_lowest();
-    }
-}
-
-// The holder of one of these outputs takes the wanted one, which is free; it answers the output that is given up.
-fn hand_on(
-    lows: &[u64],
-    highs: &[u64],
-    by: &mut [u8],
-    out: &mut [u8],
-    wave: Outputs,
-    wanted: OutputPort,
-) -> OutputPort
-    requires { ⌜ Rows 128 (now lows) (now highs) × (length (now out) ≡ 128) × (wanted .0 < 128) × Movable 128 (length (now lows)) (Allowed (now lows) (now highs)) (now by) (outputsOf wave) (wanted .0) ⌝ }
-    ensures { λ r. ⌜ Handed (Allowed (now (lows .entry)) (now (highs .entry))) (now (by .entry)) (now (out .entry)) (outputsOf wave) (wanted .0) (r .0) (now (by .exit)) (now (out .exit)) ⌝ }
-{
-    let j = mover(lows, highs, by, wave, wanted);
-    let k = j.0;
-    let v = by[k] as usize;
-    release(by, j);
-    join(by, out, InputPort(v - 1), wanted);
-    j
-}
-
-// The lowest of these outputs whose holder may take the wanted one.
-fn mover(lows: &[u64], highs: &[u64], by: &[u8], wave: Outputs, wanted: OutputPort) -> OutputPort
-    requires { ⌜ Rows 128 (now lows) (now highs) × (wanted .0 < 128) × Movable 128 (length (now lows)) (Allowed (now lows) (now highs)) (now by) (outputsOf wave) (wanted .0) ⌝ }
-    ensures { λ r. ⌜ Mover (Allowed (now (lows .entry)) (now (highs .entry))) (now (by .entry)) (outputsOf wave) (wanted .0) (r .0) ⌝ }
-{
-    let mut rest = wave;
-    loop {
-        let f = rest.lowest();
-        let FoundOutput::At(j) = f else {
-            return wanted;
-        };
-        let k = j.0;
-        let v = by[k] as usize;
-        let row = row_of(lows, highs, InputPort(v - 1));
-        if row.has(wanted) {
-            return j;
-        }
-        rest = rest.without_lowest();
-    }
-}
-
-// Input i takes output j, in both tables.
-fn join(by: &mut [u8], out: &mut [u8], i: InputPort, j: OutputPort)
-    requires { ⌜ (length (now by) ≡ 128) × (length (now out) ≡ 128) × (i .0 < 128) × (j .0 < 128) ⌝ }
-    ensures { λ _. ⌜ (now (by .exit) ≡ set (now (by .entry)) (j .0) (i .0 + 1)) × (now (out .exit) ≡ set (now (out .entry)) (i .0) (j .0)) ⌝ }
-{
-    let a = i.0;
-    let b = j.0;
-    let v = a + 1;
-    by[b] = v as u8;
-    out[a] = b as u8;
 }
 
 // The output that the tables tell for input i.

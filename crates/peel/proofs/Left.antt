@@ -18,7 +18,7 @@ use Rattle.rules.proofs.Exists.{fits-exists}
 use Rattle.rules.proofs.Peel.{peelTo-done, peel-full-row, peel-full-col}
 use Rattle.rules.proofs.Peels.{least-is}
 use Rattle.rules.proofs.ExactFrom.{exact-step}
-use Rattle.matching.specs.Tables.{Allowed, Rows, joined}
+use Rattle.search.specs.Tables.{Allowed, Rows, joined}
 use Rattle.matching.specs.Chosen.{Ready, Chosen}
 use Rattle.matching.proofs.Kept.{first-best}
 use Rattle.work.specs.Level.{Level, Uses}

@@ -5,8 +5,8 @@ use Prim.Native.Nat.{ℕ, _+_, _<_, _≤_}
 use native.Mathlib.Omega.{arith}
 use native.Mathlib.Decide.{ℕ-discrete}
 use lib.ListN.{length, set, length-set}
-use Rattle.matching.specs.Tables.{Allowed, Held, joined}
-use Rattle.matching.proofs.Tables.{freed-back, freed-other, one-holder}
+use Rattle.search.specs.Tables.{Allowed, Held, joined}
+use Rattle.search.proofs.Tables.{freed-back, freed-other, one-holder}
 use Rattle.peel.specs.Standing.{Seated, Released}
 
 -- the inputs from i on have been looked at; the first of them that was released is `kept`, or N

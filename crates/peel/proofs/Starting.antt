@@ -10,7 +10,7 @@ use Rattle.switch.specs.Demand.{cell}
 use Rattle.switch.proofs.Demand.{row-le-longest, col-le-longest}
 use Rattle.rules.specs.Fill.{fill}
 use Rattle.rules.specs.Exact.{exactFrom, exactPlan}
-use Rattle.matching.specs.Tables.{Allowed, joined}
+use Rattle.search.specs.Tables.{Allowed, joined}
 use Rattle.matching.proofs.Kept.{fresh}
 use Rattle.work.specs.Level.{Sized, Within, Level}
 use Rattle.work.specs.Labelled.{Labelled}

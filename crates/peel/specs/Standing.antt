@@ -7,7 +7,7 @@ use Rattle.counting.specs.Matrix.{row}
 use Rattle.switch.specs.Demand.{cell, longest}
 use Rattle.switch.specs.Plan.{Record}
 use Rattle.rules.specs.Exact.{exactFrom, exactPlan}
-use Rattle.matching.specs.Tables.{Allowed, Held, joined, Matching}
+use Rattle.search.specs.Tables.{Allowed, Held, joined, Matching}
 use Rattle.matching.specs.Chosen.{Best}
 use Rattle.work.specs.Level.{Level}
 use Rattle.work.specs.Labelled.{Labelled}

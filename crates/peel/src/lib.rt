@@ -3,7 +3,7 @@
 // The matching is kept from step to step: only emptied pairs are released. What becomes of the records is left to the planners.
 use labels::row_of;
 use matching::next_setting;
-use matching::release;
+use search::release;
 use switch::InputPort;
 use switch::OutputPort;
 ghost use mathlib.Core.Path.{_≡_};

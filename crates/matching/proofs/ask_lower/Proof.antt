@@ -4,9 +4,9 @@ use Prim.Native.Nat.{ℕ, _<_}
 use native.Mathlib.Nat.{lt-of-lt-of-le}
 use lib.ListN.{length, length-set}
 use Rattle.labels.specs.Wide.{outputsOf}
-use Rattle.matching.specs.Tables.{triedOf, Allowed}
-use Rattle.matching.specs.Search.{AskPost}
-use Rattle.matching.proofs.Search.{same-holders, same-outputs}
+use Rattle.search.specs.Tables.{triedOf, Allowed}
+use Rattle.search.specs.Search.{AskPost}
+use Rattle.search.proofs.Search.{same-holders, same-outputs}
 use Rattle.matching.proofs.Settling.{own-place, given-up, lower-asks, lower-taken, lower-back}
 use borrow.Author.Needs.{needs}
 use Rattle.matching.proofs.ask_lower.Statement.{statement}

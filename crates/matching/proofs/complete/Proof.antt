@@ -7,7 +7,7 @@ use native.Mathlib.Omega.{arith}
 use borrow.Author.Tests.{not-true, not-false}
 use lib.ListN.{length}
 use Rattle.labels.specs.Wide.{outputsOf}
-use Rattle.matching.specs.Tables.{triedOf, Allowed}
+use Rattle.search.specs.Tables.{triedOf, Allowed}
 use Rattle.matching.specs.Chosen.{CompletePost}
 use Rattle.matching.proofs.Completing.{complete-start, complete-next, complete-more, complete-stops}
 use borrow.Author.Needs.{needs}

@@ -3,7 +3,7 @@ use mathlib.Core.Path.{refl, sym, _∙_}
 use mathlib.Core.Logic.{inl, inr}
 use borrow.Author.Tests.{eqb-false}
 use Rattle.labels.specs.Label.{digit}
-use Rattle.matching.specs.Tables.{triedOf}
+use Rattle.search.specs.Tables.{triedOf}
 use borrow.Author.Needs.{needs}
 use Rattle.matching.proofs.dead_for.Statement.{statement}
 use Rattle.matching.proofs.dead_for.Tie as tie

@@ -4,7 +4,7 @@ use mathlib.Core.Path.{subst}
 use native.Mathlib.Nat.{le-antisymm}
 use native.Mathlib.Omega.{arith}
 use Rattle.labels.specs.Label.{Marked}
-use Rattle.matching.specs.Tables.{triedOf}
+use Rattle.search.specs.Tables.{triedOf}
 use Rattle.matching.specs.Chosen.{Fixed}
 use Rattle.matching.proofs.Completing.{fixed-none, fixed-more}
 use borrow.Author.Needs.{needs}

@@ -3,7 +3,7 @@ use mathlib.Core.Logic.{⊎-elim}
 use Prim.Native.Nat.{_-_}
 use native.Mathlib.Omega.{arith}
 use Rattle.labels.specs.Wide.{outputsOf}
-use Rattle.matching.specs.Search.{Free}
+use Rattle.search.specs.Search.{Free}
 use Rattle.matching.proofs.Completing.{free-none, free-one}
 use borrow.Author.Needs.{needs}
 use Rattle.matching.proofs.held_outputs.Statement.{statement}

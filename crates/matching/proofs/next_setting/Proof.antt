@@ -3,8 +3,8 @@ use mathlib.Core.Path.{sym, _∙_}
 use native.Mathlib.Omega.{arith}
 use lib.ListN.{length}
 use Rattle.labels.specs.Wide.{outputsOf}
-use Rattle.matching.specs.Tables.{triedOf, Allowed}
-use Rattle.matching.specs.Search.{Free}
+use Rattle.search.specs.Tables.{triedOf, Allowed}
+use Rattle.search.specs.Search.{Free}
 use Rattle.matching.proofs.Firm.{Firm, firm-start, firm-place, firm-completes, firm-settles, firm-some, firm-place', firm-less, firm-ends}
 use Rattle.matching.proofs.next_setting.Statement.{statement}
 use Rattle.matching.proofs.next_setting.Tie as tie

@@ -1,6 +1,6 @@
 -- A place of the table is read.
 use native.Mathlib.Omega.{arith}
-use Rattle.matching.proofs.Tables.{in-range}
+use Rattle.search.proofs.Tables.{in-range}
 use borrow.Author.Needs.{needs}
 use Rattle.matching.proofs.output_of.Statement.{statement}
 use Rattle.matching.proofs.output_of.Tie as tie

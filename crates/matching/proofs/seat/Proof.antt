@@ -6,10 +6,10 @@ use native.Mathlib.Nat.{lt-of-lt-of-le}
 use lib.ListN.{length, length-set}
 use Rattle.labels.specs.Label.{In}
 use Rattle.labels.specs.Wide.{outputsOf}
-use Rattle.matching.specs.Tables.{triedOf, Allowed}
-use Rattle.matching.specs.Search.{AskPost}
-use Rattle.matching.proofs.Tables.{has-place}
-use Rattle.matching.proofs.Search.{same-holders, same-outputs}
+use Rattle.search.specs.Tables.{triedOf, Allowed}
+use Rattle.search.specs.Search.{AskPost}
+use Rattle.search.proofs.Tables.{has-place}
+use Rattle.search.proofs.Search.{same-holders, same-outputs}
 use Rattle.matching.proofs.Completing.{holds-none, seat-holds, seat-asks, seat-stuck, seat-taken}
 use borrow.Author.Needs.{needs}
 use Rattle.matching.proofs.seat.Statement.{statement}

@@ -5,10 +5,10 @@ use lib.ListN.{length}
 use native.Mathlib.Omega.{arith}
 use Rattle.labels.specs.Label.{In, absent}
 use Rattle.labels.specs.Wide.{outputsOf}
-use Rattle.matching.specs.Tables.{triedOf, Allowed}
+use Rattle.search.specs.Tables.{triedOf, Allowed}
 use Rattle.matching.specs.Chosen.{Lowered}
-use Rattle.matching.proofs.Tables.{has-place}
-use Rattle.matching.proofs.Search.{lowest-at, none-left}
+use Rattle.search.proofs.Tables.{has-place}
+use Rattle.search.proofs.Search.{lowest-at, none-left}
 use Rattle.matching.proofs.Settling.{own-in, Lower, lower-start, lower-own, lower-may, lower-again, lower-more, lower-ends}
 use borrow.Author.Needs.{needs}
 use Rattle.matching.proofs.settle.Statement.{statement}

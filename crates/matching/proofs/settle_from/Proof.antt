@@ -4,7 +4,7 @@ use Prim.Native.Nat.{ℕ, _+_, _-_, _≤_}
 use native.Mathlib.Nat.{le-antisymm}
 use native.Mathlib.Omega.{arith}
 use lib.ListN.{length}
-use Rattle.matching.specs.Tables.{triedOf, Allowed}
+use Rattle.search.specs.Tables.{triedOf, Allowed}
 use Rattle.matching.specs.Chosen.{SettledPost, Dead}
 use Rattle.matching.proofs.Settling.{settled-start, settled-more, dead-start}
 use borrow.Author.Needs.{needs}

@@ -6,7 +6,7 @@ use native.Mathlib.Omega.{arith}
 use lib.ListN.{getD, set}
 use borrow.Author.Tests.{not-false, eqb-true}
 use Rattle.labels.specs.Label.{In}
-use Rattle.matching.specs.Tables.{Allowed}
+use Rattle.search.specs.Tables.{Allowed}
 use Rattle.work.proofs.Cells.{getD-any}
 use Rattle.peel.proofs.Release.{Looked, looked-start, looked-keep, looked-free, looked-all}
 use borrow.Author.Needs.{needs}

@@ -1,11 +1,11 @@
 -- The low word is asked first, and the high one only where none of the low one is free.
 use native.Mathlib.Omega.{arith}
 use Rattle.labels.specs.Wide.{outputsOf}
-use Rattle.matching.specs.Tables.{Allowed}
-use Rattle.matching.proofs.Waves.{low-leads, high-leads}
+use Rattle.search.specs.Tables.{Allowed}
+use Rattle.search.proofs.Waves.{low-leads, high-leads}
 use borrow.Author.Needs.{needs}
-use Rattle.matching.proofs.leads_to.Statement.{statement}
-use Rattle.matching.proofs.leads_to.Tie as tie
+use Rattle.search.proofs.leads_to.Statement.{statement}
+use Rattle.search.proofs.leads_to.Tie as tie
 
 none-requires : tie.Need-none-requires
 none-requires c κs = search needs

@@ -12,11 +12,11 @@ use Rattle.labels.specs.declared.FoundOutput.{FoundOutput}
 use Rattle.labels.specs.declared.FoundOutput.the-variants.{At, Nothing}
 use Rattle.labels.proofs.Digits.{same-or, absent-less}
 use Rattle.switch.specs.declared.OutputPort.{OutputPort}
-use Rattle.matching.specs.declared.Asked.{Asked}
-use Rattle.matching.specs.declared.Asked.the-variants.{Freed, Stuck}
-use Rattle.matching.specs.Tables.{Held, Holds, joined, Matching}
-use Rattle.matching.specs.Search.{Stays, Closed, Ports, Further, Movable, Handed, AskPre, Wave, Around, Gained, OutMoved, Moved, Unmoved, AskPost, Tries}
-use Rattle.matching.proofs.Tables.{Here, Other, stored, held-in, held-not-free, one-holder, freed-back, freed-good, freed-idle, taken-good}
+use Rattle.search.specs.declared.Asked.{Asked}
+use Rattle.search.specs.declared.Asked.the-variants.{Freed, Stuck}
+use Rattle.search.specs.Tables.{Held, Holds, joined, Matching}
+use Rattle.search.specs.Search.{Stays, Closed, Ports, Further, Movable, Handed, AskPre, Wave, Around, Gained, OutMoved, Moved, Unmoved, AskPost, Tries}
+use Rattle.search.proofs.Tables.{Here, Other, stored, held-in, held-not-free, one-holder, freed-back, freed-good, freed-idle, taken-good}
 
 -- ---- closed sets
 

@@ -7,27 +7,27 @@ use lib.ListN.{length}
 use Rattle.labels.specs.Label.{Sub, absent}
 use Rattle.labels.specs.Wide.{outputsOf}
 use Rattle.labels.specs.declared.FoundOutput.{FoundOutput}
-use Rattle.matching.specs.declared.Asked.{Asked}
-use Rattle.matching.specs.Tables.{triedOf, Allowed}
-use Rattle.matching.specs.Search.{Leads, AskPost, seenIn}
-use Rattle.matching.proofs.Search.{lowest-at, none-left, tries-none, tries-new, tries-rest, ports-of, spare-moved, tried-unmoved, wave-of, wave-post, wave-tries, wave-free, further-asks, fewer-left, wave-stuck, wave-movable, wave-handed, same-holders, same-outputs, handed-holders, handed-outputs}
+use Rattle.search.specs.declared.Asked.{Asked}
+use Rattle.search.specs.Tables.{triedOf, Allowed}
+use Rattle.search.specs.Search.{Leads, AskPost, seenIn}
+use Rattle.search.proofs.Search.{lowest-at, none-left, tries-none, tries-new, tries-rest, ports-of, spare-moved, tried-unmoved, wave-of, wave-post, wave-tries, wave-free, further-asks, fewer-left, wave-stuck, wave-movable, wave-handed, same-holders, same-outputs, handed-holders, handed-outputs}
 use borrow.Fn.Kinds.{In}
 use borrow.Fn.PlainCycle.{Measures, is, falls, and}
-use Rattle.matching.proofs.ask_inputs.Reads as ask-inputs
-use Rattle.matching.proofs.ask_inputs.Kinds as ask-inputs-kinds
-use Rattle.matching.proofs.+ask_inputs+ask_outputs.Lts-ask_inputs as ask-inputs-lts
-use Rattle.matching.proofs.ask_outputs.Reads as ask-outputs
-use Rattle.matching.proofs.ask_outputs.Kinds as ask-outputs-kinds
-use Rattle.matching.proofs.+ask_inputs+ask_outputs.Lts-ask_outputs as ask-outputs-lts
+use Rattle.search.proofs.ask_inputs.Reads as ask-inputs
+use Rattle.search.proofs.ask_inputs.Kinds as ask-inputs-kinds
+use Rattle.search.proofs.+ask_inputs+ask_outputs.Lts-ask_inputs as ask-inputs-lts
+use Rattle.search.proofs.ask_outputs.Reads as ask-outputs
+use Rattle.search.proofs.ask_outputs.Kinds as ask-outputs-kinds
+use Rattle.search.proofs.+ask_inputs+ask_outputs.Lts-ask_outputs as ask-outputs-lts
 use Rattle.labels.proofs.Outputs.but.Reads as but-reads
 use Rattle.labels.proofs.Outputs.lowest_untried.Reads as lowest-untried-reads
-use Rattle.matching.proofs.Tried.mark.Reads as mark-reads
-use Rattle.matching.proofs.Tried.next.Reads as next-reads
-use Rattle.matching.proofs.Tried.with.Reads as with-reads
-use Rattle.matching.proofs.hand_on.Reads as hand-on-reads
-use Rattle.matching.proofs.leads_to.Reads as leads-to-reads
-use Rattle.matching.proofs.+ask_inputs+ask_outputs.{statement}
-use Rattle.matching.proofs.+ask_inputs+ask_outputs.Tie.{close}
+use Rattle.search.proofs.Tried.mark.Reads as mark-reads
+use Rattle.search.proofs.Tried.next.Reads as next-reads
+use Rattle.search.proofs.Tried.with.Reads as with-reads
+use Rattle.search.proofs.hand_on.Reads as hand-on-reads
+use Rattle.search.proofs.leads_to.Reads as leads-to-reads
+use Rattle.search.proofs.+ask_inputs+ask_outputs.{statement}
+use Rattle.search.proofs.+ask_inputs+ask_outputs.Tie.{close}
 
 abbrev μ-ask-inputs : Measures 4 ask-inputs-kinds.ps ℕ
 μ-ask-inputs κs a = 2 * absent 128 (triedOf (a .1 .1 .1 .1 .1 .0)) + 1

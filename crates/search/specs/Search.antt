@@ -8,9 +8,9 @@ use lib.ListN.{length, getD, set}
 use Rattle.labels.specs.Label.{In, Sub}
 use Rattle.labels.specs.declared.FoundOutput.{FoundOutput}
 use Rattle.labels.specs.declared.FoundOutput.the-variants.{At, Nothing}
-use Rattle.matching.specs.declared.Asked.{Asked}
-use Rattle.matching.specs.declared.Asked.the-variants.{Freed, Stuck}
-use Rattle.matching.specs.Tables.{triedOf, Held, Holds, joined, Matching}
+use Rattle.search.specs.declared.Asked.{Asked}
+use Rattle.search.specs.declared.Asked.the-variants.{Freed, Stuck}
+use Rattle.search.specs.Tables.{triedOf, Held, Holds, joined, Matching}
 
 -- every output that input i may take is in u
 abbrev pub Shut : (ℕ → ℕ → Type 0) → ℕ → ℕ → Type 0

@@ -8,12 +8,12 @@ use Rattle.labels.specs.declared.FoundOutput.{FoundOutput}
 use Rattle.labels.specs.Label.{digit, In, Sub, Lowest, LowestAt, absent}
 use Rattle.labels.specs.Wide.{outputsOf, outputFound}
 use Rattle.labels.proofs.Digits.{fewer}
-use Rattle.matching.specs.Tables.{Allowed}
-use Rattle.matching.specs.Search.{Mover}
-use Rattle.matching.proofs.Waves.{holder-of, holder-port, not-mover}
+use Rattle.search.specs.Tables.{Allowed}
+use Rattle.search.specs.Search.{Mover}
+use Rattle.search.proofs.Waves.{holder-of, holder-port, not-mover}
 use borrow.Author.Needs.{needs}
-use Rattle.matching.proofs.mover.Statement.{statement}
-use Rattle.matching.proofs.mover.Tie as tie
+use Rattle.search.proofs.mover.Statement.{statement}
+use Rattle.search.proofs.mover.Tie as tie
 
 -- what is looked for is left
 abbrev Inv-loop : tie.InvT-loop

@@ -6,7 +6,7 @@ use lib.ListN.{length, getD}
 use Rattle.labels.specs.Label.{In}
 use Rattle.labels.specs.Wide.{outputsOf}
 use Rattle.labels.specs.Rows.{rowOf}
-use Rattle.matching.specs.declared.Tried.{Tried}
+use Rattle.search.specs.declared.Tried.{Tried}
 
 -- the set of outputs already tried
 abbrev pub triedOf : Tried → ℕ

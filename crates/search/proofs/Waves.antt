@@ -13,10 +13,10 @@ use Rattle.labels.specs.declared.FoundOutput.the-variants.{At, Nothing}
 use Rattle.labels.proofs.Digits.{same-or, digit-in}
 use Rattle.labels.proofs.Words.{low, high}
 use Rattle.switch.specs.declared.OutputPort.{OutputPort}
-use Rattle.matching.specs.Tables.{Held}
-use Rattle.matching.specs.Search.{Stays, Grown, Reaches, Further, Leads, Mover, Movable, Handed}
-use Rattle.matching.proofs.Tables.{one-holder}
-use Rattle.matching.proofs.Search.{stays-more}
+use Rattle.search.specs.Tables.{Held}
+use Rattle.search.specs.Search.{Stays, Grown, Reaches, Further, Leads, Mover, Movable, Handed}
+use Rattle.search.proofs.Tables.{one-holder}
+use Rattle.search.proofs.Search.{stays-more}
 
 -- what the outputs of a word that are met already lead to: all but the rest
 pub record Part (E : ℕ → ℕ → Type 0) (by : List ℕ) (word base before rest r : ℕ) : Type 0 where

@@ -6,12 +6,12 @@ use lib.ListN.{getD}
 use Rattle.labels.specs.Label.{In, Lowest, LowestAt, absent}
 use Rattle.labels.specs.Wide.{outputsOf}
 use Rattle.labels.proofs.Digits.{fewer}
-use Rattle.matching.specs.Tables.{Allowed}
-use Rattle.matching.proofs.Search.{one-up}
-use Rattle.matching.proofs.Waves.{Part, part-start, part-more, part-end}
+use Rattle.search.specs.Tables.{Allowed}
+use Rattle.search.proofs.Search.{one-up}
+use Rattle.search.proofs.Waves.{Part, part-start, part-more, part-end}
 use borrow.Author.Needs.{needs}
-use Rattle.matching.proofs.word_leads_to.Statement.{statement}
-use Rattle.matching.proofs.word_leads_to.Tie as tie
+use Rattle.search.proofs.word_leads_to.Statement.{statement}
+use Rattle.search.proofs.word_leads_to.Tie as tie
 
 abbrev Inv-loop : tie.InvT-loop
 Inv-loop lows highs by base rest₀ outputs₀ rest outputs = Part (Allowed lows highs) by (rest₀ .0) base (outputsOf outputs₀) (rest .0) (outputsOf outputs)

@@ -4,11 +4,11 @@ use native.Mathlib.Nat.{lt-of-lt-of-le}
 use native.Mathlib.Omega.{arith}
 use lib.ListN.{length, length-set}
 use Rattle.labels.specs.Wide.{outputsOf}
-use Rattle.matching.specs.Tables.{Allowed}
-use Rattle.matching.proofs.Tables.{held-in}
-use Rattle.matching.proofs.Waves.{holder-port, handed}
-use Rattle.matching.proofs.hand_on.Statement.{statement}
-use Rattle.matching.proofs.hand_on.Tie as tie
+use Rattle.search.specs.Tables.{Allowed}
+use Rattle.search.proofs.Tables.{held-in}
+use Rattle.search.proofs.Waves.{holder-port, handed}
+use Rattle.search.proofs.hand_on.Statement.{statement}
+use Rattle.search.proofs.hand_on.Tie as tie
 
 mover-requires : tie.Need-mover-requires
 mover-requires c κs = let s = c .before .before .before .before .before in (s .pre .0, s .pre .2, s .pre .3)

@@ -8,7 +8,7 @@ use native.Mathlib.Omega.{arith}
 use lib.ListN.{length, getD, set, length-set}
 use lib.Seq.{getD-set-same, getD-set-other}
 use Rattle.labels.proofs.Digits.{same-or}
-use Rattle.matching.specs.Tables.{Held, Holds, joined, Matching}
+use Rattle.search.specs.Tables.{Held, Holds, joined, Matching}
 
 -- after a store at j, what stands at k is the value stored
 pub record Here (h : List ℕ) (j v k : ℕ) : Type 0 where
