@@ -1,6 +1,7 @@
 -- From a matching to the full setting that is first in dictionary order: what each step promises. Definitions only.
 use mathlib.Core.Path.{_≡_}
 use mathlib.Core.Bool.{Bool, true, false}
+use mathlib.Core.Logic.{_⊎_}
 use mathlib.Core.List.{List}
 use Prim.Native.Nat.{ℕ, _<_, _≤_}
 use lib.ListN.{set}
@@ -40,6 +41,18 @@ pub record CompletePre (w n : ℕ) (E : ℕ → ℕ → Type 0) (by out : List �
 pub record HoldsPost (by out : List ℕ) (i : ℕ) (r : Bool) : Type 0 where
   pub held : r ≡ true → Held by (joined out i) i
   pub idle : r ≡ false → Held by (joined out i) i → ⊥
+
+-- what a stuck input met: all that it may take, and all that the holders may take of outputs that it tried beyond the fixed ones
+pub record Met (E : ℕ → ℕ → Type 0) (by : List ℕ) (i fixed seen met : ℕ) : Type 0 where
+  pub own : (k : ℕ) → E i k → In met k
+  pub asked : (j m k : ℕ) → In seen j → (In fixed j → ⊥) → Held by j m → E m k → In met k
+  pub only : (k : ℕ) → In met k → E i k ⊎ ((j m : ℕ) × In seen j × (In fixed j → ⊥) × Held by j m × E m k)
+
+-- of the inputs below `from`, r is the last whose output was met, or the first of all
+pub record Yields (out : List ℕ) (from met r : ℕ) : Type 0 where
+  pub less : r < from
+  pub clear : (m : ℕ) → r < m → m < from → In met (joined out m) → ⊥
+  pub way : In met (joined out r) ⊎ (r ≡ 0)
 
 -- every input below `to` holds an output; or no full setting keeps the fixed ones. What was fixed is left alone
 pub record CompletePost (w n : ℕ) (E : ℕ → ℕ → Type 0) (by out : List ℕ) (fixed to : ℕ) (by' out' : List ℕ) (known : ℕ) (full : Bool) : Type 0 where

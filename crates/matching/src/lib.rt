@@ -11,6 +11,7 @@ use search::FREE;
 use search::Tried;
 use search::ask_inputs;
 use search::join;
+use search::leads_to;
 use search::release;
 use switch::InputPort;
 use switch::OutputPort;
@@ -22,14 +23,14 @@ ghost use lib.ListN.{length};
 ghost use Rattle.labels.specs.Label.{In, Sub};
 ghost use Rattle.labels.specs.Wide.{outputsOf};
 ghost use Rattle.search.specs.Tables.{triedOf, Allowed, Rows, joined};
-ghost use Rattle.search.specs.Search.{Free};
-ghost use Rattle.matching.specs.Chosen.{Fixed, CompletePre, CompletePost, Lowering, Lowered, Dead, SettledPost, SettledAll, Settled, Ready, Chosen, HoldsPost};
+ghost use Rattle.search.specs.Search.{Closed, Free, Ports};
+ghost use Rattle.matching.specs.Chosen.{Fixed, CompletePre, CompletePost, Lowering, Lowered, Dead, SettledPost, SettledAll, Settled, Ready, Chosen, HoldsPost, Met, Yields};
 
-// Where joining inputs ended: whether all are joined, the outputs that are held, and what the one that is stuck has tried.
+// Where joining inputs ended: whether all are joined, the outputs that are held, and those that the one that is stuck met.
 struct Seats {
     full: bool,
     held: Outputs,
-    seen: Tried,
+    met: Outputs,
 }
 
 // The outputs that are fixed, with them those that lead nowhere else, and whether the input before this one was well advised to ask
@@ -56,7 +57,7 @@ pub fn next_setting(lows: &[u64], highs: &[u64], by: &mut [u8], out: &mut [u8], 
             return;
         }
         held = s.held;
-        firm = give_way(out, firm, s.seen);
+        firm = give_way(out, firm, s.met);
     }
 }
 
@@ -72,12 +73,12 @@ fn fixed_below(out: &[u8], kept: usize) -> Tried
     fixed
 }
 
-// As many inputs in front as keep their outputs next: those before the last of them whose output was met where an input was stuck.
-fn give_way(out: &[u8], from: usize, seen: Tried) -> usize
+// As many inputs in front as keep their outputs next: those before the last of them whose output is in the way. With any more of them kept
+// the same input is stuck again.
+fn give_way(out: &[u8], from: usize, met: Outputs) -> usize
     requires { ⌜ (0 < from) × (from ≤ length (now out)) × ((m : ℕ) → m < from → joined (now out) m < 128) ⌝ }
-    ensures { λ r. ⌜ r < from ⌝ }
+    ensures { λ r. ⌜ Yields (now (out .entry)) from (outputsOf met) r ⌝ }
 {
-    let met = seen.outputs;
     let mut firm = from;
     while 0 < firm {
         firm -= 1;
@@ -86,6 +87,24 @@ fn give_way(out: &[u8], from: usize, seen: Tried) -> usize
         }
     }
     firm
+}
+
+// What a stuck input met: all that it may take, and all that the holders may take whom it asked in vain.
+fn met_by(
+    lows: &[u64],
+    highs: &[u64],
+    by: &[u8],
+    i: InputPort,
+    seen: Tried,
+    fixed: Tried,
+) -> Outputs
+    requires { ⌜ Rows 128 (now lows) (now highs) × (i .0 < length (now lows)) × Ports 128 (length (now lows)) (now by) × Closed (Allowed (now lows) (now highs)) (now by) (triedOf fixed) (triedOf seen) ⌝ }
+    ensures { λ r. ⌜ Met (Allowed (now (lows .entry)) (now (highs .entry))) (now (by .entry)) (i .0) (triedOf fixed) (triedOf seen) (outputsOf r) ⌝ }
+{
+    let tried = seen.outputs;
+    let asked = leads_to(lows, highs, by, tried.but(fixed.outputs));
+    let row = row_of(lows, highs, i);
+    row.with(asked.outputs)
 }
 
 // Every output but those of the n that nobody holds, which can be had at once.
@@ -118,7 +137,7 @@ fn complete(
     let mut s = Seats {
         full: true,
         held: held,
-        seen: fixed,
+        met: held,
     };
     for i in from..lows.len() {
         s = seat(lows, highs, by, out, s.held, fixed, InputPort(i));
@@ -146,7 +165,7 @@ fn seat(
         return Seats {
             full: true,
             held: held,
-            seen: fixed,
+            met: held,
         };
     }
     let a = ask_inputs(lows, highs, by, out, held, fixed, row_of(lows, highs, i));
@@ -154,14 +173,14 @@ fn seat(
         Asked::Stuck(seen) => Seats {
             full: false,
             held: held,
-            seen: seen,
+            met: met_by(lows, highs, by, i, seen, fixed),
         },
         Asked::Freed(g, _) => {
             join(by, out, i, g.output);
             Seats {
                 full: true,
                 held: held.mark(g.spent),
-                seen: fixed,
+                met: held,
             }
         }
     }

@@ -38,9 +38,9 @@ pub struct Given {
 }
 
 // What a wave of outputs leads to: to one of them that is free, or to all that their holders may take.
-struct Reached {
-    free: FoundOutput,
-    outputs: Outputs,
+pub struct Reached {
+    pub free: FoundOutput,
+    pub outputs: Outputs,
 }
 
 impl Tried {
@@ -169,7 +169,7 @@ fn ask_outputs(
 }
 
 // What a wave of outputs leads to, word by word.
-fn leads_to(lows: &[u64], highs: &[u64], by: &[u8], wave: Outputs) -> Reached
+pub fn leads_to(lows: &[u64], highs: &[u64], by: &[u8], wave: Outputs) -> Reached
     requires { ⌜ Rows 128 (now lows) (now highs) × Ports 128 (length (now lows)) (now by) ⌝ }
     ensures { λ r. ⌜ Leads (Allowed (now (lows .entry)) (now (highs .entry))) (now (by .entry)) (outputsOf wave) (r .free) (outputsOf (r .outputs)) ⌝ }
 {

@@ -77,7 +77,7 @@ give-way-requires c κs =
     )
 
 loop-less : tie.Need-loop-less Inv-loop μ-loop
-loop-less c = c .give-way .ensures
+loop-less c = c .give-way .ensures .less
 
 loop-again : tie.Need-loop-again Inv-loop μ-loop
 loop-again c =
@@ -87,7 +87,7 @@ loop-again c =
     let x = c .before .before .before .before .before .before .before .before .before .before .before .fixed-below in
     let q = c .before .before .before .before .before .before .before .before .complete in
     let g = c .give-way in
-    (firm-less 128 (length (a .lows .now)) (Allowed (a .lows .now) (a .highs .now)) (a .by .now) (a .out .now) (a .kept) (s .pre .1) (l .by) (l .out) (l .firm) (l .inv .0) (triedOf (x .result)) (x .ensures) (q .last .1 .1 .0) (q .last .1 .1 .1 .0) (outputsOf (q .result .held)) (q .result .full) (q .ensures) (g .result) (g .ensures), q .ensures .free)
+    (firm-less 128 (length (a .lows .now)) (Allowed (a .lows .now) (a .highs .now)) (a .by .now) (a .out .now) (a .kept) (s .pre .1) (l .by) (l .out) (l .firm) (l .inv .0) (triedOf (x .result)) (x .ensures) (q .last .1 .1 .0) (q .last .1 .1 .1 .0) (outputsOf (q .result .held)) (q .result .full) (q .ensures) (g .result) (g .ensures .less), q .ensures .free)
 
 pub next-setting-spec : {M : Type 1} → statement M
 next-setting-spec =

@@ -11,6 +11,7 @@ use Rattle.search.specs.Search.{AskPost}
 use Rattle.search.proofs.Tables.{has-place}
 use Rattle.search.proofs.Search.{same-holders, same-outputs}
 use Rattle.matching.proofs.Completing.{holds-none, seat-holds, seat-asks, seat-stuck, seat-taken}
+use Rattle.matching.proofs.Giving.{stuck-closed}
 use borrow.Author.Needs.{needs}
 use Rattle.matching.proofs.seat.Statement.{statement}
 use Rattle.matching.proofs.seat.Tie as tie
@@ -42,6 +43,17 @@ ask-inputs-requires c κs =
 enum-known-a : tie.Need-enum-known-a
 enum-known-a c = search needs
 
+met-by-requires : tie.Need-met-by-requires
+met-by-requires c κs =
+    let s = c .before .before .before .before .before .before .before .before .before .before .before .before .before .before .before .before .before .before .before .before in
+    let a = s .args in
+    let r = c .before .before .before .before .before .before .before .before .before .row-of in
+    let q = c .before .before .before .before .before .before .before .before .ask-inputs in
+    let x = c .before .before .a .given in
+    let m = subst (AskPost 128 (length (a .lows .now)) (Allowed (a .lows .now) (a .highs .now)) (a .by .now) (a .out .now) (triedOf (a .fixed)) (outputsOf (r .result)) (q .last .1 .1 .0) (q .last .1 .1 .1 .0)) (x .1) (q .ensures .0) in
+    let k = stuck-closed 128 (length (a .lows .now)) (Allowed (a .lows .now) (a .highs .now)) (a .by .now) (a .out .now) (triedOf (a .fixed)) (outputsOf (r .result)) (q .last .1 .1 .0) (q .last .1 .1 .1 .0) (triedOf (x .0 .0)) (s .pre .2 .good) m in
+    (s .pre .0, s .pre .1, k .0, k .1)
+
 enum-known-a-2 : tie.Need-enum-known-a-2
 enum-known-a-2 c = search needs
 
@@ -67,27 +79,27 @@ mark-requires c κs =
 
 same-length-3 : tie.Need-same-length-3
 same-length-3 c =
-    let s = c .before .before .before .before .before .before .before .before .before .before .before .before .before .before .before .before .before .before .before in
+    let s = c .before .before .before .before .before .before .before .before .before .before .before .before .before .before .before .before .before .before .before .before .before in
     let a = s .args in
-    let q = c .before .before .before .before .before .before .before .ask-inputs in
+    let q = c .before .before .before .before .before .before .before .before .before .ask-inputs in
     same-holders 128 (length (a .lows .now)) (Allowed (a .lows .now) (a .highs .now)) (a .by .now) (a .out .now) (triedOf (a .fixed)) _ (q .last .1 .1 .0) (q .last .1 .1 .1 .0) (s .pre .2 .good) (q .result) (q .ensures .0)
 
 same-length-4 : tie.Need-same-length-4
 same-length-4 c =
-    let s = c .before .before .before .before .before .before .before .before .before .before .before .before .before .before .before .before .before .before .before in
+    let s = c .before .before .before .before .before .before .before .before .before .before .before .before .before .before .before .before .before .before .before .before .before in
     let a = s .args in
-    let q = c .before .before .before .before .before .before .before .ask-inputs in
+    let q = c .before .before .before .before .before .before .before .before .before .ask-inputs in
     same-outputs 128 (length (a .lows .now)) (Allowed (a .lows .now) (a .highs .now)) (a .by .now) (a .out .now) (triedOf (a .fixed)) _ (q .last .1 .1 .0) (q .last .1 .1 .1 .0) (s .pre .2 .good) (q .result) (q .ensures .0)
 
 returns-2 : tie.Need-returns-2
 returns-2 c =
-    let s = c .before .before .before .before .before .before .before .before .before .before .before .before .before .before .before .before .before .before .before in
+    let s = c .before .before .before .before .before .before .before .before .before .before .before .before .before .before .before .before .before .before .before .before .before in
     let a = s .args in
-    let r = c .before .before .before .before .before .before .before .before .row-of in
-    let q = c .before .before .before .before .before .before .before .ask-inputs in
-    let x = c .before .a .given in
+    let r = c .before .before .before .before .before .before .before .before .before .before .row-of in
+    let q = c .before .before .before .before .before .before .before .before .before .ask-inputs in
+    let x = c .before .before .before .a .given in
     let m = subst (AskPost 128 (length (a .lows .now)) (Allowed (a .lows .now) (a .highs .now)) (a .by .now) (a .out .now) (triedOf (a .fixed)) (outputsOf (r .result)) (q .last .1 .1 .0) (q .last .1 .1 .1 .0)) (x .1) (q .ensures .0) in
-    let idle = holds-none 128 (length (a .lows .now)) (Allowed (a .lows .now) (a .highs .now)) (a .by .now) (a .out .now) (a .i .0) (s .pre .2 .good) (c .before .before .before .before .before .before .before .before .before .before .before .before .holds .ensures .idle (c .before .before .before .before .before .before .before .before .before .before .before .if1 .left)) in
+    let idle = holds-none 128 (length (a .lows .now)) (Allowed (a .lows .now) (a .highs .now)) (a .by .now) (a .out .now) (a .i .0) (s .pre .2 .good) (c .before .before .before .before .before .before .before .before .before .before .before .before .before .before .holds .ensures .idle (c .before .before .before .before .before .before .before .before .before .before .before .before .before .if1 .left)) in
     seat-stuck 128 (length (a .lows .now)) (Allowed (a .lows .now) (a .highs .now)) (a .by .now) (a .out .now) (triedOf (a .fixed)) (outputsOf (a .held)) (a .i .0) (s .pre .1) (s .pre .2) idle (outputsOf (r .result)) (λ k e. subst (λ (y : ℕ). In y k) (r .ensures) e) (λ k e. subst (λ (y : ℕ). In y k) (sym (r .ensures)) e) (q .last .1 .1 .0) (q .last .1 .1 .1 .0) (triedOf (x .0 .0)) m
 
 same-length-5 : tie.Need-same-length-5
@@ -128,6 +140,7 @@ seat-spec =
     row-of-requires
     ask-inputs-requires
     enum-known-a
+    met-by-requires
     enum-known-a-2
     join-requires
     mark-requires
