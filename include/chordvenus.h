@@ -19,7 +19,12 @@
  *
  * Records, ports and cells are counted from 0. A refusal changes no lent byte and answers 0 for
  * records, longest, total, length, empty, added and dropped. Success changes only what the call
- * says it writes.
+ * says it writes. cv_words says in a sentence what a code means.
+ *
+ * Room      a call that writes records can be asked how many there will be: lend it a buffer of length 0,
+ *           for which the pointer may be NULL. It answers code 5 and the place is that number, or it is
+ *           done, where there are none to write. Room for every demand beforehand: cv_exact_room and the
+ *           like for memory from malloc, CV_EXACT_ROOM and the like for arrays.
  *
  * What the compiler cannot see is left to the caller:
  *
@@ -32,10 +37,11 @@
  *           pointer, or touches anything but its arguments and its stack, so calls may run at once,
  *           on memory of their own or on memory that all of them only read.
  * Stack     CV_STACK_EXACT and the like say how many bytes of stack must be left for each call.
- * Archive   it is for x86-64 processors and calls by the System V rules, as on Linux; from outside
- *           it takes memcpy and memset alone. Header and archive belong together: an answer is
- *           returned by value, so neither of the two can gain a field alone. CV_VERSION is the
- *           header's number and cv_version() the archive's; a program can compare them at its start.
+ * Archive   libchordvenus.a and libchordvenus.so are for x86-64 Linux; from outside they take memcpy
+ *           and memset alone. Header and archive belong together: an answer is returned by value, so
+ *           neither of the two can gain a field alone. CV_VERSION is the header's number and
+ *           cv_version() the archive's. A program built with one number does not link with an archive
+ *           of another, and does not start with a shared library of another, whose name ends in it.
  */
 #ifndef CHORDVENUS_H
 #define CHORDVENUS_H
@@ -47,8 +53,35 @@
 extern "C" {
 #endif
 
-/* Goes up with every change that a compiled caller would notice: of a struct, a number, a call. */
+/*
+ * Goes up when a struct, a number or a call that is there becomes another, so that a program that was
+ * compiled before would be wrong. What is added beside them leaves it as it is.
+ */
 #define CV_VERSION 1
+
+/*
+ * A file that includes this header refers to cv_interface_1, by that name and in a note of 20 bytes that
+ * no instruction reads: so the linker finds an archive of another version out. A program that uses the
+ * numbers alone, and links no archive, defines CV_NUMBERS_ALONE first.
+ */
+#if defined(__GNUC__) && defined(__x86_64__) && defined(__ELF__) && !defined(CV_NUMBERS_ALONE)
+#define CV_QUOTED(number) #number
+#define CV_BUILT_FOR(number) \
+    __asm__(".pushsection .note.chordvenus,\"a\",@note\n\t.balign 4\n\t.long 3, 4, " CV_QUOTED(number) \
+            "\n\t.asciz \"CV\"\n\t.balign 4\n\t.long cv_interface_" CV_QUOTED(number) "@PLT\n\t.popsection")
+CV_BUILT_FOR(CV_VERSION);
+#undef CV_BUILT_FOR
+#undef CV_QUOTED
+#endif
+
+/* An answer that is thrown away is a mistake, and the compiler says so. */
+#if (defined(__cplusplus) && __cplusplus >= 201703L) || (defined(__STDC_VERSION__) && __STDC_VERSION__ >= 202311L)
+#define CV_NODISCARD [[nodiscard]]
+#elif defined(__GNUC__)
+#define CV_NODISCARD __attribute__((warn_unused_result))
+#else
+#define CV_NODISCARD
+#endif
 
 enum {
     CV_MOST_PORTS = 64,       /* the largest N */
@@ -61,9 +94,18 @@ enum {
 };
 
 /*
+ * Bytes that hold the plan of every demand, for arrays: of n ports for the exact and the doubled plan, by
+ * either rule, and of lines of up to `longest` slots for the quick cover, whose most is CV_MOST_QUICK.
+ * cv_exact_room(n, CV_MOST_LINE), cv_doubled_room and cv_quick_room answer the same, in records.
+ */
+#define CV_EXACT_ROOM(n) (((n) * (n) - 2 * (n) + 2) * CV_RECORD_SIZE)
+#define CV_DOUBLED_ROOM(n) (2 * (n) * CV_RECORD_SIZE)
+#define CV_QUICK_ROOM(longest) (((longest) == 0 ? 0 : 2 * (longest) - 1) * CV_RECORD_SIZE)
+
+/*
  * Bytes of stack that each call may use at any N, with all that it calls: more than the archive's
- * instructions can come to, which bindings/c/stack.py adds up. A signal handler on the same stack
- * comes on top.
+ * instructions can come to, which bindings/c/stack.py adds up; and bindings/c/stack.c makes each call on
+ * a thread that has no more. A signal handler on the same stack comes on top.
  */
 #define CV_STACK_VERSION 256
 #define CV_STACK_WISH 256
@@ -166,8 +208,39 @@ _Static_assert(sizeof(cv_part) == 112, "an answer and 3 numbers of 8 bytes");
 _Static_assert(sizeof(size_t) == 8, "a length has 8 bytes");
 #endif
 
-/* The version of the header that the archive belongs to: CV_VERSION. */
-uint64_t cv_version(void);
+/* ---- chordvenus-version: header and archive, and words for codes ---- */
+
+/*
+ * The version of the header that the archive belongs to: CV_VERSION.
+ * Writes: nothing.
+ */
+CV_NODISCARD uint64_t cv_version(void);
+
+/* What a code means, in one sentence. */
+static inline const char *cv_words(uint64_t code)
+{
+    static const char *const words[] = {
+        "Nothing was refused.",
+        "The number of ports is 0 or over the largest.",
+        "The cells lent are not as many as the ports squared.",
+        "A line sums to more than 65,535 slots.",
+        "A line sums to more than 1,024 slots, the most of the quick cover.",
+        "The result has more records than there is room for.",
+        "A wish is not a finite number.",
+        "A wish is below zero.",
+        "A wish is above 65,535.",
+        "Bytes are left over after the last whole record.",
+        "The plan has more records than are read.",
+        "A record is not well formed.",
+        "A wish names a pair that was named before.",
+        "The plan does not cover the demand.",
+        "Tonight's plan is over, and the standby plan has no records.",
+        "There are more first records than the plan has.",
+    };
+    return code < sizeof words / sizeof *words ? words[code] : "There is no such code.";
+}
+
+/* ---- chordvenus-wishes: from wishes to a demand ---- */
 
 /*
  * One wish, as the bits of a binary32, to slots (§4.1 to §4.4). A wish above zero is rounded up to
@@ -175,7 +248,7 @@ uint64_t cv_version(void);
  * Codes: 6, 7, 8, all with place 0.
  * Done:  total is the slots.
  */
-cv_answer cv_wish(uint32_t bits);
+CV_NODISCARD cv_answer cv_wish(uint32_t bits);
 
 /*
  * A wish list to a demand (§4.5 to §4.8), each wish by the rule of cv_wish. The list is records of
@@ -186,7 +259,9 @@ cv_answer cv_wish(uint32_t bits);
  * Writes: all N * N cells.
  * Done:   records is the number of wish records.
  */
-cv_answer cv_wishes(uint64_t n, const uint8_t *list, size_t list_len, uint32_t *cells, size_t cells_len);
+CV_NODISCARD cv_answer cv_wishes(uint64_t n, const uint8_t *list, size_t list_len, uint32_t *cells, size_t cells_len);
+
+/* ---- chordvenus-plans: from a demand to a plan ---- */
 
 /*
  * The exact plan (§6): cells in order are filled up so that every line sums to T; then, until all is
@@ -197,7 +272,7 @@ cv_answer cv_wishes(uint64_t n, const uint8_t *list, size_t list_len, uint32_t *
  * Writes: the plan's records, at the start of plan; no later byte. The demand is only read.
  * Done:   records, longest, total, empty.
  */
-cv_answer cv_exact(uint64_t n, const uint32_t *cells, size_t cells_len, uint8_t *plan, size_t plan_len);
+CV_NODISCARD cv_answer cv_exact(uint64_t n, const uint32_t *cells, size_t cells_len, uint8_t *plan, size_t plan_len);
 
 /*
  * The doubled plan (§7): few records, at most twice the time. With u = T / N rounded up, its first
@@ -209,7 +284,7 @@ cv_answer cv_exact(uint64_t n, const uint32_t *cells, size_t cells_len, uint8_t 
  * Writes: the plan's records, at the start of plan; no later byte. The demand is only read.
  * Done:   records, longest, total, empty.
  */
-cv_answer cv_doubled(uint64_t n, const uint32_t *cells, size_t cells_len, uint8_t *plan, size_t plan_len);
+CV_NODISCARD cv_answer cv_doubled(uint64_t n, const uint32_t *cells, size_t cells_len, uint8_t *plan, size_t plan_len);
 
 /*
  * The doubled plan by the rule before that (§7.5), for controllers that expect all N rotations: where
@@ -217,7 +292,7 @@ cv_answer cv_doubled(uint64_t n, const uint32_t *cells, size_t cells_len, uint8_
  * records of this rule.
  * Codes, writes, done: as cv_doubled.
  */
-cv_answer cv_doubled_every_rotation(uint64_t n, const uint32_t *cells, size_t cells_len, uint8_t *plan, size_t plan_len);
+CV_NODISCARD cv_answer cv_doubled_every_rotation(uint64_t n, const uint32_t *cells, size_t cells_len, uint8_t *plan, size_t plan_len);
 
 /*
  * The quick cover (§8): one record of hold 1 for each slot s = 0, 1, .. until nothing is left. In
@@ -228,7 +303,9 @@ cv_answer cv_doubled_every_rotation(uint64_t n, const uint32_t *cells, size_t ce
  * Writes: the plan's records, at the start of plan; no later byte. The demand is only read.
  * Done:   records, longest, total, empty.
  */
-cv_answer cv_quick(uint64_t n, const uint32_t *cells, size_t cells_len, uint8_t *plan, size_t plan_len);
+CV_NODISCARD cv_answer cv_quick(uint64_t n, const uint32_t *cells, size_t cells_len, uint8_t *plan, size_t plan_len);
+
+/* ---- chordvenus-room: the room of a plan beforehand ---- */
 
 /*
  * The room of each planner beforehand (§20), from N and a T alone: so many records suffice for every
@@ -239,14 +316,16 @@ cv_answer cv_quick(uint64_t n, const uint32_t *cells, size_t cells_len, uint8_t 
  * Writes: nothing.
  * Done:   records.
  */
-cv_answer cv_exact_room(uint64_t n, uint64_t longest);
-cv_answer cv_doubled_room(uint64_t n, uint64_t longest);
-cv_answer cv_quick_room(uint64_t n, uint64_t longest);
+CV_NODISCARD cv_answer cv_exact_room(uint64_t n, uint64_t longest);
+CV_NODISCARD cv_answer cv_doubled_room(uint64_t n, uint64_t longest);
+CV_NODISCARD cv_answer cv_quick_room(uint64_t n, uint64_t longest);
 
 /* The same for the second edition's records, of 132 bytes, where N is 1 to 128. */
-cv_answer cv2_exact_room(uint64_t n, uint64_t longest);
-cv_answer cv2_doubled_room(uint64_t n, uint64_t longest);
-cv_answer cv2_quick_room(uint64_t n, uint64_t longest);
+CV_NODISCARD cv_answer cv2_exact_room(uint64_t n, uint64_t longest);
+CV_NODISCARD cv_answer cv2_doubled_room(uint64_t n, uint64_t longest);
+CV_NODISCARD cv_answer cv2_quick_room(uint64_t n, uint64_t longest);
+
+/* ---- chordvenus-grating: plans for the grating fabric ---- */
 
 /*
  * The doubled plan for the grating fabric (§13.5), where the wavelength of a pair, input i to output
@@ -258,7 +337,7 @@ cv_answer cv2_quick_room(uint64_t n, uint64_t longest);
  * Writes: the plan's records, at the start of plan; no later byte. The demand is only read.
  * Done:   records, total.
  */
-cv_answer cv_grating_doubled(uint64_t n, const uint32_t *cells, size_t cells_len, uint8_t *plan, size_t plan_len);
+CV_NODISCARD cv_answer cv_grating_doubled(uint64_t n, const uint32_t *cells, size_t cells_len, uint8_t *plan, size_t plan_len);
 
 /*
  * What the records of a plan from anywhere do on the grating fabric (§13.3): for each the largest
@@ -267,7 +346,9 @@ cv_answer cv_grating_doubled(uint64_t n, const uint32_t *cells, size_t cells_len
  * Writes: one byte for each record, in order, at the start of report; no later byte.
  * Done:   records, total.
  */
-cv_answer cv_grating_report(uint64_t n, const uint8_t *plan, size_t plan_len, uint8_t *report, size_t report_len);
+CV_NODISCARD cv_answer cv_grating_report(uint64_t n, const uint8_t *plan, size_t plan_len, uint8_t *report, size_t report_len);
+
+/* ---- chordvenus-check: a plan from anywhere checked, measured, joined ---- */
 
 /*
  * Checks a plan from anywhere against a demand (§10).
@@ -275,7 +356,7 @@ cv_answer cv_grating_report(uint64_t n, const uint8_t *plan, size_t plan_len, ui
  * Writes: nothing.
  * Done:   records, longest, total, empty; the plan covers the demand.
  */
-cv_answer cv_check(uint64_t n, const uint32_t *cells, size_t cells_len, const uint8_t *plan, size_t plan_len);
+CV_NODISCARD cv_answer cv_check(uint64_t n, const uint32_t *cells, size_t cells_len, const uint8_t *plan, size_t plan_len);
 
 /*
  * The length of a plan at a switching time of d slots (§11): total hold, and d for each record that
@@ -285,7 +366,7 @@ cv_answer cv_check(uint64_t n, const uint32_t *cells, size_t cells_len, const ui
  * Writes: nothing.
  * Done:   length, records, total.
  */
-cv_answer cv_length(uint64_t n, const uint8_t *plan, size_t plan_len, uint16_t d);
+CV_NODISCARD cv_answer cv_length(uint64_t n, const uint8_t *plan, size_t plan_len, uint16_t d);
 
 /*
  * Joins equal settings (§12): the plan is written anew into a second buffer, each setting once,
@@ -297,7 +378,9 @@ cv_answer cv_length(uint64_t n, const uint8_t *plan, size_t plan_len, uint16_t d
  * Writes: the joined plan's records, at the start of joined; no later byte. The plan is only read.
  * Done:   records and total of the joined plan.
  */
-cv_answer cv_join(uint64_t n, const uint8_t *plan, size_t plan_len, uint8_t *joined, size_t joined_len);
+CV_NODISCARD cv_answer cv_join(uint64_t n, const uint8_t *plan, size_t plan_len, uint8_t *joined, size_t joined_len);
+
+/* ---- chordvenus-records: plans written and read record by record ---- */
 
 /*
  * Writes one record (§5.8). All 64 outputs are given; those of inputs from N on are CV_IDLE.
@@ -305,7 +388,7 @@ cv_answer cv_join(uint64_t n, const uint8_t *plan, size_t plan_len, uint8_t *joi
  * Writes: the first CV_RECORD_SIZE bytes of plan.
  * Done:   records is 1, total is the hold.
  */
-cv_answer cv_write(uint16_t hold, uint64_t n, const uint8_t outputs[64], uint8_t *plan, size_t plan_len);
+CV_NODISCARD cv_answer cv_write(uint16_t hold, uint64_t n, const uint8_t outputs[64], uint8_t *plan, size_t plan_len);
 
 /*
  * Opens a plan for an N (§5.4). No record is judged yet.
@@ -313,7 +396,7 @@ cv_answer cv_write(uint16_t hold, uint64_t n, const uint8_t outputs[64], uint8_t
  * Writes: nothing.
  * Done:   records.
  */
-cv_answer cv_open(uint64_t n, const uint8_t *plan, size_t plan_len);
+CV_NODISCARD cv_answer cv_open(uint64_t n, const uint8_t *plan, size_t plan_len);
 
 /*
  * The step at record `at` of a plan opened for n (§5.5): that record, the end (at every `at` from the
@@ -322,7 +405,9 @@ cv_answer cv_open(uint64_t n, const uint8_t *plan, size_t plan_len);
  * it is at the end and at code 11.
  * Writes: nothing.
  */
-cv_step cv_step_at(uint64_t n, const uint8_t *plan, size_t plan_len, uint64_t at);
+CV_NODISCARD cv_step cv_step_at(uint64_t n, const uint8_t *plan, size_t plan_len, uint64_t at);
+
+/* ---- chordvenus-console: the record in force, and what a stopped batch leaves ---- */
 
 /*
  * The record in force at a slot (§23.1 to §23.3), slots counted from 0 by holds alone: tonight's plan
@@ -333,7 +418,7 @@ cv_step cv_step_at(uint64_t n, const uint8_t *plan, size_t plan_len, uint64_t at
  * Writes: nothing.
  * Done:   plan, start, size.
  */
-cv_part cv_in_force(uint64_t n, const uint8_t *tonight, size_t tonight_len, const uint8_t *standby, size_t standby_len, uint64_t slot);
+CV_NODISCARD cv_part cv_in_force(uint64_t n, const uint8_t *tonight, size_t tonight_len, const uint8_t *standby, size_t standby_len, uint64_t slot);
 
 /* The part itself, in the plans that cv_in_force was called with; NULL where it was refused. */
 static inline const uint8_t *cv_part_bytes(cv_part part, const uint8_t *tonight, const uint8_t *standby)
@@ -353,7 +438,7 @@ static inline const uint8_t *cv_part_bytes(cv_part part, const uint8_t *tonight,
  * Writes: all N * N cells. The demand, the plan and the wishes are only read.
  * Done:   every count is 0.
  */
-cv_answer cv_carry_over(uint64_t n, const uint32_t *asked, size_t asked_len, const uint8_t *plan, size_t plan_len, uint64_t first, const uint32_t *wished, size_t wished_len, uint32_t *cells, size_t cells_len);
+CV_NODISCARD cv_answer cv_carry_over(uint64_t n, const uint32_t *asked, size_t asked_len, const uint8_t *plan, size_t plan_len, uint64_t first, const uint32_t *wished, size_t wished_len, uint32_t *cells, size_t cells_len);
 
 #ifdef __cplusplus
 }

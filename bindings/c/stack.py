@@ -100,7 +100,8 @@ def main():
     said = re.findall(r"(CV2?)_STACK_(\w+) (\d+)", pathlib.Path(header).read_text())
     figures = {f"{edition}_{call}".lower(): int(figure) for edition, call, figure in said}
     short = False
-    for name in sorted(name for name in walks if name.startswith(("cv_", "cv2_"))):
+    calls = [name for name in walks if name.startswith(("cv_", "cv2_")) and not name.startswith("cv_interface_")]  # a name that nobody calls
+    for name in sorted(calls):
         needed, figure = need(name, walks) + 8, figures.get(name, 0)
         short |= figure < needed
         print(f"{name}: at most {needed:,} of {figure:,} bytes{'' if needed <= figure else ', TOO SMALL'}")

@@ -1,146 +1,292 @@
-//! Safe calls of Chordvenus, the proved switch planner, over its static library.
+//! Safe calls of Chordvenus, the proved switch planner, over its archive for x86-64 Linux.
 //!
-//! Each function is one call of include/chordvenus.h, with slices in the place of pointers and
-//! lengths; what it does, its codes and what it writes are said there. An [`Answer`] has the
-//! numbers as they are; [`Answer::done`] makes a `Result` of it. A plan is read record by record
-//! through [`Plan`], an iterator, or through [`Reader`], which steps as the proved reader does.
+//! A switch has N inputs and N outputs, each side numbered from 0. A demand is N * N cells: cell i * N + j
+//! is how many slots input i asks of output j. A line is all cells of one input or all of one output, and T
+//! is the largest sum of a line. A plan is records of [`RECORD_SIZE`] bytes: a switch setting each, and for
+//! how many slots it is held. A setting grants its hold to each pair that it joins; a plan covers a demand
+//! if every pair is granted what it asks or more. Empty slots are what is granted beyond that.
 //!
-//! The stack is the one thing that a caller still owes: the header says how many bytes each call
-//! may use. A thread of Rust's has far more, unless it is given less.
+//! Functions at the top of the crate take the memory that they write from the caller and answer an
+//! [`Answer`]: [`Answer::done`] makes a `Result` of it. Those of [`owned`] make a `Vec` that is just large
+//! enough. Plans are read through [`Plan`], an iterator, or through [`Reader`], which steps as the proved
+//! reader does. [`second`] has the second edition, for switches of up to 128 ports.
+//!
+//! For every input a call ends, stays inside the memory that it is lent, and gives the one answer that its
+//! rules allow. A refusal changes no lent byte, and answers 0 for all that it counts. Success changes only
+//! what the call says that it writes. A buffer of length 0 asks how much room a plan needs: the answer has
+//! [`Code::Room`], and its place is how many records there will be.
+//!
+//! The stack is the one thing that a caller still owes: [`stack`] says how many bytes each call may use. A
+//! thread of Rust's has far more, unless it is given less.
 //!
 //! ```
 //! let cells = [2, 1, 1, 2];
-//! let mut plan = [0; 2 * chordvenus::RECORD_SIZE];
+//! let mut plan = [0; chordvenus::exact_bytes(2)];
 //! let answer = chordvenus::exact(2, &cells, &mut plan).done()?;
 //! let used = &plan[..answer.records as usize * chordvenus::RECORD_SIZE];
 //! for record in chordvenus::Plan::open(2, used)? {
 //!     let record = record?;
-//!     println!("{} {:?}", record.hold, &record.outputs[..2]);
+//!     println!("{} {:?} {:?}", record.hold, record.output(0), record.output(1));
 //! }
 //! # Ok::<(), chordvenus::Refused>(())
 //! ```
+//!
+//! An answer that is thrown away draws a warning:
+//!
+//! ```compile_fail
+//! #![deny(unused_must_use)]
+//! chordvenus::wish(0);
+//! ```
+//!
+//! The crate needs neither `std` nor a heap. The feature `alloc` has [`owned`]; `std`, which is on unless
+//! turned off, has that and `std::error::Error` for [`Refused`].
+#![no_std]
+#![warn(missing_docs)]
 
-use std::fmt;
-use std::iter::FusedIterator;
+#[cfg(feature = "alloc")]
+extern crate alloc;
+#[cfg(feature = "std")]
+extern crate std;
 
+mod code;
+#[cfg(feature = "alloc")]
+pub mod owned;
+pub mod reading;
+pub mod second;
+pub mod stack;
 pub mod sys;
 
+pub use code::{About, Code, Line, Refused};
+pub use reading::outputs;
 pub use sys::Answer;
 
+/// The largest N.
+pub const MOST_PORTS: usize = 64;
 /// Bytes of a plan record.
 pub const RECORD_SIZE: usize = 68;
 /// Bytes of a wish record.
 pub const WISH_SIZE: usize = 8;
 /// The output of an idle input.
 pub const IDLE: u8 = 255;
+/// The largest sum of a line, and the largest wish.
+pub const MOST_LINE: u64 = 65_535;
+/// The largest T of the quick cover.
+pub const MOST_QUICK: u64 = 1_024;
+/// The most records of a plan that is read.
+pub const MOST_RECORDS: usize = 8_192;
 
-/// The version of the header that the archive belongs to. This crate belongs to [`sys::VERSION`]: an
-/// archive of another version has other structs, and no other call may be made of it.
+/// One setting of a plan and its hold.
+pub type Record = reading::Record<64>;
+/// What one step of reading a plan gives.
+pub type Step = reading::Step<64>;
+/// A plan's bytes and the place reached, stepped through as the proved reader does.
+pub type Reader<'a> = reading::Reader<'a, 64>;
+/// The records of a plan, as an iterator.
+pub type Plan<'a> = reading::Plan<'a, 64>;
+
+/// Bytes that hold the exact plan of every demand of N ports, for arrays: N * N - 2 * N + 2 records, as
+/// many as [`exact_room`] answers for lines of any length. N is 1 or more.
+pub const fn exact_bytes(n: usize) -> usize {
+    (n * n + 2 - 2 * n) * RECORD_SIZE
+}
+
+/// Bytes that hold the doubled plan of every demand of N ports, by either rule: 2 * N records.
+pub const fn doubled_bytes(n: usize) -> usize {
+    2 * n * RECORD_SIZE
+}
+
+/// Bytes that hold the quick cover of every demand whose lines sum to `longest` or less: 2 * `longest` - 1
+/// records, and none where that is 0.
+pub const fn quick_bytes(longest: usize) -> usize {
+    match longest {
+        0 => 0,
+        _ => (2 * longest - 1) * RECORD_SIZE,
+    }
+}
+
+/// The version of the archive, which is [`sys::VERSION`]: with another a program does not link.
+#[must_use]
 pub fn version() -> u64 {
     // SAFETY: no memory is lent; the same holds for the next call.
     unsafe { sys::cv_version() }
 }
 
-/// One wish, as the bits of a binary32, to slots, which are the answer's total.
+/// One wish, as the bits of a binary32, to slots. A wish above zero is rounded up to whole slots and is
+/// never worth fewer than 2; zero and minus zero are worth 0.
+///
+/// Codes: 6, 7, 8, each with place 0. Done: `total` is the slots.
+#[must_use]
 pub fn wish(bits: u32) -> Answer {
     unsafe { sys::cv_wish(bits) }
 }
 
-/// A wish list to a demand.
+/// A wish list to a demand, each wish by the rule of [`wish`]. The list is records of [`WISH_SIZE`] bytes:
+/// input, output, a zero byte and another, and the four bytes of a binary32, low byte first. Pairs that no
+/// record names ask nothing; a wish of zero names its pair like any other. Lines are not checked here.
+///
+/// Codes: 1, 2, 9, then of the first faulty record the first of 11, 12, 6, 7, 8. Writes: all N * N cells.
+/// Done: `records` is the number of wish records.
+#[must_use]
 pub fn wishes(n: u64, list: &[u8], cells: &mut [u32]) -> Answer {
     // SAFETY: a slice has as many elements as its length says, and a mutable one overlaps no other;
     // the same holds for each call below.
     unsafe { sys::cv_wishes(n, list.as_ptr(), list.len(), cells.as_mut_ptr(), cells.len()) }
 }
 
-/// The exact plan of a demand.
+/// The exact plan: it covers the demand with a total hold of T, and no plan that covers has less. Cells in
+/// order are filled up so that every line sums to T; then, until all is zero, a full setting over cells
+/// that are not zero is taken off for the smallest of its cells. Of all such settings it is the one whose
+/// outputs come first in dictionary order. At most T records, and at most N * N - 2 * N + 2.
+///
+/// Codes: 1, 2, 3, 5. Writes: the plan's records, at the start of `plan`. Done: `records`, `longest`,
+/// `total`, `empty`.
+#[must_use]
 pub fn exact(n: u64, cells: &[u32], plan: &mut [u8]) -> Answer {
     unsafe { sys::cv_exact(n, cells.as_ptr(), cells.len(), plan.as_mut_ptr(), plan.len()) }
 }
 
-/// The doubled plan of a demand: each rotation is held for the largest remainder among its pairs.
+/// The doubled plan: few records, at most twice the time. With u = T / N rounded up, its first part is the
+/// exact plan of the quotients (each cell divided by u), every hold multiplied by u. Its second part gives each pair what
+/// the division left over: rotation k joins input i to output (i + k) mod N and is held as long as the pair
+/// of it with the most left over needs; where that is 0, it is not there. At most 2 * N records, and a
+/// total hold of at most 2 * T - 1.
+///
+/// Codes: 1, 2, 3, 5. Writes: the plan's records, at the start of `plan`. Done: `records`, `longest`,
+/// `total`, `empty`.
+#[must_use]
 pub fn doubled(n: u64, cells: &[u32], plan: &mut [u8]) -> Answer {
     unsafe { sys::cv_doubled(n, cells.as_ptr(), cells.len(), plan.as_mut_ptr(), plan.len()) }
 }
 
-/// The doubled plan of a demand by the rule that older controllers expect: every rotation is there.
+/// The doubled plan by the rule before that of [`doubled`], for controllers that expect all N rotations:
+/// where u is 2 or more, every rotation is there, held for u - 1 slots. The same bounds hold.
+///
+/// Codes: 1, 2, 3, 5. Writes: the plan's records, at the start of `plan`. Done: `records`, `longest`,
+/// `total`, `empty`.
+#[must_use]
 pub fn doubled_every_rotation(n: u64, cells: &[u32], plan: &mut [u8]) -> Answer {
     unsafe { sys::cv_doubled_every_rotation(n, cells.as_ptr(), cells.len(), plan.as_mut_ptr(), plan.len()) }
 }
 
-/// The quick cover of a demand.
+/// The quick cover: one record of hold 1 for each slot s = 0, 1, .. until nothing is left. In slot s the
+/// inputs choose one after the other, s mod N first and on around: the lowest output that no input has
+/// chosen yet and that the pair still wants, or none. T is at most [`MOST_QUICK`]. T to 2 * T - 1 records.
+///
+/// Codes: 1, 2, 3, 4, 5. Writes: the plan's records, at the start of `plan`. Done: `records`, `longest`,
+/// `total`, `empty`.
+#[must_use]
 pub fn quick(n: u64, cells: &[u32], plan: &mut [u8]) -> Answer {
     unsafe { sys::cv_quick(n, cells.as_ptr(), cells.len(), plan.as_mut_ptr(), plan.len()) }
 }
 
-/// The records that suffice for the exact plan of any demand of N ports whose lines sum to `longest`
-/// or less: with room for so many, [`exact`] never answers code 5.
+/// The records that suffice for the exact plan of any demand of N ports whose lines sum to `longest` or
+/// less: that many, or N * N - 2 * N + 2, whichever is less. With room for so many, [`exact`] never
+/// answers code 5.
+///
+/// Codes: 1, 3. Done: `records`.
+#[must_use]
 pub fn exact_room(n: u64, longest: u64) -> Answer {
     // SAFETY: no memory is lent; the same holds for each room below.
     unsafe { sys::cv_exact_room(n, longest) }
 }
 
-/// The same for the doubled plan, by either rule.
+/// The records that suffice for the doubled plan, by either rule, and for [`grating_doubled`]: 2 * N.
+///
+/// Codes: 1, 3. Done: `records`.
+#[must_use]
 pub fn doubled_room(n: u64, longest: u64) -> Answer {
     unsafe { sys::cv_doubled_room(n, longest) }
 }
 
-/// The same for the quick cover.
+/// The records that suffice for the quick cover of any demand whose lines sum to `longest` or less:
+/// 2 * `longest` - 1, and none where that is 0.
+///
+/// Codes: 1, 3, 4. Done: `records`.
+#[must_use]
 pub fn quick_room(n: u64, longest: u64) -> Answer {
     unsafe { sys::cv_quick_room(n, longest) }
 }
 
-/// [`exact_room`] for N up to 128, in records of 132 bytes.
-pub fn exact_room_second(n: u64, longest: u64) -> Answer {
-    unsafe { sys::cv2_exact_room(n, longest) }
-}
-
-/// [`doubled_room`] for N up to 128, in records of 132 bytes.
-pub fn doubled_room_second(n: u64, longest: u64) -> Answer {
-    unsafe { sys::cv2_doubled_room(n, longest) }
-}
-
-/// [`quick_room`] for N up to 128, in records of 132 bytes.
-pub fn quick_room_second(n: u64, longest: u64) -> Answer {
-    unsafe { sys::cv2_quick_room(n, longest) }
-}
-
-/// The doubled plan of a demand for the grating fabric: anti-rotations in the place of rotations.
+/// The doubled plan for the grating fabric, where the wavelength of a pair, input i to output j, is
+/// (j - i) mod N. It is that of [`doubled`] but for the rotations: in their place stand anti-rotations, of
+/// which number k gives input i the output (k - i) mod N, held by the same rule. None of them has more than
+/// two inputs on a wavelength, or more than one where N is odd. Records of the first part may;
+/// [`grating_report`] tells.
+///
+/// Codes: 1, 2, 3, 5. Writes: the plan's records, at the start of `plan`. Done: `records`, `total`.
+#[must_use]
 pub fn grating_doubled(n: u64, cells: &[u32], plan: &mut [u8]) -> Answer {
     unsafe { sys::cv_grating_doubled(n, cells.as_ptr(), cells.len(), plan.as_mut_ptr(), plan.len()) }
 }
 
-/// For each record of a plan the most inputs that share one wavelength of the grating fabric.
+/// What the records of a plan from anywhere do on the grating fabric: for each the largest number of inputs
+/// on one wavelength, of those that are not idle; 0 where all are.
+///
+/// Codes: 1, 9, 10, 11, then 5 where `report` is shorter than one byte for each record. Writes: one byte
+/// for each record, in order, at the start of `report`. Done: `records`, `total`.
+#[must_use]
 pub fn grating_report(n: u64, plan: &[u8], report: &mut [u8]) -> Answer {
     unsafe { sys::cv_grating_report(n, plan.as_ptr(), plan.len(), report.as_mut_ptr(), report.len()) }
 }
 
 /// Checks a plan from anywhere against a demand.
+///
+/// Codes: 1, 2, 3, 9, 10, 11, 13. Done: `records`, `longest`, `total`, `empty`; the plan covers the demand.
+#[must_use]
 pub fn check(n: u64, cells: &[u32], plan: &[u8]) -> Answer {
     unsafe { sys::cv_check(n, cells.as_ptr(), cells.len(), plan.as_ptr(), plan.len()) }
 }
 
-/// The length of a plan at a switching time of d slots.
+/// The length of a plan at a switching time of `d` slots: total hold, and `d` for each record that moves
+/// the mirrors, which are the first and those whose outputs differ from the record before.
+///
+/// Codes: 1, 9, 10, 11. Done: `length`, `records`, `total`.
+#[must_use]
 pub fn length(n: u64, plan: &[u8], d: u16) -> Answer {
     unsafe { sys::cv_length(n, plan.as_ptr(), plan.len(), d) }
 }
 
-/// Joins the equal settings of a plan, into a second buffer.
+/// Joins equal settings: the plan is written anew into a second buffer, each setting once, where it came
+/// first, held for the sum of its holds. A sum that no record can hold becomes as many records of 65,535 as
+/// fit into it and one more for the rest, unless the rest is 0. No pair is granted more or less than
+/// before. Never more records than were read.
+///
+/// Codes: 1, 9, 10, 11, 5. Writes: the joined plan's records, at the start of `joined`. Done: `records`
+/// and `total` of the joined plan.
+#[must_use]
 pub fn join(n: u64, plan: &[u8], joined: &mut [u8]) -> Answer {
     unsafe { sys::cv_join(n, plan.as_ptr(), plan.len(), joined.as_mut_ptr(), joined.len()) }
 }
 
-/// Writes one record at the start of a buffer.
+/// Writes one record. All 64 outputs are given; those of inputs from N on are [`IDLE`]. [`outputs`] makes
+/// them of options.
+///
+/// Codes: 1, 5 (place 1), 11 (place 0). Writes: the first [`RECORD_SIZE`] bytes of `plan`. Done:
+/// `records` is 1, `total` is the hold.
+///
+/// ```
+/// let mut plan = [0; chordvenus::RECORD_SIZE];
+/// chordvenus::write(7, 3, &chordvenus::outputs(&[Some(2), None, Some(0)]), &mut plan).done()?;
+/// let record = chordvenus::Plan::open(3, &plan)?.next().unwrap()?;
+/// assert_eq!((record.output(0), record.output(1)), (Some(2), None));
+/// # Ok::<(), chordvenus::Refused>(())
+/// ```
+#[must_use]
 pub fn write(hold: u16, n: u64, outputs: &[u8; 64], plan: &mut [u8]) -> Answer {
     unsafe { sys::cv_write(hold, n, outputs.as_ptr(), plan.as_mut_ptr(), plan.len()) }
 }
 
-/// Opens a plan for N and counts its records; no record is judged.
+/// Opens a plan for N and counts its records; no record is judged yet.
+///
+/// Codes: 1, 9, 10. Done: `records`.
+#[must_use]
 pub fn open(n: u64, plan: &[u8]) -> Answer {
     unsafe { sys::cv_open(n, plan.as_ptr(), plan.len()) }
 }
 
-/// The step at record `at` of a plan opened for N.
+/// The step at record `at` of a plan opened for N: that record, the end (at every `at` from the number of
+/// records on, and at every `at` where [`open`] refuses the plan), or that the record is not well formed.
+#[must_use]
 pub fn step_at(n: u64, plan: &[u8], at: u64) -> Step {
     let step = unsafe { sys::cv_step_at(n, plan.as_ptr(), plan.len(), at) };
     match step.kind {
@@ -150,20 +296,47 @@ pub fn step_at(n: u64, plan: &[u8], at: u64) -> Step {
     }
 }
 
-/// The record in force at a slot, its own bytes: a part of tonight's plan or, once that is over, of the
-/// standby plan, which begins there and repeats.
+impl reading::Edition<64> for reading::Of<64> {
+    fn open(n: u64, plan: &[u8]) -> Answer {
+        open(n, plan)
+    }
+
+    fn step_at(n: u64, plan: &[u8], at: u64) -> Step {
+        step_at(n, plan, at)
+    }
+}
+
+/// The record in force at a slot, its own bytes, slots counted from 0 by holds alone: a part of tonight's
+/// plan or, from the slot on where that is over, of the standby plan, which begins there and repeats
+/// without end. Both plans are judged whole, whatever the slot is.
+///
+/// Codes: 1; 9, 10, 11 for tonight's plan; 9, 10, 11 for the standby plan; 14. [`Answer::about`] says which
+/// of the two it is.
 pub fn in_force<'a>(n: u64, tonight: &'a [u8], standby: &'a [u8], slot: u64) -> Result<&'a [u8], Refused> {
     let part = unsafe {
         sys::cv_in_force(n, tonight.as_ptr(), tonight.len(), standby.as_ptr(), standby.len(), slot)
     };
     part.answer.done()?;
-    let plan = if part.plan == 1 { tonight } else { standby };
+    let plan = if part.plan == About::Tonight as u64 { tonight } else { standby };
     Ok(&plan[part.start as usize..][..part.size as usize])
 }
 
-/// The new demand of a batch that was stopped after the plan's first `first` records: for each pair what
-/// it asked beyond its grants, and its new wish on top; the new wishes are cells too.
-pub fn carry_over(n: u64, asked: &[u32], plan: &[u8], first: u64, wished: &[u32], cells: &mut [u32]) -> Answer {
+/// What a batch that was stopped leaves to ask: for each pair the slots asked that the plan's first `first`
+/// records did not grant, and the new wish added. Slots granted beyond what was asked are lost. The records
+/// behind them are judged too. The new wishes are cells, not a wish list, so that a cell of 1 stays 1.
+///
+/// Codes: 1; 2 where any of the three buffers of cells does not have N * N; 9, 10, 11; 15; then 3 for the
+/// demand, for the new wishes and for the new demand, and [`Answer::about`] says for which. Writes: all
+/// N * N cells. Done: every count is 0.
+#[must_use]
+pub fn carry_over(
+    n: u64,
+    asked: &[u32],
+    plan: &[u8],
+    first: u64,
+    wished: &[u32],
+    cells: &mut [u32],
+) -> Answer {
     unsafe {
         sys::cv_carry_over(
             n,
@@ -179,133 +352,3 @@ pub fn carry_over(n: u64, asked: &[u32], plan: &[u8], first: u64, wished: &[u32]
         )
     }
 }
-
-/// One setting of a plan and its hold.
-#[derive(Clone, Copy, Debug, PartialEq, Eq)]
-pub struct Record {
-    pub hold: u16,
-    pub outputs: [u8; 64],
-}
-
-/// What one step of reading gives.
-#[derive(Clone, Copy, Debug, PartialEq, Eq)]
-pub enum Step {
-    Record(Record),
-    End,
-    /// Code 11, with the record's number.
-    Malformed(u64),
-}
-
-/// A plan's bytes and the place reached. A step gives what the proved reader's step gives: after the
-/// end every further step is the end, and after code 11 every further step is code 11 again.
-#[derive(Clone, Debug)]
-pub struct Reader<'a> {
-    n: u64,
-    plan: &'a [u8],
-    at: u64,
-}
-
-impl<'a> Reader<'a> {
-    /// Opens a plan for N: what [`open`] answers, and a reader at the first record. Where opening is
-    /// refused there is a reader all the same, and its every step is the end.
-    pub fn open(n: u64, plan: &'a [u8]) -> (Answer, Reader<'a>) {
-        (open(n, plan), Reader { n, plan, at: 0 })
-    }
-
-    /// The next record, or the end, or code 11; the last two leave the reader where it is.
-    pub fn step(&mut self) -> Step {
-        let step = step_at(self.n, self.plan, self.at);
-        if let Step::Record(_) = step {
-            self.at += 1;
-        }
-        step
-    }
-}
-
-/// The records of a plan that was opened, for a `for` loop. Where one is not well formed its refusal
-/// is given once, and then no more: this is where it parts from [`Reader`], which stays there.
-#[derive(Clone, Debug)]
-pub struct Plan<'a> {
-    reader: Option<Reader<'a>>,
-}
-
-impl<'a> Plan<'a> {
-    /// Opens a plan for N.
-    pub fn open(n: u64, plan: &'a [u8]) -> Result<Plan<'a>, Refused> {
-        let (answer, reader) = Reader::open(n, plan);
-        answer.done()?;
-        Ok(Plan { reader: Some(reader) })
-    }
-}
-
-impl Iterator for Plan<'_> {
-    type Item = Result<Record, Refused>;
-
-    fn next(&mut self) -> Option<Result<Record, Refused>> {
-        match self.reader.as_mut()?.step() {
-            Step::End => None,
-            Step::Record(record) => Some(Ok(record)),
-            Step::Malformed(place) => {
-                self.reader = None;
-                Some(Err(Refused(Answer { code: 11, place, ..Answer::default() })))
-            }
-        }
-    }
-}
-
-impl FusedIterator for Plan<'_> {}
-
-impl Answer {
-    /// The answer if nothing was refused, or else the refusal.
-    pub fn done(self) -> Result<Answer, Refused> {
-        match self.code {
-            0 => Ok(self),
-            _ => Err(Refused(self)),
-        }
-    }
-}
-
-/// An answer with a code other than 0.
-#[derive(Clone, Copy, Debug, PartialEq, Eq)]
-pub struct Refused(pub Answer);
-
-impl fmt::Display for Refused {
-    fn fmt(&self, f: &mut fmt::Formatter<'_>) -> fmt::Result {
-        let Answer { code, place, side, about, .. } = self.0;
-        let line = match side {
-            1 => format!("the line of input {place}"),
-            2 => format!("the line of output {place}"),
-            _ => "a line".to_string(),
-        };
-        write!(f, "refused, code {code}: ")?;
-        match about {
-            1 => write!(f, "in tonight's plan, ")?,
-            2 => write!(f, "in the standby plan, ")?,
-            3 => write!(f, "in the plan, ")?,
-            4 => write!(f, "in the demand, ")?,
-            5 => write!(f, "in the new wishes, ")?,
-            6 => write!(f, "in the new demand, ")?,
-            _ => (),
-        }
-        match code {
-            1 => write!(f, "the number of ports is 0 or over the largest"),
-            2 => write!(f, "the cells lent are not {place}"),
-            3 => write!(f, "{line} sums over 65,535"),
-            4 => write!(f, "a line sums over 1,024"),
-            5 => write!(f, "the result takes {place} records, and the buffer has room for fewer"),
-            6 => write!(f, "wish {place} is not a finite number"),
-            7 => write!(f, "wish {place} is below zero"),
-            8 => write!(f, "wish {place} is above 65,535"),
-            9 => write!(f, "bytes are left over after {place} whole records"),
-            10 => write!(f, "the plan has over {place} records"),
-            11 => write!(f, "record {place} is not well formed"),
-            12 => write!(f, "wish {place} names a pair that was named before"),
-            13 => write!(f, "cell {place} is not covered"),
-            14 => write!(f, "tonight's plan is over, and there is no standby plan"),
-            15 => write!(f, "the plan has only {place} records"),
-            _ => write!(f, "place {place}"),
-        }
-    }
-}
-
-impl std::error::Error for Refused {}

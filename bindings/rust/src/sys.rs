@@ -1,28 +1,50 @@
-//! include/chordvenus.h, declared again.
+//! The calls of libchordvenus.a as C has them, with nothing in between. The crate's own functions are safe
+//! and lend slices; these take a pointer and the number of elements that it leads to.
+//!
+//! # Safety
+//!
+//! Each pointer leads to as many elements as the length after it says, and `cv_write`'s outputs are 64
+//! bytes; where a length is 0 the pointer may be null. A pointer to cells is aligned for `u32`. Memory that
+//! a call writes overlaps no other memory that it is lent, and while the call runs nobody else writes what
+//! is lent or reads what the call writes. So many bytes of stack are left as [`crate::stack`] says.
+#![allow(missing_docs)] // each call is documented where its safe function stands
 
-use std::mem::size_of;
+use core::mem::size_of;
 
-/// CV_VERSION: the version of the header that is declared here.
+/// The number of the structs and calls declared here. [`cv_version`] gives the archive's, and a program
+/// does not link with an archive that has another.
 pub const VERSION: u64 = 1;
 
 /// What every call answers; what does not apply is 0.
 #[repr(C)]
 #[derive(Clone, Copy, Debug, Default, PartialEq, Eq)]
 pub struct Answer {
+    /// 0, or the number of the [`crate::Code`] by which the call was refused.
     pub code: u64,
+    /// Where, as the code says.
     pub place: u64,
+    /// Code 3 of a demand: 1 where the line is an input's, 2 where it is an output's; else 0.
     pub side: u64,
+    /// Records of the plan or of the wish list, or records that suffice for a plan.
     pub records: u64,
+    /// T, the longest line of the demand.
     pub longest: u64,
+    /// Total hold of the plan.
     pub total: u64,
+    /// Length of the plan.
     pub length: u64,
+    /// Empty slots of the plan: what it grants beyond what is asked, over all pairs.
     pub empty: u64,
+    /// Records added to a plan.
     pub added: u64,
+    /// Records dropped from a plan.
     pub dropped: u64,
+    /// The number of the [`crate::About`] that the code is about, where the call takes several plans or
+    /// demands; else 0.
     pub about: u64,
 }
 
-/// One step of reading a plan, as the archive gives it: kind 0 a record, 1 the end, 2 code 11.
+/// One step of reading a plan: kind 0 a record, 1 the end, 2 a record that is not well formed.
 #[repr(C)]
 #[derive(Clone, Copy, Debug, PartialEq, Eq)]
 pub struct RawStep {
@@ -43,17 +65,29 @@ pub struct RawPart {
     pub size: u64,
 }
 
-// The header pins the same sizes: an answer is returned by value, so both sides must agree on them.
+// An answer is returned by value, so both sides must agree on these.
 const _: () = assert!(size_of::<Answer>() == 88);
 const _: () = assert!(size_of::<RawStep>() == 88);
 const _: () = assert!(size_of::<RawPart>() == 112);
 
+// The name ends in VERSION: whatever uses this crate refers to it, and so does not link with an archive of
+// another version.
+#[used]
+static BUILT_FOR: unsafe extern "C" fn() -> u64 = cv_interface_1;
+
 extern "C" {
+    fn cv_interface_1() -> u64;
+    #[must_use]
     pub fn cv_version() -> u64;
+    #[must_use]
     pub fn cv_wish(bits: u32) -> Answer;
+    #[must_use]
     pub fn cv_wishes(n: u64, list: *const u8, list_len: usize, cells: *mut u32, cells_len: usize) -> Answer;
+    #[must_use]
     pub fn cv_exact(n: u64, cells: *const u32, cells_len: usize, plan: *mut u8, plan_len: usize) -> Answer;
+    #[must_use]
     pub fn cv_doubled(n: u64, cells: *const u32, cells_len: usize, plan: *mut u8, plan_len: usize) -> Answer;
+    #[must_use]
     pub fn cv_doubled_every_rotation(
         n: u64,
         cells: *const u32,
@@ -61,13 +95,21 @@ extern "C" {
         plan: *mut u8,
         plan_len: usize,
     ) -> Answer;
+    #[must_use]
     pub fn cv_quick(n: u64, cells: *const u32, cells_len: usize, plan: *mut u8, plan_len: usize) -> Answer;
+    #[must_use]
     pub fn cv_exact_room(n: u64, longest: u64) -> Answer;
+    #[must_use]
     pub fn cv_doubled_room(n: u64, longest: u64) -> Answer;
+    #[must_use]
     pub fn cv_quick_room(n: u64, longest: u64) -> Answer;
+    #[must_use]
     pub fn cv2_exact_room(n: u64, longest: u64) -> Answer;
+    #[must_use]
     pub fn cv2_doubled_room(n: u64, longest: u64) -> Answer;
+    #[must_use]
     pub fn cv2_quick_room(n: u64, longest: u64) -> Answer;
+    #[must_use]
     pub fn cv_grating_doubled(
         n: u64,
         cells: *const u32,
@@ -75,6 +117,7 @@ extern "C" {
         plan: *mut u8,
         plan_len: usize,
     ) -> Answer;
+    #[must_use]
     pub fn cv_grating_report(
         n: u64,
         plan: *const u8,
@@ -82,12 +125,19 @@ extern "C" {
         report: *mut u8,
         report_len: usize,
     ) -> Answer;
+    #[must_use]
     pub fn cv_check(n: u64, cells: *const u32, cells_len: usize, plan: *const u8, plan_len: usize) -> Answer;
+    #[must_use]
     pub fn cv_length(n: u64, plan: *const u8, plan_len: usize, d: u16) -> Answer;
+    #[must_use]
     pub fn cv_join(n: u64, plan: *const u8, plan_len: usize, joined: *mut u8, joined_len: usize) -> Answer;
+    #[must_use]
     pub fn cv_write(hold: u16, n: u64, outputs: *const u8, plan: *mut u8, plan_len: usize) -> Answer;
+    #[must_use]
     pub fn cv_open(n: u64, plan: *const u8, plan_len: usize) -> Answer;
+    #[must_use]
     pub fn cv_step_at(n: u64, plan: *const u8, plan_len: usize, at: u64) -> RawStep;
+    #[must_use]
     pub fn cv_in_force(
         n: u64,
         tonight: *const u8,
@@ -96,6 +146,7 @@ extern "C" {
         standby_len: usize,
         slot: u64,
     ) -> RawPart;
+    #[must_use]
     pub fn cv_carry_over(
         n: u64,
         asked: *const u32,

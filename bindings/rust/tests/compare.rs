@@ -646,9 +646,9 @@ fn rooms() {
         ),
         (
             MOST_PORTS_SECOND,
-            proved::exact_room_second,
-            proved::doubled_room_second,
-            proved::quick_room_second,
+            proved::second::exact_room,
+            proved::second::doubled_room,
+            proved::second::quick_room,
         ),
     ] {
         compare_room(30, exact, reference::exact_room, most_ports, &[0, 1, 3]);

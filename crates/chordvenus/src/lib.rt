@@ -73,6 +73,15 @@ pub extern "C" fn cv_version() -> u64
     VERSION
 }
 
+// The same number, and in the name too: a program refers to the name that its header has, so that with an archive of another version it
+// does not link. Whoever changes VERSION changes this name.
+#[no_mangle]
+pub extern "C" fn cv_interface_1() -> u64
+    ensures { λ r. ⌜ r ≡ version ⌝ }
+{
+    VERSION
+}
+
 // One wish: its code, and its slots as total.
 #[no_mangle]
 pub extern "C" fn cv_wish(bits: u32) -> CvAnswer

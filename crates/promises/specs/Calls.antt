@@ -140,7 +140,7 @@ Listing input text r after = (r ≡ length (listingOf input)) × (after ≡ laid
 
 -- ---- the edge: the same, an outcome told by its numbers
 
--- cv_version()
+-- cv_version(), and cv_interface_1() too
 abbrev pub CvVersion : ℕ → Type 0
 CvVersion r = r ≡ version
 

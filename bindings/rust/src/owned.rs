@@ -1,0 +1,113 @@
+//! Calls that make the memory they write, a `Vec` of the size that always suffices and then cut to what was
+//! written, in the place of calls that are lent it. What each call does is said at the function of the same
+//! name at the top of the crate.
+//!
+//! ```
+//! let plan = chordvenus::owned::exact(2, &[2, 1, 1, 2])?;
+//! assert_eq!((plan.answer.records, plan.answer.total), (2, 3));
+//! for record in chordvenus::Plan::open(2, &plan.bytes)? {
+//!     println!("{:?}", record?.pairs().collect::<Vec<_>>());
+//! }
+//! # Ok::<(), chordvenus::Refused>(())
+//! ```
+
+use alloc::vec;
+use alloc::vec::Vec;
+
+use crate::{Answer, Refused, MOST_LINE, MOST_QUICK, RECORD_SIZE};
+
+/// A plan that a call made, and its counts.
+#[derive(Clone, Debug, PartialEq, Eq)]
+pub struct Planned {
+    /// The plan's records and nothing else.
+    pub bytes: Vec<u8>,
+    /// What the call answered; its code is 0.
+    pub answer: Answer,
+}
+
+/// The cells of a wish list, as [`crate::wishes`] writes them.
+pub fn wishes(n: u64, list: &[u8]) -> Result<Vec<u32>, Refused> {
+    let mut cells = vec![0; cells_of(n)];
+    crate::wishes(n, list, &mut cells).done()?;
+    Ok(cells)
+}
+
+/// The exact plan, as [`crate::exact`] writes it.
+pub fn exact(n: u64, cells: &[u32]) -> Result<Planned, Refused> {
+    planned(crate::exact_room(n, longest(n, cells).min(MOST_LINE)), |plan| crate::exact(n, cells, plan))
+}
+
+/// The doubled plan, as [`crate::doubled`] writes it.
+pub fn doubled(n: u64, cells: &[u32]) -> Result<Planned, Refused> {
+    planned(crate::doubled_room(n, 0), |plan| crate::doubled(n, cells, plan))
+}
+
+/// The doubled plan with every rotation, as [`crate::doubled_every_rotation`] writes it.
+pub fn doubled_every_rotation(n: u64, cells: &[u32]) -> Result<Planned, Refused> {
+    planned(crate::doubled_room(n, 0), |plan| crate::doubled_every_rotation(n, cells, plan))
+}
+
+/// The quick cover, as [`crate::quick`] writes it.
+pub fn quick(n: u64, cells: &[u32]) -> Result<Planned, Refused> {
+    planned(crate::quick_room(n, longest(n, cells).min(MOST_QUICK)), |plan| crate::quick(n, cells, plan))
+}
+
+/// The grating fabric's doubled plan, as [`crate::grating_doubled`] writes it.
+pub fn grating_doubled(n: u64, cells: &[u32]) -> Result<Planned, Refused> {
+    planned(crate::doubled_room(n, 0), |plan| crate::grating_doubled(n, cells, plan))
+}
+
+/// For each record the most inputs that share a wavelength, as [`crate::grating_report`] writes them.
+pub fn grating_report(n: u64, plan: &[u8]) -> Result<Vec<u8>, Refused> {
+    let mut report = vec![0; plan.len() / RECORD_SIZE];
+    crate::grating_report(n, plan, &mut report).done()?;
+    Ok(report)
+}
+
+/// The plan with equal settings joined, as [`crate::join`] writes it.
+pub fn join(n: u64, plan: &[u8]) -> Result<Planned, Refused> {
+    let room = Answer { records: (plan.len() / RECORD_SIZE) as u64, ..Answer::default() };
+    planned(room, |joined| crate::join(n, plan, joined))
+}
+
+/// What a stopped batch leaves to ask, as [`crate::carry_over`] writes it.
+pub fn carry_over(
+    n: u64,
+    asked: &[u32],
+    plan: &[u8],
+    first: u64,
+    wished: &[u32],
+) -> Result<Vec<u32>, Refused> {
+    let mut cells = vec![0; cells_of(n)];
+    crate::carry_over(n, asked, plan, first, wished, &mut cells).done()?;
+    Ok(cells)
+}
+
+/// Runs a planner on a `Vec` of that room. Where the room is refused the planner is asked all the same, with
+/// no memory: it has the refusal that comes first.
+fn planned(room: Answer, plan: impl FnOnce(&mut [u8]) -> Answer) -> Result<Planned, Refused> {
+    let mut bytes = vec![0; room.records as usize * RECORD_SIZE];
+    let answer = plan(&mut bytes).done()?;
+    bytes.truncate(answer.records as usize * RECORD_SIZE);
+    Ok(Planned { bytes, answer })
+}
+
+/// N * N where the archive takes such an N, else none: the call refuses then.
+fn cells_of(n: u64) -> usize {
+    match crate::exact_room(n, 0).code {
+        0 => n as usize * n as usize,
+        _ => 0,
+    }
+}
+
+/// T of a demand, where the cells are N * N; else 0, and the planner refuses.
+fn longest(n: u64, cells: &[u32]) -> u64 {
+    if cells.is_empty() || cells.len() != cells_of(n) {
+        return 0;
+    }
+    let ports = n as usize;
+    let slots = |sum, &cell: &u32| sum + u64::from(cell);
+    let inputs = cells.chunks(ports).map(|row| row.iter().fold(0, slots));
+    let outputs = (0..ports).map(|output| cells[output..].iter().step_by(ports).fold(0, slots));
+    inputs.chain(outputs).max().unwrap_or(0)
+}

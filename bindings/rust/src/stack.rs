@@ -1,0 +1,72 @@
+//! Bytes of stack that each call may use at any N, with all that it calls; a signal handler on the same
+//! stack comes on top. They are held against the archive's instructions, and each call is run on a thread
+//! that has no more.
+
+/// Of [`crate::version`].
+pub const VERSION: usize = 256;
+
+/// Of [`crate::wish`].
+pub const WISH: usize = 256;
+
+/// Of [`crate::wishes`].
+pub const WISHES: usize = 1_024;
+
+/// Of [`crate::exact`].
+pub const EXACT: usize = 40_960;
+
+/// Of [`crate::doubled`].
+pub const DOUBLED: usize = 40_960;
+
+/// Of [`crate::doubled_every_rotation`].
+pub const DOUBLED_EVERY_ROTATION: usize = 40_960;
+
+/// Of [`crate::quick`].
+pub const QUICK: usize = 20_480;
+
+/// Of [`crate::exact_room`].
+pub const EXACT_ROOM: usize = 256;
+
+/// Of [`crate::doubled_room`].
+pub const DOUBLED_ROOM: usize = 256;
+
+/// Of [`crate::quick_room`].
+pub const QUICK_ROOM: usize = 256;
+
+/// Of [`crate::second::exact_room`].
+pub const SECOND_EXACT_ROOM: usize = 256;
+
+/// Of [`crate::second::doubled_room`].
+pub const SECOND_DOUBLED_ROOM: usize = 256;
+
+/// Of [`crate::second::quick_room`].
+pub const SECOND_QUICK_ROOM: usize = 256;
+
+/// Of [`crate::grating_doubled`].
+pub const GRATING_DOUBLED: usize = 61_440;
+
+/// Of [`crate::grating_report`].
+pub const GRATING_REPORT: usize = 1_024;
+
+/// Of [`crate::check`].
+pub const CHECK: usize = 20_480;
+
+/// Of [`crate::length`].
+pub const LENGTH: usize = 256;
+
+/// Of [`crate::join`].
+pub const JOIN: usize = 167_936;
+
+/// Of [`crate::write`].
+pub const WRITE: usize = 256;
+
+/// Of [`crate::open`].
+pub const OPEN: usize = 256;
+
+/// Of [`crate::step_at`].
+pub const STEP_AT: usize = 256;
+
+/// Of [`crate::in_force`].
+pub const IN_FORCE: usize = 1_024;
+
+/// Of [`crate::carry_over`].
+pub const CARRY_OVER: usize = 20_480;
