@@ -1,21 +1,21 @@
 /*
- * Runs each call on a stack that has just the bytes that the header names, at 64 ports, and tells how
- * many of them it took. Below the stack lies a page that nobody may touch, so a call that takes more
- * ends the program. The inputs are those on which the search for a setting goes deepest, as far as
+ * Makes each call on a thread that has just the bytes of stack left that the header names, at the most
+ * ports, and tells how many of them it took. Below the stack lie pages that nobody may touch, so a call
+ * that takes more ends the program. The inputs are those on which the search for a setting goes deepest, as far as
  * is known; bindings/c/stack.py holds the figures against every path through the archive.
  */
-#define _XOPEN_SOURCE 700
 #define _DEFAULT_SOURCE
 #include <chordvenus.h>
 
+#include <alloca.h>
+#include <pthread.h>
 #include <stdio.h>
 #include <stdlib.h>
 #include <string.h>
 #include <sys/mman.h>
-#include <ucontext.h>
 
 enum { N = CV_MOST_PORTS, RECORDS = CV_MOST_RECORDS, ROOM = RECORDS * CV_RECORD_SIZE };
-enum { FENCE = 64 * 1024, LARGEST = 256 * 1024, PAINT = 0x5a };
+enum { FENCE = 64 * 1024, LARGEST = 512 * 1024, PAINT = 0x5a };
 
 static uint32_t cells[N * N], renewed[N * N];
 static uint8_t plan[ROOM], made[ROOM], list[N * N * CV_WISH_SIZE];
@@ -24,8 +24,8 @@ static cv_answer answer;
 static cv_step step;
 static cv_part part;
 static uint8_t *stack;
-static size_t way_in; /* what starting on the stack and the function around the call take */
-static ucontext_t here, there;
+static size_t way_in; /* what the function around the call takes */
+static size_t left;   /* bytes of stack that the thread is to have left */
 
 /* A call that takes nothing but its return address. */
 static cv_answer nothing(void) { return (cv_answer){.code = CV_DONE}; }
@@ -56,21 +56,30 @@ static void step_at(void) { step = cv_step_at(N, plan, ROOM, RECORDS - 1); }
 static void in_force(void) { part = cv_in_force(N, plan, ROOM, plan, ROOM, UINT64_MAX); }
 static void carry_over(void) { answer = cv_carry_over(N, cells, N * N, plan, ROOM, RECORDS, cells, N * N, renewed, N * N); }
 
-/* Runs a function on a stack of so many bytes; answers how many it changed, counted from the top. */
+/* Takes the thread's stack but for the bytes that are to be left, and calls the function there. */
+static void *at_the_end(void *call)
+{
+    volatile uint8_t *here = alloca(16);
+    volatile uint8_t *gone = alloca((size_t)(here - stack) - left);
+    *here = *gone = 0;
+    (*(void (**)(void))call)();
+    return NULL;
+}
+
+/* Runs a function on a thread with so many bytes left; answers how many it changed, counted from the top. */
 static size_t taken(void (*call)(void), size_t bytes)
 {
+    pthread_t thread;
+    pthread_attr_t attributes;
     memset(stack, PAINT, LARGEST);
-    getcontext(&there);
-    there.uc_stack.ss_sp = stack;
-    there.uc_stack.ss_size = bytes;
-    there.uc_link = &here;
-    makecontext(&there, call, 0);
-    if (swapcontext(&here, &there) != 0)
+    left = bytes;
+    if (pthread_attr_init(&attributes) != 0 || pthread_attr_setstack(&attributes, stack, LARGEST) != 0
+        || pthread_create(&thread, &attributes, at_the_end, &call) != 0 || pthread_join(thread, NULL) != 0)
         exit(2);
     size_t free = 0;
     while (stack[free] == PAINT)
         free++;
-    return bytes - free;
+    return bytes > free ? bytes - free : 0;
 }
 
 /*
@@ -149,7 +158,7 @@ int main(void)
         return 2;
     stack = fence + FENCE;
     fill_lists();
-    way_in = taken(way, LARGEST) - sizeof(void *);
+    way_in = taken(way, LARGEST / 2) - sizeof(void *);
     for (size_t k = 0; k < sizeof calls / sizeof *calls; k++) {
         size_t most = 0;
         for (int demand = 0; demand < 3; demand++) {
