@@ -234,7 +234,7 @@ pub extern "C" fn cv_join(n: usize, plan: &[u8], joined: &mut [u8]) -> CvAnswer
 // One record written at the start of a lent buffer.
 #[no_mangle]
 pub extern "C" fn cv_write(hold: u16, n: usize, outputs: &[u8; 64], plan: &mut [u8]) -> CvAnswer
-    ensures { λ r. ⌜ Crosses (written hold n (now (outputs .entry)) (now (plan .entry))) r (now (plan .exit)) ⌝ }
+    ensures { λ r. ⌜ Crosses (written firstEdition hold n (now (outputs .entry)) (now (plan .entry))) r (now (plan .exit)) ⌝ }
 {
     flatten(records::write_record(hold, n, outputs, plan))
 }
@@ -250,7 +250,7 @@ pub extern "C" fn cv_open(n: usize, plan: &[u8]) -> CvAnswer
 // The step at record `at` of a plan opened for n.
 #[no_mangle]
 pub extern "C" fn cv_step_at(n: usize, plan: &[u8], at: usize) -> CvStep
-    ensures { λ r. ⌜ r ≡ flatStep (stepAt n (now (plan .entry)) at) ⌝ }
+    ensures { λ r. ⌜ r ≡ flatStep (stepAt firstEdition n (now (plan .entry)) at) ⌝ }
 {
     let stepped = plans::step_at(n, plan, at);
     let outputs = stepped.outputs;

@@ -3,3 +3,4 @@ pub mod Plans
 pub mod Trips
 pub mod Reading
 pub mod Pass
+pub mod Stepping

@@ -56,21 +56,21 @@ module _ (E : Edition) (N : ℕ) (plan : List ℕ) (m : ℕ) where
       pub read-size : length b ≡ E .width + 4
       read-size = ap length is ∙ record-size (E .width) plan k (record-fits (E .width) plan k (whole (E .width) plan) read-inside (whole-fits (E .width) plan))
 
-      same : wellFormed (length b - 4) (E .byte) N b ≡ wellFormed (E .width) (E .byte) N (recordAt (E .width) plan k)
-      same = ap (λ (w : ℕ). wellFormed w (E .byte) N b) (let e : length b - 4 ≡ E .width = omega (arith, read-size) in e) ∙ ap (wellFormed (E .width) (E .byte) N) is
+      pub read-fine : wellFormed (length b - 4) (E .byte) N b ≡ wellFormed (E .width) (E .byte) N (recordAt (E .width) plan k)
+      read-fine = ap (λ (w : ℕ). wellFormed w (E .byte) N b) (let e : length b - 4 ≡ E .width = omega (arith, read-size) in e) ∙ ap (wellFormed (E .width) (E .byte) N) is
 
       module _ (th : Through E N plan m k t) (fine : Bool) (found : fine ≡ wellFormed (length b - 4) (E .byte) N b) where
         pub pass-stop : not fine ≡ true → Passed E N plan m k t
         pass-stop n = record {
           inside = omega arith;
-          records = sym (th .scan ∙ scan-stop (E .width) (E .byte) N plan m k l (sym same ∙ sym found ∙ not-true fine n));
+          records = sym (th .scan ∙ scan-stop (E .width) (E .byte) N plan m k l (sym read-fine ∙ sym found ∙ not-true fine n));
           holds = th .holds;
         }
 
         pub pass-more : not fine ≡ false → (h : ℕ) → h ≡ hold b → h ≤ 65535 → Through E N plan m (k + 1) (t + h)
         pass-more n h e s = record {
           inside = omega arith;
-          scan = th .scan ∙ scan-more (E .width) (E .byte) N plan m k l (sym same ∙ sym found ∙ not-false fine n);
+          scan = th .scan ∙ scan-more (E .width) (E .byte) N plan m k l (sym read-fine ∙ sym found ∙ not-false fine n);
           holds = omega (arith, th .holds, ap hold is, ap total (plan-next (E .width) plan k), total-next (planFrom (E .width) plan 0 k) (decoded (recordAt (E .width) plan k)));
           small = omega (arith, th .small);
         }

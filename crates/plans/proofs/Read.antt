@@ -22,10 +22,11 @@ use Rattle.switch.proofs.Check.{no-ports, many-ports, some-ports}
 use Rattle.switch.specs.declared.Edition.{Edition}
 use Rattle.plans.specs.declared.Step.the-variants as step
 use Rattle.plans.specs.declared.Stepped.{Stepped}
+use Rattle.plans.specs.declared.StepTaken.{StepTaken}
 use Rattle.records.specs.Record.{wellFormed}
 use Rattle.records.specs.Bytes.{recordAt, whole, planFrom}
-use Rattle.switch.specs.Editions.{firstEdition, Bounded}
-use Rattle.plans.specs.Read.{opening, nothing, given, stepIn, stepAt, malformed, checkingIn, checking}
+use Rattle.switch.specs.Editions.{Bounded}
+use Rattle.plans.specs.Read.{opening, nothing, given, stepIn, stepAt, Takes, malformed, checkingIn, checking}
 
 -- what is known of a plan that opening does not refuse
 pub record Opened (E : Edition) (N : ℕ) (plan : List ℕ) (c : Counts) : Type 0 where
@@ -76,59 +77,70 @@ module _ (E : Edition) (N : ℕ) (plan : List ℕ) where
   pub opened-records : (c : Counts) → Done c ≡ opening E N plan → c .records ≡ whole (E .width) plan
   opened-records c d = ap (λ (x : Counts). x .records) (opened c d .counts)
 
-module _ (m N : ℕ) (plan : List ℕ) (at : ℕ) where
-  pub step-end : m ≤ at → nothing step.End at ≡ stepIn m N plan at
+module _ (E : Edition) (m N : ℕ) (plan : List ℕ) (at : ℕ) where
+  -- is the record at the place well formed?
+  abbrev here : Bool
+  here = wellFormed (E .width) (E .byte) N (recordAt (E .width) plan at)
+
+  pub step-end : m ≤ at → nothing E step.End at ≡ stepIn E m N plan at
   unfolding stepIn
   step-end l = rw (le-ltb _ _ l)
 
   module _ (l : at < m) where
-    pub step-malformed : wellFormed 64 0 N (recordAt 64 plan at) ≡ false → nothing (step.Malformed at) at ≡ stepIn m N plan at
+    pub step-malformed : here ≡ false → nothing E (step.Malformed at) at ≡ stepIn E m N plan at
     unfolding stepIn
     step-malformed w = rw (lt-ltb _ _ l, w)
 
-    pub step-record : wellFormed 64 0 N (recordAt 64 plan at) ≡ true → given (recordAt 64 plan at) (at + 1) ≡ stepIn m N plan at
+    pub step-record : here ≡ true → given (recordAt (E .width) plan at) (at + 1) ≡ stepIn E m N plan at
     unfolding stepIn
     step-record w = rw (lt-ltb _ _ l, w)
 
   -- a step gives the record, or leaves the place
-  stays-in : (stepIn m N plan at .step ≡ step.Record → ⊥) → stepIn m N plan at .next ≡ at
+  stays-in : (stepIn E m N plan at .step ≡ step.Record → ⊥) → stepIn E m N plan at .next ≡ at
   stays-in none =
       dite (decLt at m)
-      (λ l. by-record l (wellFormed 64 0 N (recordAt 64 plan at)) refl)
+      (λ l. by-record l here refl)
       (λ g. sym (ap (λ (s : Stepped). s .next) (step-end (omega (arith, g)))))
     where
-      by-record : at < m → (t : Bool) → wellFormed 64 0 N (recordAt 64 plan at) ≡ t → stepIn m N plan at .next ≡ at
+      by-record : at < m → (t : Bool) → here ≡ t → stepIn E m N plan at .next ≡ at
       by-record l true w = absurd (none (sym (ap (λ (s : Stepped). s .step) (step-record l w))))
       by-record l false w = sym (ap (λ (s : Stepped). s .next) (step-malformed l w))
 
-module _ (N : ℕ) (plan : List ℕ) (at : ℕ) where
+module _ (E : Edition) (N : ℕ) (plan : List ℕ) (at : ℕ) where
   abbrev stepped : Outcome → Stepped
-  stepped o = byOutcome o (λ r. nothing step.End at) (λ c. stepIn (c .records) N plan at)
+  stepped o = byOutcome o (λ r. nothing E step.End at) (λ c. stepIn E (c .records) N plan at)
 
-  pub step-refused : {r : Refusal} → Refused r ≡ opening firstEdition N plan → nothing step.End at ≡ stepAt N plan at
+  pub step-refused : {r : Refusal} → Refused r ≡ opening E N plan → nothing E step.End at ≡ stepAt E N plan at
   unfolding stepAt
   step-refused e = ap stepped e
 
-  pub step-opened : {c : Counts} → Done c ≡ opening firstEdition N plan → stepIn (c .records) N plan at ≡ stepAt N plan at
+  pub step-opened : {c : Counts} → Done c ≡ opening E N plan → stepIn E (c .records) N plan at ≡ stepAt E N plan at
   unfolding stepAt
   step-opened e = ap stepped e
 
   -- a step that gives no record leaves the place
-  pub stays : (stepAt N plan at .step ≡ step.Record → ⊥) → stepAt N plan at .next ≡ at
+  pub stays : (stepAt E N plan at .step ≡ step.Record → ⊥) → stepAt E N plan at .next ≡ at
   unfolding stepAt
-  stays none = by (opening firstEdition N plan) none
+  stays none = by (opening E N plan) none
     where
       by : (o : Outcome) → (stepped o .step ≡ step.Record → ⊥) → stepped o .next ≡ at
-      by (Done c) f = stays-in (c .records) N plan at f
+      by (Done c) f = stays-in E (c .records) N plan at f
       by (Refused r) f = refl
 
   -- at the end, and at code 11, a reader's later steps are the same (§5.6)
-  pub sticky : (stepAt N plan at .step ≡ step.Record → ⊥) → stepAt N plan (stepAt N plan at .next) ≡ stepAt N plan at
-  sticky none = ap (stepAt N plan) (stays none)
+  pub sticky : (stepAt E N plan at .step ≡ step.Record → ⊥) → stepAt E N plan (stepAt E N plan at .next) ≡ stepAt E N plan at
+  sticky none = ap (stepAt E N plan) (stays none)
 
 -- a refused reader gives the end at each of its steps (§5.7)
-pub refused-ends : (N : ℕ) (plan : List ℕ) (r : Refusal) → Refused r ≡ opening firstEdition N plan → (at : ℕ) → stepAt N plan at ≡ nothing step.End at
-refused-ends N plan r e at = sym (step-refused N plan at e)
+pub refused-ends : (E : Edition) (N : ℕ) (plan : List ℕ) (r : Refusal) → Refused r ≡ opening E N plan → (at : ℕ) → stepAt E N plan at ≡ nothing E step.End at
+refused-ends E N plan r e at = sym (step-refused E N plan at e)
+
+-- a step whose parts are told is one step
+pub takes : {x : Stepped} {s : StepTaken} {after : List ℕ} → Takes x s after → record { step = s .step; hold = s .hold; outputs = after; next = s .next } ≡ x
+takes {x} {s} {after} t =
+    let same : _≡_ {A = Stepped} (record { step = s .step; hold = s .hold; outputs = after; next = s .next }) (record { step = x .step; hold = x .hold; outputs = x .outputs; next = x .next }) =
+    cc (t .step, t .hold, t .outputs, t .next) in
+    same
 
 -- the scan for the first record that is not well formed
 module _ (W e N : ℕ) (plan : List ℕ) where

@@ -1,4 +1,5 @@
 -- Opening a plan, reading it record by record (§5.4 to §5.7), and checking it whole. Definitions only.
+use mathlib.Core.Path.{_≡_}
 use mathlib.Core.Bool.{cond}
 use mathlib.Core.List.{List}
 use Prim.Native.Nat.{ℕ, zero, suc, _+_, _%_, _≤_}
@@ -10,12 +11,13 @@ use Rattle.switch.specs.declared.Refusal.the-variants.{Ports, Torn, Records, Ma
 use Rattle.switch.specs.Answer.{planCounts}
 use Rattle.switch.specs.Check.{portsFine}
 use Rattle.switch.specs.Result.{unless, byOutcome}
-use Rattle.switch.specs.Editions.{firstEdition}
 use Rattle.switch.specs.Plan.{total}
 use Rattle.switch.specs.declared.Edition.{Edition}
 use Rattle.plans.specs.declared.Step.{Step}
 use Rattle.plans.specs.declared.Step.the-variants as step
 use Rattle.plans.specs.declared.Stepped.{Stepped}
+use Rattle.plans.specs.declared.SteppedSecond.{SteppedSecond}
+use Rattle.plans.specs.declared.StepTaken.{StepTaken}
 use Rattle.records.specs.Record.{hold, outputs, wellFormed}
 use Rattle.records.specs.Bytes.{recordAt, whole, planFrom}
 
@@ -38,23 +40,36 @@ stepPlace step.End = 0
 stepPlace (step.Malformed k) = k
 
 -- what the end and code 11 come with: no hold, every output idle, and the place as it was (§5.6)
-abbrev pub nothing : Step → ℕ → Stepped
-nothing s at = record { step = s; hold = 0; outputs = replicate 64 255; next = at }
+abbrev pub nothing : Edition → Step → ℕ → Stepped
+nothing E s at = record { step = s; hold = 0; outputs = replicate (E .width) 255; next = at }
 
--- the next record: hold and 64 outputs
+-- the next record: its hold and all its outputs
 abbrev pub given : List ℕ → ℕ → Stepped
 given b next = record { step = step.Record; hold = hold b; outputs = outputs b; next = next }
 
 -- of m records: the next, or code 11 with the record's number, or the end (§5.5)
-unfoldable pub stepIn : ℕ → ℕ → List ℕ → ℕ → Stepped
-stepIn m N plan at =
+unfoldable pub stepIn : Edition → (m N : ℕ) (plan : List ℕ) (at : ℕ) → Stepped
+stepIn E m N plan at =
     cond (ltb at m)
-    (cond (wellFormed 64 0 N (recordAt 64 plan at)) (given (recordAt 64 plan at) (at + 1)) (nothing (step.Malformed at) at))
-    (nothing step.End at)
+    (cond (wellFormed (E .width) (E .byte) N (recordAt (E .width) plan at))
+    (given (recordAt (E .width) plan at) (at + 1))
+    (nothing E (step.Malformed at) at))
+    (nothing E step.End at)
 
 -- the step at record `at` of a plan opened for N; where opening is refused all its steps are the end
-unfoldable pub stepAt : ℕ → List ℕ → ℕ → Stepped
-stepAt N plan at = byOutcome (opening firstEdition N plan) (λ r. nothing step.End at) (λ c. stepIn (c .records) N plan at)
+unfoldable pub stepAt : Edition → (N : ℕ) (plan : List ℕ) (at : ℕ) → Stepped
+stepAt E N plan at = byOutcome (opening E N plan) (λ r. nothing E step.End at) (λ c. stepIn E (c .records) N plan at)
+
+-- a step of the second edition; only the number of its outputs is another
+abbrev pub ofSecond : SteppedSecond → Stepped
+ofSecond s = record { step = s .step; hold = s .hold; outputs = s .outputs; next = s .next }
+
+-- a step, its outputs in lent memory, is what is given
+pub record Takes (given : Stepped) (taken : StepTaken) (after : List ℕ) : Type 0 where
+  pub step : taken .step ≡ given .step
+  pub hold : taken .hold ≡ given .hold
+  pub outputs : after ≡ given .outputs
+  pub next : taken .next ≡ given .next
 
 -- the first of m records from k on that is not well formed; k + m where all are
 unfoldable pub malformed : ℕ → ℕ → ℕ → List ℕ → ℕ → ℕ → ℕ

@@ -1,22 +1,21 @@
 // A plan as records one after the other: opening it, reading it step by step, and checking it whole (§5).
 // Every call promises its whole answer for any N and any bytes. The functions below the public calls take an edition, which says what
 // its records and their number are; the `Reader` over a plan stands in a crate of its own, and what a plan grants is left to others.
-use records::EDITION;
 use records::HEAD;
 use records::IDLE;
-use records::OUTPUTS;
-use records::RECORD;
 use switch::Counts;
 use switch::Edition;
 use switch::Outcome;
 use switch::Refusal;
 use switch::first_edition;
+use switch::second_edition;
 ghost use mathlib.Core.Path.{_≡_};
-ghost use Prim.Native.Nat.{_<_, _≤_};
-ghost use lib.ListN.{length};
-ghost use Rattle.switch.specs.Editions.{firstEdition, Bounded};
+ghost use Prim.Native.Nat.{_+_, _<_, _≤_};
+ghost use lib.ListN.{length, replicate};
+ghost use Rattle.switch.specs.Editions.{firstEdition, secondEdition, Bounded};
+ghost use Rattle.records.specs.Record.{outputs};
 ghost use Rattle.records.specs.Bytes.{recordAt, whole};
-ghost use Rattle.plans.specs.Read.{opening, nothing, given, stepAt, checking};
+ghost use Rattle.plans.specs.Read.{opening, ofSecond, stepAt, Takes, checking};
 ghost use Rattle.plans.specs.Reading.{Readable, Passed};
 
 // What a step over a plan finds.
@@ -37,6 +36,21 @@ pub struct Stepped {
     pub next: usize,
 }
 
+// The same in the second edition.
+pub struct SteppedSecond {
+    pub step: Step,
+    pub hold: u16,
+    pub outputs: [u8; 128],
+    pub next: usize,
+}
+
+// A step but for the outputs.
+pub struct StepTaken {
+    pub step: Step,
+    pub hold: u16,
+    pub next: usize,
+}
+
 // Opens a plan for n: refusals 1, 9 and 10, else its records.
 pub fn open_plan(n: usize, plan: &[u8]) -> Outcome
     ensures { λ r. ⌜ r ≡ opening firstEdition n (now (plan .entry)) ⌝ }
@@ -44,24 +58,65 @@ pub fn open_plan(n: usize, plan: &[u8]) -> Outcome
     open(n, plan, first_edition())
 }
 
+// Opens a plan of the second edition.
+pub fn open_second(n: usize, plan: &[u8]) -> Outcome
+    ensures { λ r. ⌜ r ≡ opening secondEdition n (now (plan .entry)) ⌝ }
+{
+    open(n, plan, second_edition())
+}
+
 // The step at record `at` of a plan opened for n; a reader starts at record 0.
 pub fn step_at(n: usize, plan: &[u8], at: usize) -> Stepped
-    ensures { λ r. ⌜ r ≡ stepAt n (now (plan .entry)) at ⌝ }
+    ensures { λ r. ⌜ r ≡ stepAt firstEdition n (now (plan .entry)) at ⌝ }
 {
-    let opened = open_plan(n, plan);
+    let mut outputs = [IDLE; switch::PORTS];
+    let taken = step_for(n, plan, at, first_edition(), &mut outputs);
+    let step = taken.step;
+    Stepped {
+        step,
+        hold: taken.hold,
+        outputs,
+        next: taken.next,
+    }
+}
+
+// The same for a plan of the second edition.
+pub fn step_second(n: usize, plan: &[u8], at: usize) -> SteppedSecond
+    ensures { λ r. ⌜ ofSecond r ≡ stepAt secondEdition n (now (plan .entry)) at ⌝ }
+{
+    let mut outputs = [IDLE; switch::WIDE_PORTS];
+    let taken = step_for(n, plan, at, second_edition(), &mut outputs);
+    let step = taken.step;
+    SteppedSecond {
+        step,
+        hold: taken.hold,
+        outputs,
+        next: taken.next,
+    }
+}
+
+// The step at record `at` of a plan of an edition. Room for the outputs is lent, all idle.
+pub fn step_for(n: usize, plan: &[u8], at: usize, e: Edition, outputs: &mut [u8]) -> StepTaken
+    requires { ⌜ Bounded e × (now outputs ≡ replicate (e .width) 255) ⌝ }
+    ensures { λ r. ⌜ Takes (stepAt e n (now (plan .entry)) at) r (now (outputs .exit)) ⌝ }
+{
+    let opened = open(n, plan, e);
     let Outcome::Done(counts) = opened else {
         return no_record(Step::End, at);
     };
     if counts.records <= at {
         return no_record(Step::End, at);
     }
-    let from = at * RECORD;
-    let to = from + RECORD;
-    let rec = &plan[from..to];
-    if !records::record_fine(rec, n, EDITION) {
+    let rec = record_at(plan, e.width, at);
+    if !records::record_fine(rec, n, e.byte) {
         return no_record(Step::Malformed(at), at);
     }
-    a_record(rec, at + 1)
+    copy_outputs(rec, outputs);
+    StepTaken {
+        step: Step::Record,
+        hold: records::hold_of(rec),
+        next: at + 1,
+    }
 }
 
 // Opens a plan of an edition for n.
@@ -93,32 +148,23 @@ pub fn open(n: usize, plan: &[u8], e: Edition) -> Outcome
 }
 
 // A step that gives no record, and leaves the place.
-fn no_record(step: Step, at: usize) -> Stepped
-    ensures { λ r. ⌜ r ≡ nothing step at ⌝ }
+fn no_record(step: Step, at: usize) -> StepTaken
+    ensures { λ r. ⌜ r ≡ record { step = step; hold = 0; next = at } ⌝ }
 {
-    Stepped {
+    StepTaken {
         step,
         hold: 0,
-        outputs: [IDLE; OUTPUTS],
         next: at,
     }
 }
 
-// A step that gives a record.
-fn a_record(rec: &[u8], next: usize) -> Stepped
-    requires { ⌜ length (now rec) ≡ 68 ⌝ }
-    ensures { λ r. ⌜ r ≡ given (now (rec .entry)) next ⌝ }
+// Copies the outputs of a record.
+fn copy_outputs(rec: &[u8], to: &mut [u8])
+    requires { ⌜ length (now rec) ≡ length (now to) + 4 ⌝ }
+    ensures { λ _. ⌜ now (to .exit) ≡ outputs (now (rec .entry)) ⌝ }
 {
-    let hold = records::hold_of(rec);
-    let mut outputs = [IDLE; OUTPUTS];
-    for i in 0..OUTPUTS {
-        outputs[i] = rec[HEAD + i];
-    }
-    Stepped {
-        step: Step::Record,
-        hold,
-        outputs,
-        next,
+    for i in 0..to.len() {
+        to[i] = rec[HEAD + i];
     }
 }
 

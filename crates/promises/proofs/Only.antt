@@ -12,6 +12,7 @@ use Rattle.switch.specs.Result.{Result, Gives}
 use Rattle.switch.proofs.Answer.{determined}
 use Rattle.switch.proofs.Result.{gives-one}
 use Rattle.plans.specs.declared.Stepped.{Stepped}
+use Rattle.plans.specs.Read.{ofSecond}
 use Rattle.reader.specs.declared.Reader.{Reader}
 use Rattle.reader.specs.Reader.{movedTo}
 use Rattle.room.specs.declared.Planner.{Planner}
@@ -60,14 +61,17 @@ quick-one-result N d buf = gives-one-result _
 pub grating-doubled-one-result : (N : ℕ) (d buf : List ℕ) → OneResult (call.GratingDoubled N d buf)
 grating-doubled-one-result N d buf = gives-one-result _
 
-pub write-one-result : (hold N : ℕ) (outputs buf : List ℕ) → OneResult (call.WriteRecord hold N outputs buf)
-write-one-result hold N outputs buf = gives-one-result _
+pub write-one-result : (E : Edition) (hold N : ℕ) (outputs buf : List ℕ) → OneResult (call.WriteRecord E hold N outputs buf)
+write-one-result E hold N outputs buf = gives-one-result _
 
-pub open-one-answer : (N : ℕ) (plan : List ℕ) → OneAnswer (call.OpenPlan N plan)
-open-one-answer N plan = one _
+pub open-one-answer : (E : Edition) (N : ℕ) (plan : List ℕ) → OneAnswer (call.OpenPlan E N plan)
+open-one-answer E N plan = one _
 
-pub step-one-answer : (N : ℕ) (plan : List ℕ) (at : ℕ) → OneAnswer (call.StepAt N plan at)
-step-one-answer N plan at = one _
+pub step-one-answer : (E : Edition) (N : ℕ) (plan : List ℕ) (at : ℕ) → OneAnswer (call.StepAt E N plan at)
+step-one-answer E N plan at = one _
+
+pub step-second-one-answer : (N : ℕ) (plan : List ℕ) (at : ℕ) → OneAnswer (call.StepSecond N plan at)
+step-second-one-answer N plan at a b p q = cc (one _ (ofSecond a) (ofSecond b) p q)
 
 -- a reader and the step that it takes
 pub reader-one-answer : (N : ℕ) (plan : RefT (List ℕ)) → OneAnswer (call.OpenReader N plan)
@@ -155,7 +159,7 @@ pub cv-join-one-result : (N : ℕ) (plan buf : List ℕ) → OneResult (call.CvJ
 cv-join-one-result N plan buf = crosses-one-result _
 
 pub cv-write-one-result : (hold N : ℕ) (outputs buf : List ℕ) → OneResult (call.CvWrite hold N outputs buf)
-cv-write-one-result hold N outputs buf = crosses-one-result _
+cv-write-one-result E hold N outputs buf = crosses-one-result _
 
 pub cv-open-one-answer : (N : ℕ) (plan : List ℕ) → OneAnswer (call.CvOpen N plan)
 cv-open-one-answer N plan = one _

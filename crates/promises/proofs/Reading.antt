@@ -120,86 +120,86 @@ module _ (E : Edition) (bounds : Bounded E) (N : ℕ) (plan : List ℕ) (f : Ref
       (λ z. told Ports (check-refused E N plan (opening-ports E N plan (check.no-ports _ _ (omega (arith, z))))) (no-ports (λ s _. z s)))
 
 -- what opening answers
-pub open-promise : (N : ℕ) (plan : List ℕ) (r : Outcome) → OpenPlan N plan r → Opens N plan r
-open-promise N plan r met = record {
-  taken = λ o. met ∙ openable-opens firstEdition N plan o;
-  only-then = λ z. opens-openable firstEdition N plan (countsOf r) (sym met ∙ code-done r z);
-  refuses = λ f e. unread firstEdition first-bounded N plan f (sym (check-refused firstEdition N plan (sym e ∙ met)));
-  ends = λ n at. by (opening firstEdition N plan) refl (not-zero n) at;
+pub open-promise : (E : Edition) → Bounded E → (N : ℕ) (plan : List ℕ) (r : Outcome) → OpenPlan E N plan r → Opens E N plan r
+open-promise E bounds N plan r met = record {
+  taken = λ o. met ∙ openable-opens E N plan o;
+  only-then = λ z. opens-openable E N plan (countsOf r) (sym met ∙ code-done r z);
+  refuses = λ f e. unread E bounds N plan f (sym (check-refused E N plan (sym e ∙ met)));
+  ends = λ n at. by (opening E N plan) refl (not-zero n) at;
 }
   where
-    by : (o : Outcome) → o ≡ opening firstEdition N plan → ((c : Counts) → r ≡ Done c → ⊥) → (at : ℕ) → stepAt N plan at ≡ nothing step.End at
+    by : (o : Outcome) → o ≡ opening E N plan → ((c : Counts) → r ≡ Done c → ⊥) → (at : ℕ) → stepAt E N plan at ≡ nothing E step.End at
     by (Done c) e n at = absurd (n c (met ∙ sym e))
-    by (Refused x) e n at = sym (step-refused N plan at e)
+    by (Refused x) e n at = sym (step-refused E N plan at e)
 
 -- ---- step by step
 
-module _ (N : ℕ) (plan : List ℕ) (c : Counts) (opens : opening firstEdition N plan ≡ Done c) where
+module _ (E : Edition) (bounds : Bounded E) (N : ℕ) (plan : List ℕ) (c : Counts) (opens : opening E N plan ≡ Done c) where
   abbrev m : ℕ
-  m = whole 64 plan
+  m = whole (E .width) plan
 
   abbrev f : ℕ
-  f = malformed 64 0 N plan m 0
+  f = malformed (E .width) (E .byte) N plan m 0
 
-  known : Openable firstEdition N plan
-  known = opens-openable firstEdition N plan c opens
+  known : Openable E N plan
+  known = opens-openable E N plan c opens
 
-  scanned : FirstDamaged firstEdition N plan f
-  scanned = first-damaged firstEdition N plan first-bounded (known .few)
+  scanned : FirstDamaged E N plan f
+  scanned = first-damaged E N plan bounds (known .few)
 
   count : c .records ≡ m
-  count = opened-records firstEdition N plan c (sym opens)
+  count = opened-records E N plan c (sym opens)
 
   -- one step
-  pub step-promise : (at : ℕ) (s : Stepped) → StepAt N plan at s → StepGives N plan at s
+  pub step-promise : (at : ℕ) (s : Stepped) → StepAt E N plan at s → StepGives E N plan at s
   step-promise at s met = record {
     gives = λ l w. met
-        ∙ sym (step-record (c .records) N plan at (omega (arith, count)) (means-fine firstEdition N plan first-bounded (known .few) at l w) ∙ there);
-    damage = λ l w. met ∙ sym (step-malformed (c .records) N plan at (omega (arith, count)) (not-fine l w (fine 64 0 N plan at) refl) ∙ there);
-    end = λ l. met ∙ sym (step-end (c .records) N plan at (omega (arith, count)) ∙ there);
+        ∙ sym (step-record E (c .records) N plan at (omega (arith, count)) (means-fine E N plan bounds (known .few) at l w) ∙ there);
+    damage = λ l w. met ∙ sym (step-malformed E (c .records) N plan at (omega (arith, count)) (not-fine l w (fine (E .width) (E .byte) N plan at) refl) ∙ there);
+    end = λ l. met ∙ sym (step-end E (c .records) N plan at (omega (arith, count)) ∙ there);
   }
     where
-      there : stepIn (c .records) N plan at ≡ stepAt N plan at
-      there = step-opened N plan at (sym opens)
+      there : stepIn E (c .records) N plan at ≡ stepAt E N plan at
+      there = step-opened E N plan at (sym opens)
 
-      not-fine : at < m → (WellFormed 64 0 N (recordAt 64 plan at) → ⊥) → (b : Bool) → fine 64 0 N plan at ≡ b → fine 64 0 N plan at ≡ false
-      not-fine l w true e = absurd (w (fine-means firstEdition N plan first-bounded (known .few) at l e))
+      not-fine : at < m → (WellFormed (E .width) (E .byte) N (recordAt (E .width) plan at) → ⊥) → (b : Bool) → fine (E .width) (E .byte) N plan at ≡ b → fine (E .width) (E .byte) N plan at ≡ false
+      not-fine l w true e = absurd (w (fine-means E N plan bounds (known .few) at l e))
       not-fine l w false e = e
 
   -- the place of step k from the start, and what it gives there
   abbrev place : ℕ → ℕ
   place k = min k f
 
-  here : (at : ℕ) → StepGives N plan at (stepAt N plan at)
-  here at = step-promise at (stepAt N plan at) refl
+  here : (at : ℕ) → StepGives E N plan at (stepAt E N plan at)
+  here at = step-promise at (stepAt E N plan at) refl
 
-  at-record : (k : ℕ) → k < f → stepAt N plan k ≡ given (recordAt 64 plan k) (k + 1)
+  at-record : (k : ℕ) → k < f → stepAt E N plan k ≡ given (recordAt (E .width) plan k) (k + 1)
   at-record k l = here k .gives (omega (arith, scanned .inside)) (scanned .before k l)
 
-  at-damage : f < m → stepAt N plan f ≡ nothing (step.Malformed f) f
+  at-damage : f < m → stepAt E N plan f ≡ nothing E (step.Malformed f) f
   at-damage l = here f .damage l (scanned .here l)
 
-  at-end : f ≡ m → stepAt N plan f ≡ nothing step.End f
+  at-end : f ≡ m → stepAt E N plan f ≡ nothing E step.End f
   at-end e = here f .end (omega (arith, e))
 
-  goes-on : (k : ℕ) → stepAt N plan (place k) .next ≡ place (k + 1)
+  goes-on : (k : ℕ) → stepAt E N plan (place k) .next ≡ place (k + 1)
   goes-on k = by (decLt k f) (decLt f m)
     where
-      from : (j : ℕ) → place k ≡ j → {s : Stepped} → stepAt N plan j ≡ s → stepAt N plan (place k) .next ≡ s .next
-      from j e q = ap (λ (i : ℕ). stepAt N plan i .next) e ∙ ap (λ (s : Stepped). s .next) q
+      from : (j : ℕ) → place k ≡ j → {s : Stepped} → stepAt E N plan j ≡ s → stepAt E N plan (place k) .next ≡ s .next
+      from j e q = ap (λ (i : ℕ). stepAt E N plan i .next) e ∙ ap (λ (s : Stepped). s .next) q
 
-      by : Dec (k < f) → Dec (f < m) → stepAt N plan (place k) .next ≡ place (k + 1)
+      by : Dec (k < f) → Dec (f < m) → stepAt E N plan (place k) .next ≡ place (k + 1)
       by (yes l) _ = from k (omega arith) (at-record k l) ∙ omega arith
       by (no g) (yes l) = from f (omega (arith, g)) (at-damage l) ∙ omega (arith, g)
       by (no g) (no h) = from f (omega (arith, g)) (at-end (omega (arith, h, scanned .inside))) ∙ omega (arith, g)
 
-  read-step : (k : ℕ) (s : Stepped) → s ≡ stepAt N plan (place k) → ReadStep N plan k s
+  read-step : (k : ℕ) (s : Stepped) → s ≡ stepAt E N plan (place k) → ReadStep E N plan k s
   read-step k s e = record {
     first = f;
     damaged = scanned;
-    gives = λ l. e ∙ ap (stepAt N plan) (let q : place k ≡ k = omega arith in q) ∙ at-record k l;
-    damage = λ l h. e ∙ ap (stepAt N plan) (let q : place k ≡ f = omega arith in q) ∙ at-damage h;
-    end = λ l h. e ∙ ap (stepAt N plan) (let q : place k ≡ f = omega arith in q) ∙ at-end h;
+    gives = λ l. e ∙ ap (stepAt E N plan) (let q : place k ≡ k = omega arith in q) ∙ at-record k l;
+    damage = λ l h. e ∙ ap (stepAt E N plan) (let q : place k ≡ f = omega arith in q) ∙ at-damage h;
+    end = λ l h. e ∙ ap (stepAt E N plan) (let q : place k ≡ f = omega arith in q) ∙ at-end h;
   }
 
 -- a reader that was opened, and step k of it
@@ -207,12 +207,12 @@ module _ (N : ℕ) (plan : RefT (List ℕ)) (o : Opened) (met : OpenReader N pla
   opens : opening firstEdition N (now plan) ≡ Done c
   opens = sym (met .0) ∙ done
 
-  stands : {k : ℕ} {r : Reader} → Steps (o .reader) k r → r ≡ movedTo (starting N plan) (place N (now plan) c opens k)
-  stands none = met .1 ∙ ap (movedTo (starting N plan)) (let e : 0 ≡ place N (now plan) c opens 0 = omega arith in e)
+  stands : {k : ℕ} {r : Reader} → Steps (o .reader) k r → r ≡ movedTo (starting N plan) (place firstEdition first-bounded N (now plan) c opens k)
+  stands none = met .1 ∙ ap (movedTo (starting N plan)) (let e : 0 ≡ place firstEdition first-bounded N (now plan) c opens 0 = omega arith in e)
   stands (more {k} {r'} s t) =
       t .1 ∙ ap (λ (x : Stepped). movedTo r' (x .next)) (t .0)
-      ∙ ap (λ (x : Reader). movedTo x (stepAt (x .n) (now (x .plan)) (x .at) .next)) (stands s)
-      ∙ ap (movedTo (starting N plan)) (goes-on N (now plan) c opens k ∙ ap (place N (now plan) c opens) (add-one k))
+      ∙ ap (λ (x : Reader). movedTo x (stepAt firstEdition (x .n) (now (x .plan)) (x .at) .next)) (stands s)
+      ∙ ap (movedTo (starting N plan)) (goes-on firstEdition first-bounded N (now plan) c opens k ∙ ap (place firstEdition first-bounded N (now plan) c opens) (add-one k))
 
-  pub reader-promise : {k : ℕ} {r r' : Reader} {s : Stepped} → Steps (o .reader) k r → ReaderStep r s r' → ReadStep N (now plan) k s
-  reader-promise {k} {s = s} before t = read-step N (now plan) c opens k s (t .0 ∙ ap (λ (x : Reader). stepAt (x .n) (now (x .plan)) (x .at)) (stands before))
+  pub reader-promise : {k : ℕ} {r r' : Reader} {s : Stepped} → Steps (o .reader) k r → ReaderStep r s r' → ReadStep firstEdition N (now plan) k s
+  reader-promise {k} {s = s} before t = read-step firstEdition first-bounded N (now plan) c opens k s (t .0 ∙ ap (λ (x : Reader). stepAt firstEdition (x .n) (now (x .plan)) (x .at)) (stands before))

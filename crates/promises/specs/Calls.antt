@@ -17,9 +17,10 @@ use Rattle.planner.specs.Planned.{planned, plannedUpTo}
 use Rattle.records.specs.Bytes.{laid}
 use Rattle.records.specs.Write.{written}
 use Rattle.plans.specs.declared.Stepped.{Stepped}
+use Rattle.plans.specs.declared.SteppedSecond.{SteppedSecond}
 use Rattle.switch.specs.declared.Edition.{Edition}
-use Rattle.switch.specs.Editions.{firstEdition}
-use Rattle.plans.specs.Read.{opening, stepAt}
+use Rattle.switch.specs.Editions.{firstEdition, secondEdition}
+use Rattle.plans.specs.Read.{opening, stepAt, ofSecond}
 use Rattle.reader.specs.declared.Reader.{Reader}
 use Rattle.reader.specs.declared.Opened.{Opened}
 use Rattle.reader.specs.Reader.{starting, movedTo}
@@ -82,17 +83,21 @@ GratingDoubled N d buf = Gives (gratingPlanned 64 0 N d buf)
 
 -- ---- plans
 
--- records::write_record(hold, n, outputs, plan)
-abbrev pub WriteRecord : ℕ → ℕ → List ℕ → List ℕ → Outcome → List ℕ → Type 0
-WriteRecord hold N outputs buf = Gives (written hold N outputs buf)
+-- records::write_record(hold, n, outputs, plan), and write_record_second of the second edition
+abbrev pub WriteRecord : Edition → ℕ → ℕ → List ℕ → List ℕ → Outcome → List ℕ → Type 0
+WriteRecord E hold N outputs buf = Gives (written E hold N outputs buf)
 
--- plans::open_plan(n, plan), and reader::open_answer(n, plan)
-abbrev pub OpenPlan : ℕ → List ℕ → Outcome → Type 0
-OpenPlan N plan r = r ≡ opening firstEdition N plan
+-- plans::open_plan(n, plan), reader::open_answer(n, plan), and plans::open_second(n, plan) of the second edition
+abbrev pub OpenPlan : Edition → ℕ → List ℕ → Outcome → Type 0
+OpenPlan E N plan r = r ≡ opening E N plan
 
 -- plans::step_at(n, plan, at), and reader::step_from(n, plan, at)
-abbrev pub StepAt : ℕ → List ℕ → ℕ → Stepped → Type 0
-StepAt N plan at s = s ≡ stepAt N plan at
+abbrev pub StepAt : Edition → ℕ → List ℕ → ℕ → Stepped → Type 0
+StepAt E N plan at s = s ≡ stepAt E N plan at
+
+-- plans::step_second(n, plan, at): the same but for the number of outputs
+abbrev pub StepSecond : ℕ → List ℕ → ℕ → SteppedSecond → Type 0
+StepSecond N plan at s = StepAt secondEdition N plan at (ofSecond s)
 
 -- reader::open(n, plan)
 abbrev pub OpenReader : ℕ → RefT (List ℕ) → Opened → Type 0
@@ -100,7 +105,7 @@ OpenReader N plan o = (o .answer ≡ opening firstEdition N (now plan)) × (o .r
 
 -- Reader::step(&mut self), of a reader r that is r' afterwards
 abbrev pub ReaderStep : Reader → Stepped → Reader → Type 0
-ReaderStep r s r' = (s ≡ stepAt (r .n) (now (r .plan)) (r .at)) × (r' ≡ movedTo r (s .next))
+ReaderStep r s r' = (s ≡ stepAt firstEdition (r .n) (now (r .plan)) (r .at)) × (r' ≡ movedTo r (s .next))
 
 -- checker::check_plan(n, cells, plan)
 abbrev pub CheckPlan : ℕ → List ℕ → List ℕ → Outcome → Type 0
@@ -194,7 +199,7 @@ CvJoin N plan buf = Crosses (joining firstEdition N plan buf)
 
 -- cv_write(hold, n, outputs, plan)
 abbrev pub CvWrite : ℕ → ℕ → List ℕ → List ℕ → CvAnswer → List ℕ → Type 0
-CvWrite hold N outputs buf = Crosses (written hold N outputs buf)
+CvWrite hold N outputs buf = Crosses (written firstEdition hold N outputs buf)
 
 -- cv_open(n, plan)
 abbrev pub CvOpen : ℕ → List ℕ → CvAnswer → Type 0
@@ -202,7 +207,7 @@ CvOpen N plan r = r ≡ flat (opening firstEdition N plan)
 
 -- cv_step_at(n, plan, at)
 abbrev pub CvStepAt : ℕ → List ℕ → ℕ → CvStep → Type 0
-CvStepAt N plan at r = r ≡ flatStep (stepAt N plan at)
+CvStepAt N plan at r = r ≡ flatStep (stepAt firstEdition N plan at)
 
 -- cv_in_force(n, tonight, standby, slot)
 abbrev pub CvInForce : ℕ → List ℕ → List ℕ → ℕ → CvPart → Type 0

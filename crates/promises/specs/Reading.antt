@@ -13,7 +13,6 @@ use Rattle.records.specs.Bytes.{recordAt, whole}
 use Rattle.switch.specs.declared.Edition.{Edition}
 use Rattle.plans.specs.declared.Step.the-variants as step
 use Rattle.plans.specs.declared.Stepped.{Stepped}
-use Rattle.switch.specs.Editions.{firstEdition}
 use Rattle.plans.specs.Read.{given, nothing, stepAt}
 use Rattle.reader.specs.declared.Reader.{Reader}
 use Rattle.promises.specs.Calls.{ReaderStep}
@@ -54,29 +53,29 @@ pub data Unwritten (E : Edition) (N : ℕ) (plan : List ℕ) (room need : ℕ) :
   no-room : GoodPlan E N plan → room < need → Unwritten E N plan room need (Room need)
 
 -- what opening answers
-pub record Opens (N : ℕ) (plan : List ℕ) (r : Outcome) : Type 0 where
+pub record Opens (E : Edition) (N : ℕ) (plan : List ℕ) (r : Outcome) : Type 0 where
   -- code 0 exactly when the plan can be opened, with its records alone
-  pub taken : Openable firstEdition N plan → r ≡ Done (planCounts (whole 64 plan) 0 0)
-  pub only-then : codeOf r ≡ 0 → Openable firstEdition N plan
+  pub taken : Openable E N plan → r ≡ Done (planCounts (whole (E .width) plan) 0 0)
+  pub only-then : codeOf r ≡ 0 → Openable E N plan
   -- and else it has its reason, and every step is the end
-  pub refuses : (f : Refusal) → r ≡ Refused f → Unread firstEdition N plan f
-  pub ends : (codeOf r ≡ 0 → ⊥) → (at : ℕ) → stepAt N plan at ≡ nothing step.End at
+  pub refuses : (f : Refusal) → r ≡ Refused f → Unread E N plan f
+  pub ends : (codeOf r ≡ 0 → ⊥) → (at : ℕ) → stepAt E N plan at ≡ nothing E step.End at
 
 -- the step at a record of a plan that can be opened: the record, or its damage, or the end; the last two leave the place, and so come again
-pub record StepGives (N : ℕ) (plan : List ℕ) (at : ℕ) (s : Stepped) : Type 0 where
-  pub gives : at < whole 64 plan → WellFormed 64 0 N (recordAt 64 plan at) → s ≡ given (recordAt 64 plan at) (at + 1)
-  pub damage : at < whole 64 plan → (WellFormed 64 0 N (recordAt 64 plan at) → ⊥) → s ≡ nothing (step.Malformed at) at
-  pub end : whole 64 plan ≤ at → s ≡ nothing step.End at
+pub record StepGives (E : Edition) (N : ℕ) (plan : List ℕ) (at : ℕ) (s : Stepped) : Type 0 where
+  pub gives : at < whole (E .width) plan → WellFormed (E .width) (E .byte) N (recordAt (E .width) plan at) → s ≡ given (recordAt (E .width) plan at) (at + 1)
+  pub damage : at < whole (E .width) plan → (WellFormed (E .width) (E .byte) N (recordAt (E .width) plan at) → ⊥) → s ≡ nothing E (step.Malformed at) at
+  pub end : whole (E .width) plan ≤ at → s ≡ nothing E step.End at
 
 -- step k of a plan that is read from its start
-pub record ReadStep (N : ℕ) (plan : List ℕ) (k : ℕ) (s : Stepped) : Type 0 where
+pub record ReadStep (E : Edition) (N : ℕ) (plan : List ℕ) (k : ℕ) (s : Stepped) : Type 0 where
   pub first : ℕ
-  pub damaged : FirstDamaged firstEdition N plan first
+  pub damaged : FirstDamaged E N plan first
   -- the records in order
-  pub gives : k < first → s ≡ given (recordAt 64 plan k) (k + 1)
+  pub gives : k < first → s ≡ given (recordAt (E .width) plan k) (k + 1)
   -- then the damage, or the end, for ever
-  pub damage : first ≤ k → first < whole 64 plan → s ≡ nothing (step.Malformed first) first
-  pub end : first ≤ k → first ≡ whole 64 plan → s ≡ nothing step.End first
+  pub damage : first ≤ k → first < whole (E .width) plan → s ≡ nothing E (step.Malformed first) first
+  pub end : first ≤ k → first ≡ whole (E .width) plan → s ≡ nothing E step.End first
 
 -- k steps of a reader r, one after the other, lead to another
 pub data Steps (r : Reader) : ℕ → Reader → Type 0 where

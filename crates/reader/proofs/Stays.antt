@@ -2,10 +2,11 @@
 use mathlib.Core.Path.{_≡_, ap}
 use denote.Ref.{now}
 use Rattle.plans.specs.declared.Step.the-variants as step
+use Rattle.switch.specs.Editions.{firstEdition}
 use Rattle.plans.specs.Read.{stepAt}
 use Rattle.plans.proofs.Read as plans
 use Rattle.reader.specs.declared.Reader.{Reader}
 use Rattle.reader.specs.Reader.{movedTo}
 
-pub stays : (r : Reader) → (stepAt (r .n) (now (r .plan)) (r .at) .step ≡ step.Record → ⊥) → movedTo r (stepAt (r .n) (now (r .plan)) (r .at) .next) ≡ r
-stays r none = ap (movedTo r) (plans.stays (r .n) (now (r .plan)) (r .at) none)
+pub stays : (r : Reader) → (stepAt firstEdition (r .n) (now (r .plan)) (r .at) .step ≡ step.Record → ⊥) → movedTo r (stepAt firstEdition (r .n) (now (r .plan)) (r .at) .next) ≡ r
+stays r none = ap (movedTo r) (plans.stays firstEdition (r .n) (now (r .plan)) (r .at) none)

@@ -33,7 +33,7 @@ pub fn open<'a>(n: usize, plan: &'a [u8]) -> Opened<'a>
 impl<'a> Reader<'a> {
     // The step at the reader's place, and the reader goes on to the next.
     pub fn step(&mut self) -> Stepped
-        ensures { λ s. ⌜ (s ≡ stepAt (now (self .entry) .n) (now (now (self .entry) .plan)) (now (self .entry) .at)) × (now (self .exit) ≡ movedTo (now (self .entry)) (s .next)) ⌝ }
+        ensures { λ s. ⌜ (s ≡ stepAt firstEdition (now (self .entry) .n) (now (now (self .entry) .plan)) (now (self .entry) .at)) × (now (self .exit) ≡ movedTo (now (self .entry)) (s .next)) ⌝ }
     {
         let s = plans::step_at(self.n, self.plan, self.at);
         self.at = s.next;
@@ -50,7 +50,7 @@ pub fn open_answer(n: usize, plan: &[u8]) -> Outcome
 
 // The step at record `at` of a plan, by a reader that stands there.
 pub fn step_from(n: usize, plan: &[u8], at: usize) -> Stepped
-    ensures { λ s. ⌜ s ≡ stepAt n (now (plan .entry)) at ⌝ }
+    ensures { λ s. ⌜ s ≡ stepAt firstEdition n (now (plan .entry)) at ⌝ }
 {
     let mut r = standing(n, plan, at);
     r.step()

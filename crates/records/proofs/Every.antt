@@ -16,10 +16,6 @@ pub and-r : (a b : Bool) → (a && b) ≡ true → b ≡ true
 and-r true b e = e
 and-r false b e = let z : true ≡ false = sym e in cc
 
-pub all-more : (n : ℕ) (p : ℕ → Bool) → all n p ≡ true → p n ≡ true → all (n + 1) p ≡ true
-unfolding all
-all-more n p a b = rw (add-one, a, b)
-
 pub all-intro : (n : ℕ) (p : ℕ → Bool) → ((k : ℕ) → k < n → p k ≡ true) → all n p ≡ true
 unfolding all
 all-intro zero p h = refl
@@ -30,6 +26,13 @@ unfolding all
 all-at zero p e k l = absurd (not-suc-le-zero l)
 all-at (suc n) p e k l =
     ⊎-elim (λ (s : k ≡ n). rw s (and-r (all n p) (p n) e)) (λ lt. all-at n p (and-l (all n p) (p n) e) k lt) (eq-or-lt-of-le (le-of-suc-le-suc l))
+
+pub all-step : (n : ℕ) (p : ℕ → Bool) → all (n + 1) p ≡ (all n p && p n)
+unfolding all
+all-step n p = rw add-one
+
+pub all-more : (n : ℕ) (p : ℕ → Bool) → all n p ≡ true → p n ≡ true → all (n + 1) p ≡ true
+all-more n p a b = rw (all-step n p, a, b)
 
 -- where p fails somewhere below n, not all hold
 pub all-fails : (n : ℕ) (p : ℕ → Bool) (k : ℕ) → k < n → p k ≡ false → all n p ≡ false

@@ -1,17 +1,17 @@
--- The tests of a record one by one, and the set of outputs that the check has seen: it holds just those of the inputs passed.
-use mathlib.Core.Path.{_≡_, refl, sym, ap, _∙_}
-use mathlib.Core.Bool.{Bool, true, false, _&&_, _||_, and-false, or-true, or-false}
-use mathlib.Core.Logic.{⊎-elim, dite}
+-- The tests of a record one by one, and the outputs that the check has seen: just those of the inputs passed.
+use mathlib.Core.Path.{_≡_, refl, sym, ap, ap₂, _∙_}
+use mathlib.Core.Bool.{Bool, true, false, not, _&&_, _||_, and-false, and-true, or-true, or-false}
+use mathlib.Core.Logic.{dite}
 use mathlib.Core.List.{List}
-use Prim.Native.Nat.{ℕ, _+_, _<_, _≤_}
+use Prim.Native.Nat.{ℕ, zero, suc, _+_, _<_, _≤_}
 use native.Mathlib.Decide.{ℕ-discrete}
 use native.Mathlib.Omega.{arith}
-use lib.Dec.{eqb}
-use lib.ListN.{getD}
+use lib.Dec.{ltb, eqb}
+use lib.ListN.{length, getD, set, replicate, length-set, length-replicate}
+use lib.Seq.{getD-set-same, getD-set-other}
 use borrow.Author.Tests.{lt-ltb, le-ltb, eq-eqb, ne-eqb}
-use Rattle.labels.specs.Label.{digit, In, Marked, isIn}
-use Rattle.records.specs.Record.{all, any, hold, outputs, inside, new, later, outputsFine, wellFormed}
-use Rattle.records.proofs.Every.{all-more, all-fails, any-more}
+use Rattle.records.specs.Record.{all, any, hold, outputs, idle, inside, new, later, outputsFine, wellFormed}
+use Rattle.records.proofs.Every.{all-step, any-more}
 
 -- the output of input i
 module _ (N : ℕ) (o : List ℕ) (i : ℕ) where
@@ -56,49 +56,59 @@ module _ (o : List ℕ) (i : ℕ) where
   unfolding new
   new-fails ne f = rw (ne-eqb _ _ ne, f)
 
-has-marked : {l j r : ℕ} → Marked l j r → (v : ℕ) → isIn r v ≡ (isIn l v || eqb j v)
-has-marked {l} {j} {r} m v =
-    dite (ℕ-discrete v j)
-    (λ e. rw (eq-eqb j v (sym e), or-true, eq-eqb (digit r v) 1 (ap (digit r) e ∙ m .put)))
-    (λ ne. rw (ne-eqb j v (λ q. ne (sym q)), or-false) (dite (ℕ-discrete (digit l v) 1)
-    (λ y. rw (eq-eqb (digit l v) 1 y, eq-eqb (digit r v) 1 (m .more v y)))
-    (λ n. rw (ne-eqb (digit l v) 1 n, ne-eqb (digit r v) 1 (λ y. ⊎-elim n ne (m .only v y))))))
+-- the outputs below N that the first i inputs have, as a test for each byte
+pub record Seen (N : ℕ) (o : List ℕ) (i : ℕ) (s : List Bool) : Type 0 where
+  pub size : length s ≡ 256
+  pub is : (v : ℕ) → getD s v false ≡ (ltb v N && earlier o i v)
 
--- the first i outputs are fine, and the set s holds those of them that are below N
-pub record Passed (N s : ℕ) (o : List ℕ) (i : ℕ) : Type 0 where
-  pub in-range : all i (inside N o) ≡ true
-  pub once : all i (new o) ≡ true
-  pub holds : (v : ℕ) → v < N → isIn s v ≡ earlier o i v
+getD-none : (n v : ℕ) → getD (replicate n false) v false ≡ false
+getD-none zero v = refl
+getD-none (suc n) zero = refl
+getD-none (suc n) (suc v) = getD-none n v
 
-pub passed-none : (N s : ℕ) (o : List ℕ) → ((k : ℕ) → In s k → ⊥) → Passed N s o 0
-unfolding all any
-passed-none N s o h = record { in-range = refl; once = refl; holds = λ v l. ne-eqb _ _ (h v) }
+pub seen-none : (N : ℕ) (o : List ℕ) → Seen N o 0 (replicate 256 false)
+unfolding any
+seen-none N o = record { size = length-replicate 256 false; is = λ v. getD-none 256 v ∙ sym (and-false (ltb v N)) }
 
--- the next output is v
-module _ (N s : ℕ) (o : List ℕ) (i v : ℕ) (e : v ≡ getD o i 0) (p : Passed N s o i) where
-  pub passed-below : (t : ℕ) → v < N → isIn s v ≡ false → Marked s v t → Passed N t o (i + 1)
-  passed-below t l new-one m = record {
-    in-range = all-more i (inside N o) (p .in-range) (inside-below N o i (omega arith));
-    once = all-more i (new o) (p .once) (new-first o i (ap (earlier o i) (sym e) ∙ sym (p .holds v l) ∙ new-one));
-    holds = λ w lw. has-marked m w ∙ rw (any-more, p .holds w lw, e);
-  }
+-- a byte is fine where it is a port that no earlier input has, or idle
+one-of : (port idles before : Bool) → ((port && not (port && before)) || idles) ≡ ((port || idles) && (idles || not before))
+one-of true true before = or-true (not before)
+one-of true false before = or-false (not before)
+one-of false true before = refl
+one-of false false before = refl
 
-  pub passed-idle : N ≤ v → v ≡ 255 → Passed N s o (i + 1)
-  passed-idle l q = record {
-    in-range = all-more i (inside N o) (p .in-range) (inside-idle N o i (sym e ∙ q));
-    once = all-more i (new o) (p .once) (new-idle o i (sym e ∙ q));
-    holds = λ w lw. rw (any-more, p .holds w lw, ne-eqb (getD o i 0) w (λ r. omega arith), or-false);
-  }
+both : (a b c d : Bool) → ((a && b) && (c && d)) ≡ ((a && c) && (b && d))
+both true true c d = refl
+both true false c d = sym (and-false c)
+both false b c d = refl
 
-  pub passed-twice : i < N → N ≤ 255 → v < N → isIn s v ≡ true → false ≡ (all N (inside N o) && all N (new o))
-  passed-twice li few l old =
-      sym (rw (all-fails N (new o) i li (new-fails o i (λ q. omega arith) (ap (earlier o i) (sym e) ∙ sym (p .holds v l) ∙ old)), and-false))
+module _ (N : ℕ) (o : List ℕ) (i v : ℕ) (e : v ≡ getD o i 0) (s : List Bool) (seen : Seen N o i s) where
+  pub seen-more : v < 256 → Seen N o (i + 1) (set s v (ltb v N))
+  seen-more l = record { size = rw length-set (seen .size); is = λ w. dite (ℕ-discrete w v) (same w) (other w) }
+    where
+      same : (w : ℕ) → w ≡ v → getD (set s v (ltb v N)) w false ≡ (ltb w N && earlier o (i + 1) w)
+      same w q = rw (q, getD-set-same s v (ltb v N) false (omega (arith, seen .size)), any-more, eq-eqb (getD o i 0) v (sym e), or-true, and-true)
 
-  pub passed-outside : i < N → N ≤ v → (v ≡ 255 → ⊥) → false ≡ (all N (inside N o) && all N (new o))
-  passed-outside li l ne = sym (rw (all-fails N (inside N o) i li (inside-fails N o i (omega arith) (λ q. ne (e ∙ q)))))
+      other : (w : ℕ) → (w ≡ v → ⊥) → getD (set s v (ltb v N)) w false ≡ (ltb w N && earlier o (i + 1) w)
+      other w ne = rw (getD-set-other s v w (ltb v N) false ne, any-more, ne-eqb (getD o i 0) w (λ q. ne (sym (e ∙ q))), or-false) (seen .is w)
 
-pub passed-all : (N s : ℕ) (o : List ℕ) → Passed N s o N → true ≡ (all N (inside N o) && all N (new o))
-passed-all N s o p = sym (rw (p .in-range, p .once))
+  -- what the loop asks of a byte is what is asked of an output
+  judged : ((ltb v N && not (getD s v false)) || idle o i) ≡ (inside N o i && new o i)
+  unfolding inside new
+  judged =
+      ap (λ (t : Bool). (ltb v N && not t) || idle o i) (seen .is v)
+      ∙ one-of (ltb v N) (idle o i) (earlier o i v)
+      ∙ ap (λ (x : ℕ). (ltb x N || idle o i) && (idle o i || not (earlier o i x))) e
+
+  pub fine-more : (fine : Bool) → fine ≡ (all i (inside N o) && all i (new o))
+      → (fine && ((ltb v N && not (getD s v false)) || idle o i)) ≡ (all (i + 1) (inside N o) && all (i + 1) (new o))
+  fine-more fine q =
+      ap₂ _&&_ q judged ∙ both (all i (inside N o)) (all i (new o)) (inside N o i) (new o i) ∙ sym (ap₂ _&&_ (all-step i (inside N o)) (all-step i (new o)))
+
+-- an output from N on is fine where it is idle
+pub later-more : (N : ℕ) (o : List ℕ) (i : ℕ) → N ≤ i → (idles : Bool) → idles ≡ all i (later N o) → (idles && idle o i) ≡ all (i + 1) (later N o)
+unfolding later
+later-more N o i l idles q = ap₂ _&&_ q (let past : idle o i ≡ (ltb i N || idle o i) = rw (le-ltb i N l) in past) ∙ sym (all-step i (later N o))
 
 -- the outputs from N on decide, where the first N are fine
 module _ (W N : ℕ) (o : List ℕ) where

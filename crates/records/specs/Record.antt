@@ -1,4 +1,4 @@
--- A plan record (§5.1) over its width W (the number of its outputs, 64) and its edition byte e (0), and when it is well formed. Definitions only.
+-- A plan record (§5.1) over its width W, the number of its outputs, and its edition byte e, and when it is well formed. Definitions only.
 use mathlib.Core.Path.{_≡_}
 use mathlib.Core.Bool.{Bool, true, false, not, _&&_, _||_}
 use mathlib.Core.List.{List}

@@ -1,16 +1,18 @@
 // One plan record (§5): when it is well formed, its hold and outputs, and writing one.
-// The description in specs/ is over a record's width and its edition byte, and so are the functions below the public call.
+// The description in specs/ is over a record's width and its edition byte, and the functions below the public calls are over the edition.
 // Writing promises its whole answer and every byte of lent memory, for any N; plans of many records are left to the crates above.
-use labels::Outputs;
 use switch::Counts;
+use switch::Edition;
 use switch::Outcome;
-use switch::OutputPort;
 use switch::Refusal;
+use switch::first_edition;
+use switch::second_edition;
 ghost use mathlib.Core.Path.{_≡_};
 ghost use mathlib.Core.Bool.{_&&_};
 ghost use Prim.Native.Nat.{_+_, _-_, _<_, _≤_};
 ghost use lib.ListN.{length};
 ghost use Rattle.switch.specs.Result.{Gives};
+ghost use Rattle.switch.specs.Editions.{firstEdition, secondEdition, Bounded};
 ghost use Rattle.records.specs.Record.{all, hold, inside, new, later, outputsFine, wellFormed};
 ghost use Rattle.records.specs.Bytes.{encode, laid};
 ghost use Rattle.records.specs.Write.{written};
@@ -28,17 +30,50 @@ pub const EDITION: u8 = 0;
 // The output of an input that is joined to none.
 pub const IDLE: u8 = 255;
 
-// Writes one record where a lent buffer begins, or refuses with 1, 5 or 11 (§5.8).
+// So many values has an output byte.
+const BYTES: usize = 256;
+
+// Writes one record where a lent buffer begins, or refuses with 1, 5 or 11 (§5.8). The record is written from a copy of the outputs: a
+// copy cannot share bytes with the buffer, so that many bytes are moved at once.
 pub fn write_record(hold: u16, n: usize, outputs: &[u8; 64], plan: &mut [u8]) -> Outcome
-    ensures { λ r. ⌜ Gives (written hold n (now (outputs .entry)) (now (plan .entry))) r (now (plan .exit)) ⌝ }
+    ensures { λ r. ⌜ Gives (written firstEdition hold n (now (outputs .entry)) (now (plan .entry))) r (now (plan .exit)) ⌝ }
+{
+    let own = *outputs;
+    write_first(hold, n, &own, plan)
+}
+
+// The same for a record of the second edition.
+pub fn write_record_second(hold: u16, n: usize, outputs: &[u8; 128], plan: &mut [u8]) -> Outcome
+    ensures { λ r. ⌜ Gives (written secondEdition hold n (now (outputs .entry)) (now (plan .entry))) r (now (plan .exit)) ⌝ }
+{
+    let own = *outputs;
+    write_second(hold, n, &own, plan)
+}
+
+fn write_first(hold: u16, n: usize, outputs: &[u8; 64], plan: &mut [u8]) -> Outcome
+    ensures { λ r. ⌜ Gives (written firstEdition hold n (now (outputs .entry)) (now (plan .entry))) r (now (plan .exit)) ⌝ }
+{
+    write_for(hold, n, outputs, plan, first_edition())
+}
+
+fn write_second(hold: u16, n: usize, outputs: &[u8; 128], plan: &mut [u8]) -> Outcome
+    ensures { λ r. ⌜ Gives (written secondEdition hold n (now (outputs .entry)) (now (plan .entry))) r (now (plan .exit)) ⌝ }
+{
+    write_for(hold, n, outputs, plan, second_edition())
+}
+
+// Writes one record of an edition.
+pub fn write_for(hold: u16, n: usize, outputs: &[u8], plan: &mut [u8], e: Edition) -> Outcome
+    requires { ⌜ Bounded e × (length (now outputs) ≡ e .width) ⌝ }
+    ensures { λ r. ⌜ Gives (written e hold n (now (outputs .entry)) (now (plan .entry))) r (now (plan .exit)) ⌝ }
 {
     if n == 0 {
         return Outcome::Refused(Refusal::Ports);
     }
-    if switch::PORTS < n {
+    if e.ports < n {
         return Outcome::Refused(Refusal::Ports);
     }
-    if plan.len() < RECORD {
+    if plan.len() < e.width + HEAD {
         return Outcome::Refused(Refusal::Room(1));
     }
     if hold == 0 {
@@ -47,7 +82,7 @@ pub fn write_record(hold: u16, n: usize, outputs: &[u8; 64], plan: &mut [u8]) ->
     if !outputs_fine(outputs, n) {
         return Outcome::Refused(Refusal::Malformed(0));
     }
-    put_record(plan, 0, EDITION, hold, n, outputs);
+    put_record(plan, 0, e.byte, hold, n, outputs);
     Outcome::Done(Counts {
         records: 1,
         longest: 0,
@@ -95,42 +130,38 @@ fn outputs_fine(outputs: &[u8], n: usize) -> bool
     later_idle(outputs, n)
 }
 
-// Are the outputs of the n inputs ports or idle, and is none of the ports there twice? The test that most outputs pass comes first.
+// Are the outputs of the n inputs ports or idle, and is none of the ports there twice? What was seen is told for each byte, and no branch
+// waits for an output: most records are fine.
 pub fn setting_fine(outputs: &[u8], n: usize) -> bool
     requires { ⌜ (n ≤ 128) × (n ≤ length (now outputs)) ⌝ }
     ensures { λ r. ⌜ r ≡ (all n (inside n (now (outputs .entry))) && all n (new (now (outputs .entry)))) ⌝ }
 {
-    let mut seen = Outputs::none();
+    let mut seen = [false; BYTES];
+    let mut fine = true;
     for i in 0..n {
         let b = outputs[i];
-        let j = OutputPort(wide(b));
-        if j.0 < n {
-            if seen.has(j) {
-                return false;
-            }
-            seen = seen.mark(j);
-        } else if b != IDLE {
-            return false;
-        }
+        let j = wide(b);
+        let port = j < n;
+        fine = fine & ((port & !seen[j]) | (b == IDLE));
+        seen[j] = port;
     }
-    true
+    fine
 }
 
-// Is each output from n on idle?
+// Is each output from n on idle? All are looked at, many at once.
 fn later_idle(outputs: &[u8], n: usize) -> bool
     requires { ⌜ n ≤ length (now outputs) ⌝ }
     ensures { λ r. ⌜ r ≡ all (length (now (outputs .entry))) (later n (now (outputs .entry))) ⌝ }
 {
+    let mut idle = true;
     for i in n..outputs.len() {
-        if outputs[i] != IDLE {
-            return false;
-        }
+        idle = idle & (outputs[i] == IDLE);
     }
-    true
+    idle
 }
 
 fn wide(b: u8) -> usize
-    ensures { λ r. ⌜ r ≡ b ⌝ }
+    ensures { λ r. ⌜ (r ≡ b) × (r < 256) ⌝ }
 {
     b as usize
 }

@@ -1,7 +1,4 @@
 -- The first edition keeps to the bounds of every edition.
-use mathlib.Core.Path.{ap, _∙_}
-use Rattle.switch.specs.declared.Edition.{Edition}
-use Rattle.plans.specs.Read.{opening}
 use Rattle.switch.proofs.Editions.{first-bounded}
 use borrow.Author.Needs.{needs}
 use Rattle.plans.proofs.open_plan.Statement.{statement}
@@ -14,7 +11,7 @@ open-requires : tie.Need-open-requires
 open-requires c κs = rw (c .first-edition .ensures) first-bounded
 
 returns : tie.Need-returns
-returns c = c .«open» .ensures ∙ ap (λ (e : Edition). opening e (c .before .before .before .args .n) (c .before .before .before .args .plan .now)) (c .before .first-edition .ensures)
+returns c = rw (c .before .first-edition .ensures) at (c .«open» .ensures)
 
 pub open-plan-spec : {M : Type 1} → statement M
 open-plan-spec = tie.close (tie.spec first-edition-requires open-requires returns)

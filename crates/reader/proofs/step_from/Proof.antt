@@ -40,6 +40,7 @@ use denote.Triple.Clauses.{ensured, lasts}
 use denote.Triple.Table.{entered, cited}
 use denote.Triple.Walked.{says, Stays, stay-none, stay-none-slice, walkOf, goes-none, goes-none-slice, Walks, ends-at, walked, walk-meets}
 use denote.Exit.{yes}
+use Rattle.switch.specs.Editions.{firstEdition}
 use Rattle.plans.specs.Read.{stepAt}
 use Rattle.plans.specs.declared.Stepped.{Stepped}
 use Rattle.plans.proofs.Stepped as S
@@ -144,7 +145,7 @@ module _ {M : Type 1} (𝓤 : URA M) (H : Heap 𝓤) (A : Atoms 𝓤) (W : Given
       rewrite ! 1 (λ (us : List Val). ‵ (cellAt fullShare (B .mir) us l 0)) (T′.lowers α .val-is r vs is) refl $ move ! (1 ∷ []) $
       use1 W (‵ (fat fullShare (T′.mir erased) l 0 (T′.lowered r))) (W .laws .raw-at fullShare (T′.mir erased) l 0 (T′.lowered r)) $ keep ! (0 ∷ []) $ done !))
 
-  exits : (t : Stepped) (u : Val) → t ≡ stepAt n (now s) k → ent 𝓤 (⋆ 𝓤 H A (‵ (flft κ ql) ∷ (‵ (flft κ qr) ⊛ ‵ ftrue) ∷ ‵ (S.the-row .own t (u ∷ [])) ∷ ‵ Own ∷ [])) (Post u)
+  exits : (t : Stepped) (u : Val) → t ≡ stepAt firstEdition n (now s) k → ent 𝓤 (⋆ 𝓤 H A (‵ (flft κ ql) ∷ (‵ (flft κ qr) ⊛ ‵ ftrue) ∷ ‵ (S.the-row .own t (u ∷ [])) ∷ ‵ Own ∷ [])) (Post u)
   exits t u e =
       qed W (‵ (flft κ ql) ∷ (‵ (flft κ qr) ⊛ ‵ ftrue) ∷ ‵ (S.the-row .own t (u ∷ [])) ∷ ‵ Own ∷ []) ∵
       suffices ! _ (ends-at 𝓤 H A this.ended stayed (this.clauses 𝓤 H A at-mem run) W (((κ, tt), (q, tt), tt, (n, (s, (k, tt))), at), tt) u t (tt, (tt, (tt, tt))) (tt, (tt, (tt, tt)))) $ says ! e $
@@ -180,8 +181,8 @@ module _ {M : Type 1} (𝓤 : URA M) (H : Heap 𝓤) (A : Atoms 𝓤) (W : Given
         -- [what `step` asks; lent; the way back; what plan owns; _6; …; _5; …; …; _3; …; _2; …; _1; …; room for _0; …]
         calls-at ! fm (Step 𝓤 H A at-mem run) known2 (to2 ν r l₄ δ) (and-then ! (load ! (from ! (stop !)) (look ! 4 refl)) (no-more !)) (λ u′.
         use1 W (later (some (λ (t : Stepped). ((‵ (flft (ν ∷ κ) ql) ⊛ ‵ (flft κ qr) ⊛ ‵ ftrue) ⊛ ‵ (S.the-row .own t (u′ ∷ []))) ⊛ raw (ensured 𝓤 H A stp.ended (stp.clauses 𝓤 H A at-mem run) (ν ∷ κ, (κ, tt)) (x r l₄ δ, tt) tt t)))) (id⊢ 𝓤 _) $ await ! tt $ pick ! (λ t.
-        split ! $ move ! (1 ∷ []) $ use1 W (some (λ (zs : Reader × Unit {0}). ‵ (lasts stp.ended (ν ∷ κ, (κ, tt)) (x r l₄ δ, tt) zs) ⊛ raw (fact 𝓤 ((t ≡ stepAt (r .n) (now (r .plan)) (r .at)) × (zs .0 ≡ movedTo r (t .next)))))) (id⊢ 𝓤 _) $ pick ! (λ zs.
-        split ! $ move ! (1 ∷ []) $ heard ! ((t ≡ stepAt (r .n) (now (r .plan)) (r .at)) × (zs .0 ≡ movedTo r (t .next))) (λ e′. fsplit ! $
+        split ! $ move ! (1 ∷ []) $ use1 W (some (λ (zs : Reader × Unit {0}). ‵ (lasts stp.ended (ν ∷ κ, (κ, tt)) (x r l₄ δ, tt) zs) ⊛ raw (fact 𝓤 ((t ≡ stepAt firstEdition (r .n) (now (r .plan)) (r .at)) × (zs .0 ≡ movedTo r (t .next)))))) (id⊢ 𝓤 _) $ pick ! (λ zs.
+        split ! $ move ! (1 ∷ []) $ heard ! ((t ≡ stepAt firstEdition (r .n) (now (r .plan)) (r .at)) × (zs .0 ≡ movedTo r (t .next))) (λ e′. fsplit ! $
         -- [the last value; true; the tokens and the step; lent; the way back; what plan owns; _6; …]
         move ! (2 ∷ []) $ split ! $ move ! (1 ∷ []) $ peeks ! S.the-row (Is S.the-row) (shows 𝓤 H A S.the-row) t (u′ ∷ []) (λ is′.
         -- [the step; the tokens; the last value; true; lent; the way back; what plan owns; _6; …; _5; …; …; _3; …; _2; …; _1; …; room for _0; …]
@@ -197,7 +198,7 @@ module _ {M : Type 1} (𝓤 : URA M) (H : Heap 𝓤) (A : Atoms 𝓤) (W : Given
         -- [_4; κ's left; κ's right and true; the step; true; what plan owns; _6; …; _5; …; …; _3; …; _2; …; _1; …; _0; …]
         returns ! (look ! 17 refl) $ forget ! 0 refl $ forget ! 6 refl $ forget ! 8 refl $ forget ! 11 refl $ forget ! 13 refl $ forget ! 15 refl $ forget ! 17 refl $
         move ! (17 ∷ 18 ∷ []) $ free1 ! $ move ! (15 ∷ 16 ∷ []) $ free1 ! $ move ! (13 ∷ 14 ∷ []) $ free1 ! $ move ! (11 ∷ 12 ∷ []) $ free1 ! $ move ! (0 ∷ 10 ∷ []) $ free1 ! $ move ! (7 ∷ 8 ∷ []) $ free1 ! $ move ! (5 ∷ 6 ∷ []) $ free1 ! $ free0 ! $ keep ! (0 ∷ 1 ∷ 2 ∷ 4 ∷ []) $
-        by ! (exits t u′ (e′ .0 ∙ ap (λ (y : Reader). stepAt (y .n) (now (y .plan)) (y .at)) e))))))))))))))))))))
+        by ! (exits t u′ (e′ .0 ∙ ap (λ (y : Reader). stepAt firstEdition (y .n) (now (y .plan)) (y .at)) e))))))))))))))))))))
 
 module _ {M : Type 1} (𝓤 : URA M) (H : Heap 𝓤) (A : Atoms 𝓤) (W : Given 𝓤 H A) (at-mem : Memory → SProp 𝓤) (run : Routine → Fun 𝓤) where
   step-from-walks : (C : Calls 𝓤 H) (Λ : Loops 𝓤 H) → FmC 𝓤 H (W .laws) C → Triple 𝓤 (C #reader·standing) (Stand 𝓤 H A at-mem run) → Triple 𝓤 (C #reader·Reader·step) (Step 𝓤 H A at-mem run) → Walks 𝓤 H A this.ended stayed (WpFn 𝓤 H C Λ code.function) (this.clauses 𝓤 H A at-mem run)

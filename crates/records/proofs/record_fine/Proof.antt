@@ -25,7 +25,7 @@ wide-requires : tie.Need-wide-requires
 wide-requires c κs = search needs
 
 returns-2 : tie.Need-returns-2
-returns-2 c = sym (bad-ports _ _ _ _ (λ q. c .if2 .taken (c .before .wide .ensures ∙ q)))
+returns-2 c = sym (bad-ports _ _ _ _ (λ q. c .if2 .taken (c .before .wide .ensures .0 ∙ q)))
 
 shared-slice-read-if3 : tie.Need-shared-slice-read-if3
 shared-slice-read-if3 c = search needs
@@ -55,7 +55,7 @@ returns-4 c =
     ∙ ap (λ (w : ℕ). outputsFine w n (drop 4 b)) (length-drop 4 b)
     ∙ sym (outputs-decide _ _ n b
     (λ q. c .before .before .before .before .before .before .before .if1 .left (c .before .before .before .before .before .before .before .before .hold-of .ensures ∙ q))
-    (sym (c .before .before .before .before .before .wide .ensures) ∙ c .before .before .before .before .if2 .left)
+    (sym (c .before .before .before .before .before .wide .ensures .0) ∙ c .before .before .before .before .if2 .left)
     (c .before .before .if3 .left))
 
 pub record-fine-spec : {M : Type 1} → statement M

@@ -43,6 +43,7 @@ use denote.Triple.Entry.{Vals, onEntry}
 use denote.Triple.Spec.{Meets, tripleOf}
 use denote.Triple.Table.{entered, cited}
 use denote.Triple.Walked.{says, Stays, stay-ref, walkOf, goes-ref, Walks, ends-at, walked, walk-meets}
+use Rattle.switch.specs.Editions.{firstEdition}
 use Rattle.plans.specs.Read.{stepAt}
 use Rattle.plans.specs.declared.Stepped.{Stepped}
 use Rattle.plans.proofs.Stepped as S
@@ -105,7 +106,7 @@ module _ {M : Type 1} (𝓤 : URA M) (H : Heap 𝓤) (A : Atoms 𝓤) (W : Given
   vd = (h .n, (h .plan, (h .at, tt)))
 
   abbrev found : Stepped
-  found = stepAt (h .n) (now (h .plan)) (h .at)
+  found = stepAt firstEdition (h .n) (now (h .plan)) (h .at)
 
   -- what the callee is passed
   abbrev passed : Vals stp.signature (κ′, tt)

@@ -1,0 +1,70 @@
+-- Each turn of the loop lays one output more.
+use mathlib.Core.Path.{_≡_, refl, _∙_}
+use Prim.Native.Nat.{_+_, _-_, _≤_}
+use native.Mathlib.Omega.{arith}
+use lib.ListN.{length, take, length-set, length-drop}
+use lib.Seq.{getD-drop}
+use Rattle.records.specs.Bytes.{laid}
+use Rattle.records.specs.Record.{outputs}
+use Rattle.records.proofs.Laid.{copy-none, copy-start-more, copy-whole}
+use borrow.Author.Needs.{needs}
+use Rattle.plans.proofs.copy_outputs.Statement.{statement}
+use Rattle.plans.proofs.copy_outputs.Tie as tie
+
+abbrev Inv-loop : tie.InvT-loop
+Inv-loop rec to₀ i₀ i-end to i =
+    (i ≤ length to₀) × (i-end ≡ length to₀) × (length rec ≡ length to₀ + 4) × (length to ≡ length to₀) × (to ≡ laid to₀ 0 (take i (outputs rec)))
+
+abbrev μ-loop : tie.MeasureT-loop
+μ-loop rec to₀ i₀ i-end to i = length to₀ - i
+
+loop-holds : tie.Need-loop-holds Inv-loop μ-loop
+loop-holds c = (search needs, refl, search needs, refl, copy-none _ _ (outputs (c .args .rec .now)))
+
+add-to : tie.Need-add-to Inv-loop μ-loop
+add-to c = search needs
+
+shared-slice-read-to : tie.Need-shared-slice-read-to Inv-loop μ-loop
+shared-slice-read-to c = search needs
+
+slice-write-to : tie.Need-slice-write-to Inv-loop μ-loop
+slice-write-to c = search needs
+
+add-i : tie.Need-add-i Inv-loop μ-loop
+add-i c = search needs
+
+loop-less : tie.Need-loop-less Inv-loop μ-loop
+loop-less c = search needs
+
+loop-again : tie.Need-loop-again Inv-loop μ-loop
+loop-again c =
+    let l = c .before .before .loop in
+    let s = c .before .before .before .args .rec .now in
+    let long : length (outputs s) + 4 ≡ length s = rw length-drop (omega arith) in
+    (omega arith, refl, l .inv .2, rw length-set (l .inv .3), rw (← getD-drop 4 s (l .i) 0) (copy-start-more _ (outputs s) (l .to) (l .i) (omega arith) (omega arith) (l .inv .4)))
+
+same-length : tie.Need-same-length Inv-loop μ-loop
+same-length c = c .before .loop .inv .3
+
+returns : tie.Need-returns Inv-loop μ-loop
+returns c =
+    let l = c .before .loop in
+    let s = c .before .before .args .rec .now in
+    let long : length (outputs s) + 4 ≡ length s = rw length-drop (omega arith) in
+    copy-whole _ (outputs s) (l .to) (l .i) (omega arith) (omega arith) (l .inv .4)
+
+pub copy-outputs-spec : {M : Type 1} → statement M
+copy-outputs-spec =
+    tie.close
+    (tie.spec
+    Inv-loop
+    μ-loop
+    loop-holds
+    add-to
+    shared-slice-read-to
+    slice-write-to
+    add-i
+    loop-less
+    loop-again
+    same-length
+    returns)
