@@ -14,6 +14,7 @@ from fractions import Fraction
 from typing import NamedTuple
 
 PORTS = 64  # the most inputs, and the outputs that a record has room for
+SECOND_PORTS = 128  # the most inputs of the second edition
 RECORD = 68  # bytes of a plan record: hold, N, a zero byte, the outputs
 WISH = 8  # bytes of a wish record
 IDLE = 255  # stands where an idle input's output would
@@ -446,6 +447,87 @@ def plan_length(n, plan, d):
     return Answer(records=len(records), total=total, length=total + d * moves)
 
 
+# ---- The console
+
+
+def judged(n, plan):
+    """The refusal of a whole plan or None, and its records."""
+    refused = refused_plan(n, plan)
+    return (refused, []) if refused else read_plan(n, plan)
+
+
+class Part(NamedTuple):
+    """A lookup's answer: what a refusal is about, and the bytes of a plan, 1 tonight's or 2 standby's, that are in force."""
+
+    answer: Answer
+    about: int = 0
+    plan: int = 0
+    start: int = 0
+    data: bytes = b""
+
+
+def in_force(n, tonight, standby, slot):
+    """The record at a slot, holds alone counted: tonight's plan once, then the standby plan over and over."""
+    if n == 0 or n > PORTS:
+        return Part(Answer(1))
+    plans = []
+    for about, plan in ((1, tonight), (2, standby)):
+        refused, records = judged(n, plan)
+        if refused:
+            return Part(refused, about)
+        plans.append((about, plan, records))
+    for which, plan, records in plans:
+        length = total_hold(records)
+        if which == 2 and length:
+            slot %= length
+        if slot < length:
+            k = held_at(records, slot)
+            return Part(Answer(), 0, which, k * RECORD, plan[k * RECORD : (k + 1) * RECORD])
+        slot -= length
+    return Part(Answer(14))
+
+
+def held_at(records, slot):
+    """The number of the record that is held at a slot before their total."""
+    ends = itertools.accumulate(hold for hold, _ in records)
+    return next(k for k, end in enumerate(ends) if slot < end)
+
+
+def carry_over(n, asked, plan, first, wished, cells):
+    """The answer, what it is about, and the lent cells afterwards."""
+    if n == 0 or n > PORTS:
+        return Answer(1), 0, cells
+    if any(len(lent) != n * n for lent in (asked, wished, cells)):
+        return Answer(2, n * n), 0, cells
+    refused, records = judged(n, plan)
+    if refused:
+        return refused, 3, cells
+    if first > len(records):
+        return Answer(15, len(records)), 0, cells
+    granted = grants(n, records[:first])
+    new = [max(a - g, 0) + w for a, g, w in zip(asked, granted, wished)]
+    for about, lines in ((4, asked), (5, wished), (6, new)):
+        refused = refused_demand(n, lines)
+        if refused:
+            return refused, about, cells
+    return Answer(), 0, new
+
+
+# ---- The room beforehand
+
+
+def sufficient(planner, ports, n, longest):
+    """How many records always suffice for a switch of n ports, of at most `ports`, and a T that no demand is known of."""
+    if n == 0 or n > ports:
+        return Answer(1)
+    if longest > LINE:
+        return Answer(3)
+    if planner == "quick" and longest > QUICK:
+        return Answer(4)
+    suffice = {"exact": min(longest, (n - 1) ** 2 + 1), "doubled": 2 * n, "quick": max(2 * longest - 1, 0)}
+    return Answer(records=suffice[planner])
+
+
 # ---- Joining
 
 
@@ -646,9 +728,9 @@ def laws(n, cells):
     same("exact grants the filled demand", grants(n, exact), filled)
     same("exact total", total_hold(exact), longest)
     same("exact empty slots", empty_slots(n, cells, exact), n * longest - asked)
-    same("exact records", len(exact) <= min(longest, n * n - 2 * n + 2), True)
+    same("exact records", len(exact) <= sufficient("exact", PORTS, n, longest).records, True)
     for plan in (doubled, every):
-        same("doubled records", len(plan) <= 2 * n, True)
+        same("doubled records", len(plan) <= sufficient("doubled", PORTS, n, longest).records, True)
         same("doubled total", total_hold(plan) <= max(0, 2 * longest - 1), True)
         same("doubled empty slots", empty_slots(n, cells, plan), n * total_hold(plan) - asked)
     same("quick records", longest <= len(quick) <= max(0, 2 * longest - 1), True)
@@ -685,6 +767,24 @@ def join_laws(rng, n):
     same("the joined plan reads back", read_plan(n, written[:-5]), (None, joined))
     same("the tail", written[-5:], room[-5:])
     same("joined again", join_plan(n, written[:-5], room), (answer, written))
+
+
+def console_laws(rng, n):
+    """What §23 promises of two random plans, slot by slot, and of a batch that is stopped after each of its records."""
+    plans = [[(rng.randint(1, 4), rng.sample(range(n), n)) for _ in range(rng.randint(0, 4))] for _ in range(2)]
+    tonight, standby = (b"".join(record_bytes(hold, n, outputs) for hold, outputs in plan) for plan in plans)
+    night, over = ([(which, k * RECORD) for k, (hold, _) in enumerate(plan) for _ in range(hold)] for which, plan in enumerate(plans, 1))
+    for slot in range(len(night) + 2 * len(over) + 2):
+        part = in_force(n, tonight, standby, slot)
+        after = [over[(slot - len(night)) % len(over)]] if over else []
+        same("in force", [(part.plan, part.start)] if part.data else [], night[slot : slot + 1] or after)
+        same("nothing in force", part.answer.code, 0 if part.data else 14)
+    asked, wished = random_demand(rng, n, 9, 0.7), random_demand(rng, n, 9, 0.3)
+    for first in range(len(plans[0]) + 1):
+        answer, about, new = carry_over(n, asked, tonight, first, wished, [7] * (n * n))
+        useful = [min(pair) for pair in zip(asked, grants(n, plans[0][:first]))]
+        same("carried", (answer, about), (Answer(), 0))
+        same("the books balance", [a + w for a, w in zip(asked, wished)], [c + u for c, u in zip(new, useful)])
 
 
 def grating_laws(n, cells):
@@ -725,6 +825,7 @@ def selftest():
         grating_laws(n, cells)
     for _ in range(400):
         join_laws(rng, rng.choice([1, 2, 3, 5, 8, 64]))
+        console_laws(rng, rng.choice([1, 2, 3, 5, 8, 64]))
     print("the examples, the edges and the laws on 402 demands and 400 plans hold")
 
 

@@ -13,15 +13,10 @@ pub fn check(n: usize, laid: &[u8], count: usize)
     let mut cells = [0u32; CELLS];
     let split = tape::within(tape::CELL * count, laid);
     let lent = tape::load_cells(&laid[..split], &mut cells);
-    answer(checker::check_plan(n, &cells[..lent], &laid[split..]));
+    show::line(checker::check_plan(n, &cells[..lent], &laid[split..]));
 }
 
 // The length of the plan that is laid.
 pub fn length(n: usize, plan: &[u8], d: u16) {
-    answer(length::plan_length(n, plan, d));
-}
-
-fn answer(outcome: switch::Outcome) {
-    show::answer(outcome);
-    show::text(b"\n");
+    show::line(length::plan_length(n, plan, d));
 }

@@ -33,9 +33,7 @@ pub fn report(n: usize, plan: &[u8], size: usize) {
 fn report_into(n: usize, plan: &[u8], lent: &mut [u8]) {
     tape::blank(lent);
     let outcome = wavelengths::grating_report(n, plan, lent);
-    show::answer(outcome);
-    show::sum(lent);
-    show::text(b"\n");
+    show::written(outcome, lent);
     numbers(outcome, lent);
 }
 
@@ -49,5 +47,5 @@ fn numbers(outcome: Outcome, report: &[u8]) {
     for k in 0..count {
         show::field(b" ", show::wide(report[k]));
     }
-    show::text(b"\n");
+    show::end();
 }

@@ -25,8 +25,6 @@ fn join_within(n: usize, plan: &[u8], size: usize) {
 fn join_into(n: usize, plan: &[u8], lent: &mut [u8]) {
     tape::blank(lent);
     let outcome = joining::join_plan(n, plan, lent);
-    show::answer(outcome);
-    show::sum(lent);
-    show::text(b"\n");
+    show::written(outcome, lent);
     show::plan(n, outcome, lent);
 }

@@ -3,11 +3,13 @@
 // shares nothing with the code that is run here; makers/tape.py says what each letter of a tape calls.
 // It promises that every case of any tape is run safely; that the answers are right is for the comparison.
 mod check;
+mod console;
 mod fabric;
 mod join;
 mod list;
 mod plan;
 mod record;
+mod rooms;
 mod show;
 mod tape;
 mod wished;
@@ -68,6 +70,9 @@ fn run(step: Step, laid: &[u8])
         b'b' => wished::patterns(laid),
         b's' => wished::read(step.first, laid, step.second),
         b't' => list::list(laid),
+        b'i' => console::in_force(step, laid),
+        b'c' => console::carry_over(step, laid),
+        b'm' => rooms::room(step.small, laid),
         _ => show::text(b" no such call\n"),
     }
 }

@@ -35,9 +35,7 @@ fn plan_into(letter: u8, n: usize, cells: &[u32], lent: &mut [u8])
 {
     tape::blank(lent);
     let outcome = planned(letter, n, cells, lent);
-    show::answer(outcome);
-    show::sum(lent);
-    show::text(b"\n");
+    show::written(outcome, lent);
     show::plan(n, outcome, lent);
     if letter == b'g' {
         crate::fabric::report_written(n, outcome, lent);

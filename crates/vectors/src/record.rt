@@ -10,8 +10,7 @@ const ROOM: usize = 255;
 
 // Opens a plan and makes so many steps over it, by a reader.
 pub fn read(n: usize, plan: &[u8], steps: usize) {
-    show::answer(reader::open_answer(n, plan));
-    show::text(b"\n");
+    show::line(reader::open_answer(n, plan));
     let mut at = 0;
     let mut k = 0;
     while k < steps {
@@ -33,7 +32,7 @@ fn show_step(stepped: Stepped) {
     }
     show::field(b" hold ", stepped.hold as u64);
     show::sum(&outputs);
-    show::text(b"\n");
+    show::end();
 }
 
 // Writes one record of the outputs that are laid, into as many bytes as the step's small number says.
@@ -62,7 +61,6 @@ fn outputs_of(laid: &[u8]) -> [u8; 64] {
 // Writes one record into lent bytes.
 fn write_into(hold: u16, n: usize, outputs: [u8; 64], lent: &mut [u8]) {
     tape::blank(lent);
-    show::answer(records::write_record(hold, n, &outputs, lent));
-    show::sum(lent);
-    show::text(b"\n");
+    let outcome = records::write_record(hold, n, &outputs, lent);
+    show::written(outcome, lent);
 }

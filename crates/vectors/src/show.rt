@@ -1,5 +1,6 @@
 // What is printed: the answer of a call as words and numbers, a checksum of bytes, and a short plan record by record.
 // How numbers become digits is left to `io`.
+use switch::Counts;
 use switch::Outcome;
 ghost use Prim.Native.Nat.{_+_, _≤_};
 ghost use lib.ListN.{length};
@@ -18,13 +19,30 @@ const IDLE: u8 = 255;
 // The largest prime below 2^32.
 const PRIME: u64 = 4294967291;
 
+// What a call answered, in a line.
+pub fn line(o: Outcome) {
+    answer(o);
+    end();
+}
+
+// The same with a checksum of the memory that was lent to it.
+pub fn written(o: Outcome, lent: &[u8]) {
+    answer(o);
+    sum(lent);
+    end();
+}
+
 // What a call answered: code, place, side, and its counts.
 pub fn answer(o: Outcome) {
     let told = switch::numbers_of(o);
-    let counts = told.counts;
     field(b" code ", told.code);
     field(b" place ", told.place as u64);
     side(told.side);
+    let counts = told.counts;
+    counted(counts);
+}
+
+fn counted(counts: Counts) {
     field(b" records ", counts.records as u64);
     field(b" longest ", counts.longest);
     field(b" total ", counts.total);
@@ -91,7 +109,7 @@ fn record(n: usize, bytes: &[u8])
         output(bytes[HEAD + i]);
         i += 1;
     }
-    text(b"\n");
+    end();
 }
 
 // An output, a dash where the input is idle.
@@ -103,10 +121,26 @@ fn output(byte: u8) {
     }
 }
 
+// The cells, a space before each.
+pub fn cells(slots: &[u32]) {
+    for k in 0..slots.len() {
+        cell(slots[k]);
+    }
+}
+
+fn cell(slots: u32) {
+    field(b" ", slots as u64);
+}
+
 // A word and a number.
 pub fn field(word: &[u8], number: u64) {
     text(word);
     io::print_decimal(1, number);
+}
+
+// Ends a line.
+pub fn end() {
+    text(b"\n");
 }
 
 // Words.

@@ -161,9 +161,24 @@ pub fn least(a: usize, b: usize) -> usize
     if a < b { a } else { b }
 }
 
+// Eight bytes as a number, low byte first.
+pub fn long_at(bytes: &[u8], at: usize) -> u64
+    requires { ⌜ at ≤ 8 ⌝ }
+{
+    word_at(bytes, at) + 4294967296 * word_at(bytes, at + 4)
+}
+
+// Four bytes as a number, low byte first.
+fn word_at(bytes: &[u8], at: usize) -> u64
+    requires { ⌜ at ≤ 12 ⌝ }
+    ensures { λ r. ⌜ r ≤ 4294967295 ⌝ }
+{
+    (half_at(bytes, at) + 65536 * half_at(bytes, at + 2)) as u64
+}
+
 // Two bytes as a number, low byte first.
-fn half_at(bytes: &[u8], at: usize) -> usize
-    requires { ⌜ at ≤ 6 ⌝ }
+pub fn half_at(bytes: &[u8], at: usize) -> usize
+    requires { ⌜ at ≤ 14 ⌝ }
     ensures { λ r. ⌜ r ≤ 65535 ⌝ }
 {
     wide(byte_at(bytes, at)) + 256 * wide(byte_at(bytes, at + 1))

@@ -26,7 +26,7 @@ fn pattern(bits: u32) {
     io::print_hex(STDOUT_FILENO, bits as u64, HEX_DIGITS);
     show::field(b" ", wish::code_of(wish) as u64);
     show::field(b" ", wish::slots_of(wish) as u64);
-    show::text(b"\n");
+    show::end();
 }
 
 // Reads the wish list that is laid into so many cells.
@@ -38,19 +38,7 @@ pub fn read(n: usize, list: &[u8], size: usize) {
 
 // The call's answer in a line, and the cells after it in another.
 fn read_into(n: usize, list: &[u8], cells: &mut [u32]) {
-    show::answer(wishes::wishes(n, list, cells));
-    show::text(b"\n");
-    show_cells(cells);
-    show::text(b"\n");
-}
-
-// The cells, a space before each.
-fn show_cells(cells: &[u32]) {
-    for k in 0..cells.len() {
-        show_cell(cells[k]);
-    }
-}
-
-fn show_cell(slots: u32) {
-    show::field(b" ", slots as u64);
+    show::line(wishes::wishes(n, list, cells));
+    show::cells(cells);
+    show::end();
 }

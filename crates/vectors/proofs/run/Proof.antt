@@ -1,3 +1,4 @@
+-- No call asks more of a step than that its numbers are small, as every step's are.
 use mathlib.Core.Path.{refl}
 use borrow.Author.Needs.{needs}
 use Rattle.vectors.proofs.run.Statement.{statement}
@@ -32,6 +33,15 @@ read-requires-2 c κs = tt
 
 list-requires : tie.Need-list-requires
 list-requires c κs = tt
+
+in-force-requires : tie.Need-in-force-requires
+in-force-requires c κs = search needs
+
+carry-over-requires : tie.Need-carry-over-requires
+carry-over-requires c κs = tt
+
+room-requires : tie.Need-room-requires
+room-requires c κs = tt
 
 slice-aggregate-text : tie.Need-slice-aggregate-text
 slice-aggregate-text c = refl
@@ -75,6 +85,15 @@ returns-10 c = tt
 returns-11 : tie.Need-returns-11
 returns-11 c = tt
 
+returns-12 : tie.Need-returns-12
+returns-12 c = tt
+
+returns-13 : tie.Need-returns-13
+returns-13 c = tt
+
+returns-14 : tie.Need-returns-14
+returns-14 c = tt
+
 pub run-spec : {M : Type 1} → statement M
 run-spec =
     tie.close
@@ -89,6 +108,9 @@ run-spec =
     patterns-requires
     read-requires-2
     list-requires
+    in-force-requires
+    carry-over-requires
+    room-requires
     slice-aggregate-text
     text-requires
     plan-requires
@@ -102,4 +124,7 @@ run-spec =
     returns-8
     returns-9
     returns-10
-    returns-11)
+    returns-11
+    returns-12
+    returns-13
+    returns-14)

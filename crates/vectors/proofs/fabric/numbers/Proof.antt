@@ -7,10 +7,10 @@ use Rattle.vectors.proofs.fabric.numbers.Statement.{statement}
 use Rattle.vectors.proofs.fabric.numbers.Tie as tie
 
 abbrev Inv-loop : tie.InvT-loop
-Inv-loop report records count k₀ t6 t7 k = count ≤ length report
+Inv-loop report records count k₀ t6 k = count ≤ length report
 
 abbrev μ-loop : tie.MeasureT-loop
-μ-loop report records count k₀ t6 t7 k = count - k
+μ-loop report records count k₀ t6 k = count - k
 
 numbers-of-requires : tie.Need-numbers-of-requires Inv-loop μ-loop
 numbers-of-requires c κs = tt
@@ -45,11 +45,8 @@ loop-less c = search needs
 loop-again : tie.Need-loop-again Inv-loop μ-loop
 loop-again c = search needs
 
-slice-aggregate-text : tie.Need-slice-aggregate-text Inv-loop μ-loop
-slice-aggregate-text c = refl
-
-text-requires : tie.Need-text-requires Inv-loop μ-loop
-text-requires c κs = tt
+end-requires : tie.Need-end-requires Inv-loop μ-loop
+end-requires c κs = tt
 
 returns-2 : tie.Need-returns-2 Inv-loop μ-loop
 returns-2 c = tt
@@ -71,6 +68,5 @@ numbers-spec =
     add-k
     loop-less
     loop-again
-    slice-aggregate-text
-    text-requires
+    end-requires
     returns-2)

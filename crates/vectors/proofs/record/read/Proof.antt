@@ -1,6 +1,5 @@
 -- The steps that are still to be made fall by one each turn.
 use Prim.Native.Nat.{_≤_, _-_}
-use mathlib.Core.Path.{refl}
 use borrow.Author.Needs.{needs}
 use Rattle.vectors.proofs.record.read.Statement.{statement}
 use Rattle.vectors.proofs.record.read.Tie as tie
@@ -14,14 +13,8 @@ abbrev μ-loop : tie.MeasureT-loop
 open-answer-requires : tie.Need-open-answer-requires Inv-loop μ-loop
 open-answer-requires c κs = tt
 
-answer-requires : tie.Need-answer-requires Inv-loop μ-loop
-answer-requires c κs = tt
-
-slice-aggregate-text : tie.Need-slice-aggregate-text Inv-loop μ-loop
-slice-aggregate-text c = refl
-
-text-requires : tie.Need-text-requires Inv-loop μ-loop
-text-requires c κs = tt
+line-requires : tie.Need-line-requires Inv-loop μ-loop
+line-requires c κs = tt
 
 loop-holds : tie.Need-loop-holds Inv-loop μ-loop
 loop-holds c = search needs
@@ -51,9 +44,7 @@ read-spec =
     Inv-loop
     μ-loop
     open-answer-requires
-    answer-requires
-    slice-aggregate-text
-    text-requires
+    line-requires
     loop-holds
     step-from-requires
     show-step-requires

@@ -46,11 +46,8 @@ slice-aggregate-sum c = search needs
 sum-requires : tie.Need-sum-requires
 sum-requires c κs = tt
 
-slice-aggregate-text-3 : tie.Need-slice-aggregate-text-3
-slice-aggregate-text-3 c = refl
-
-text-requires-3 : tie.Need-text-requires-3
-text-requires-3 c κs = tt
+end-requires : tie.Need-end-requires
+end-requires c κs = tt
 
 returns : tie.Need-returns
 returns c = tt
@@ -73,6 +70,5 @@ show-step-spec =
     field-requires-2
     slice-aggregate-sum
     sum-requires
-    slice-aggregate-text-3
-    text-requires-3
+    end-requires
     returns)

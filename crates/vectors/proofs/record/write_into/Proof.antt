@@ -1,4 +1,3 @@
-use mathlib.Core.Path.{refl}
 use borrow.Author.Needs.{needs}
 use Rattle.vectors.proofs.record.write_into.Statement.{statement}
 use Rattle.vectors.proofs.record.write_into.Tie as tie
@@ -9,17 +8,8 @@ blank-requires c κs = tt
 write-record-requires : tie.Need-write-record-requires
 write-record-requires c κs = tt
 
-answer-requires : tie.Need-answer-requires
-answer-requires c κs = tt
-
-sum-requires : tie.Need-sum-requires
-sum-requires c κs = tt
-
-slice-aggregate-text : tie.Need-slice-aggregate-text
-slice-aggregate-text c = refl
-
-text-requires : tie.Need-text-requires
-text-requires c κs = tt
+written-requires : tie.Need-written-requires
+written-requires c κs = tt
 
 same-length : tie.Need-same-length
 same-length c = search needs
@@ -33,9 +23,6 @@ write-into-spec =
     (tie.spec
     blank-requires
     write-record-requires
-    answer-requires
-    sum-requires
-    slice-aggregate-text
-    text-requires
+    written-requires
     same-length
     returns)

@@ -1,15 +1,14 @@
 -- Output i of a record stands at byte 4 + i, inside it for each i below n.
 use Prim.Native.Nat.{_≤_, _-_}
-use mathlib.Core.Path.{refl}
 use borrow.Author.Needs.{needs}
 use Rattle.vectors.proofs.show.record.Statement.{statement}
 use Rattle.vectors.proofs.show.record.Tie as tie
 
 abbrev Inv-loop : tie.InvT-loop
-Inv-loop n bytes i₀ t4 i = i ≤ n
+Inv-loop n bytes i₀ i = i ≤ n
 
 abbrev μ-loop : tie.MeasureT-loop
-μ-loop n bytes i₀ t4 i = n - i
+μ-loop n bytes i₀ i = n - i
 
 shared-slice-read-wide : tie.Need-shared-slice-read-wide Inv-loop μ-loop
 shared-slice-read-wide c = search needs
@@ -53,11 +52,8 @@ loop-less c = search needs
 loop-again : tie.Need-loop-again Inv-loop μ-loop
 loop-again c = search needs
 
-slice-aggregate-text : tie.Need-slice-aggregate-text Inv-loop μ-loop
-slice-aggregate-text c = refl
-
-text-requires : tie.Need-text-requires Inv-loop μ-loop
-text-requires c κs = tt
+end-requires : tie.Need-end-requires Inv-loop μ-loop
+end-requires c κs = tt
 
 returns : tie.Need-returns Inv-loop μ-loop
 returns c = tt
@@ -82,6 +78,5 @@ record-spec =
     add-i
     loop-less
     loop-again
-    slice-aggregate-text
-    text-requires
+    end-requires
     returns)
