@@ -103,7 +103,7 @@ module _ (N L : ℕ) (M M' : ℕ → ℕ → ℕ) (e : (i j : ℕ) → i < N →
   setting-cong : quietSetting N L M ≡ quietSetting N L M'
   setting-cong = setting-same N L M M' (λ i j li lj. ap (ltb 0) (e i j li lj))
 
-  pairs-cong : pairs N M ≡ pairs N M'
+  pub pairs-cong : pairs N M ≡ pairs N M'
   unfolding pairs count
   pairs-cong = sum-cong N _ _ (λ i li. sum-cong N (λ j. ind (ltb 0 (M i j))) (λ j. ind (ltb 0 (M' i j))) (λ j lj. ap (λ (x : ℕ). ind (ltb 0 x)) (e i j li lj)))
 
