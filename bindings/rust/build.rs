@@ -26,8 +26,7 @@ fn main() {
             archive.display()
         ))
     });
-    let name = [BUILT_FOR.as_bytes(), b"\0"].concat();
-    if !bytes.windows(name.len()).any(|part| part == name) {
+    if !names(&bytes).contains(&BUILT_FOR.as_bytes()) {
         refuse(&format!(
             "{} has another version than this crate: it does not have {BUILT_FOR}",
             archive.display()
@@ -36,6 +35,15 @@ fn main() {
     let folder = folder.canonicalize().expect("the archive is in it");
     println!("cargo:rustc-link-search=native={}", folder.display());
     println!("cargo:rustc-link-lib=static=chordvenus");
+}
+
+/// The names in an archive's index: behind the first member's head of 60 bytes how many there are, a number for each,
+/// and then the names, each closed by a zero byte.
+fn names(archive: &[u8]) -> Vec<&[u8]> {
+    let index = archive.get(8 + 60..).unwrap_or(&[]);
+    let count =
+        index.get(..4).map_or(0, |four| four.iter().fold(0, |sum, &byte| sum << 8 | usize::from(byte)));
+    index.get(4 + 4 * count..).unwrap_or(&[]).split(|&byte| byte == 0).take(count).collect()
 }
 
 /// The folder that cargo was started in: a build script itself is started in the package's.

@@ -70,3 +70,30 @@ pub const IN_FORCE: usize = 1_024;
 
 /// Of [`crate::carry_over`].
 pub const CARRY_OVER: usize = 20_480;
+
+/// All of them, by name.
+pub const ALL: [(&str, usize); 23] = [
+    ("VERSION", VERSION),
+    ("WISH", WISH),
+    ("WISHES", WISHES),
+    ("EXACT", EXACT),
+    ("DOUBLED", DOUBLED),
+    ("DOUBLED_EVERY_ROTATION", DOUBLED_EVERY_ROTATION),
+    ("QUICK", QUICK),
+    ("EXACT_ROOM", EXACT_ROOM),
+    ("DOUBLED_ROOM", DOUBLED_ROOM),
+    ("QUICK_ROOM", QUICK_ROOM),
+    ("SECOND_EXACT_ROOM", SECOND_EXACT_ROOM),
+    ("SECOND_DOUBLED_ROOM", SECOND_DOUBLED_ROOM),
+    ("SECOND_QUICK_ROOM", SECOND_QUICK_ROOM),
+    ("GRATING_DOUBLED", GRATING_DOUBLED),
+    ("GRATING_REPORT", GRATING_REPORT),
+    ("CHECK", CHECK),
+    ("LENGTH", LENGTH),
+    ("JOIN", JOIN),
+    ("WRITE", WRITE),
+    ("OPEN", OPEN),
+    ("STEP_AT", STEP_AT),
+    ("IN_FORCE", IN_FORCE),
+    ("CARRY_OVER", CARRY_OVER),
+];
