@@ -219,25 +219,25 @@ CV_NODISCARD uint64_t cv_version(void);
 /* What a code means, in one sentence. */
 static inline const char *cv_words(uint64_t code)
 {
-    static const char *const words[] = {
-        "Nothing was refused.",
-        "The number of ports is 0 or over the largest.",
-        "The cells lent are not as many as the ports squared.",
-        "A line sums to more than 65,535 slots.",
-        "A line sums to more than 1,024 slots, the most of the quick cover.",
-        "The result has more records than there is room for.",
-        "A wish is not a finite number.",
-        "A wish is below zero.",
-        "A wish is above 65,535.",
-        "Bytes are left over after the last whole record.",
-        "The plan has more records than are read.",
-        "A record is not well formed.",
-        "A wish names a pair that was named before.",
-        "The plan does not cover the demand.",
-        "Tonight's plan is over, and the standby plan has no records.",
-        "There are more first records than the plan has.",
-    };
-    return code < sizeof words / sizeof *words ? words[code] : "There is no such code.";
+    switch (code) {
+    case CV_DONE: return "Nothing was refused.";
+    case CV_PORTS: return "The number of ports is 0 or over the largest.";
+    case CV_CELLS: return "The cells lent are not as many as the ports squared.";
+    case CV_LINE: return "A line sums to more than 65,535 slots.";
+    case CV_LONGEST: return "A line sums to more than 1,024 slots, the most of the quick cover.";
+    case CV_ROOM: return "The result has more records than there is room for.";
+    case CV_NOT_FINITE: return "A wish is not a finite number.";
+    case CV_BELOW_ZERO: return "A wish is below zero.";
+    case CV_ABOVE_MOST: return "A wish is above 65,535.";
+    case CV_TORN: return "Bytes are left over after the last whole record.";
+    case CV_RECORDS: return "The plan has more records than are read.";
+    case CV_MALFORMED: return "A record is not well formed.";
+    case CV_NAMED: return "A wish names a pair that was named before.";
+    case CV_UNCOVERED: return "The plan does not cover the demand.";
+    case CV_NOT_IN_FORCE: return "Tonight's plan is over, and the standby plan has no records.";
+    case CV_FIRST_OVER: return "There are more first records than the plan has.";
+    default: return "There is no such code.";
+    }
 }
 
 /* ---- chordvenus-wishes: from wishes to a demand ---- */

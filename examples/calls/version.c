@@ -10,9 +10,9 @@ int main(void)
     if (cv_version() != CV_VERSION)
         return 1;
     const char *none = cv_words(UINT64_MAX);
-    uint64_t code = 0;
-    for (; strcmp(cv_words(code), none) != 0; code++)
-        printf("%" PRIu64 " %s\n", code, cv_words(code));
-    printf("%" PRIu64 " %s\n", code, none);
+    for (uint64_t code = 0; code < 64; code++)
+        if (strcmp(cv_words(code), none) != 0)
+            printf("%" PRIu64 " %s\n", code, cv_words(code));
+    printf("else %s\n", none);
     return 0;
 }

@@ -7,5 +7,5 @@ fn main() {
     for code in Code::ALL {
         println!("{} {code}", code as u64);
     }
-    println!("{} {}", Code::ALL.len(), Code::of(Code::ALL.len() as u64));
+    println!("else {}", Code::of(u64::MAX));
 }

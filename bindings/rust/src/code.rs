@@ -72,8 +72,7 @@ impl Code {
 
     /// The code with this number.
     pub fn of(number: u64) -> Code {
-        let at = usize::try_from(number).unwrap_or(usize::MAX);
-        Code::ALL.get(at).copied().unwrap_or(Code::Unknown)
+        Code::ALL.into_iter().find(|&code| code as u64 == number).unwrap_or(Code::Unknown)
     }
 
     /// What the code means, in one sentence.

@@ -7,7 +7,6 @@
 //! bytes; where a length is 0 the pointer may be null. A pointer to cells is aligned for `u32`. Memory that
 //! a call writes overlaps no other memory that it is lent, and while the call runs nobody else writes what
 //! is lent or reads what the call writes. So many bytes of stack are left as [`crate::stack`] says.
-#![allow(missing_docs)] // each call is documented where its safe function stands
 
 use core::mem::size_of;
 
@@ -44,24 +43,31 @@ pub struct Answer {
     pub about: u64,
 }
 
-/// One step of reading a plan: kind 0 a record, 1 the end, 2 a record that is not well formed.
+/// One step of reading a plan.
 #[repr(C)]
 #[derive(Clone, Copy, Debug, PartialEq, Eq)]
 pub struct RawStep {
+    /// 0 a record, 1 the end, 2 a record that is not well formed.
     pub kind: u64,
+    /// Of kind 2 the record's number, else 0.
     pub place: u64,
+    /// Of kind 0 the hold, else 0.
     pub hold: u64,
+    /// Of kind 0 the outputs by input, else all idle.
     pub outputs: [u8; 64],
 }
 
-/// Where the record in force stands: bytes start .. start + size of plan 1, tonight's, or 2, standby's;
-/// all three are 0 where the call is refused.
+/// Where the record in force stands; all is 0 where the call is refused, but for its answer.
 #[repr(C)]
 #[derive(Clone, Copy, Debug, PartialEq, Eq)]
 pub struct RawPart {
+    /// Its counts are 0.
     pub answer: Answer,
+    /// 1 tonight's plan, 2 the standby plan, 0 where the call is refused.
     pub plan: u64,
+    /// The first byte of the record in that plan.
     pub start: u64,
+    /// How many bytes it has.
     pub size: u64,
 }
 
@@ -77,16 +83,22 @@ static BUILT_FOR: unsafe extern "C" fn() -> u64 = cv_interface_1;
 
 extern "C" {
     fn cv_interface_1() -> u64;
+    /// What [`crate::version`] calls.
     #[must_use]
     pub fn cv_version() -> u64;
+    /// What [`crate::wish`] calls.
     #[must_use]
     pub fn cv_wish(bits: u32) -> Answer;
+    /// What [`crate::wishes`] calls.
     #[must_use]
     pub fn cv_wishes(n: u64, list: *const u8, list_len: usize, cells: *mut u32, cells_len: usize) -> Answer;
+    /// What [`crate::exact`] calls.
     #[must_use]
     pub fn cv_exact(n: u64, cells: *const u32, cells_len: usize, plan: *mut u8, plan_len: usize) -> Answer;
+    /// What [`crate::doubled`] calls.
     #[must_use]
     pub fn cv_doubled(n: u64, cells: *const u32, cells_len: usize, plan: *mut u8, plan_len: usize) -> Answer;
+    /// What [`crate::doubled_every_rotation`] calls.
     #[must_use]
     pub fn cv_doubled_every_rotation(
         n: u64,
@@ -95,20 +107,28 @@ extern "C" {
         plan: *mut u8,
         plan_len: usize,
     ) -> Answer;
+    /// What [`crate::quick`] calls.
     #[must_use]
     pub fn cv_quick(n: u64, cells: *const u32, cells_len: usize, plan: *mut u8, plan_len: usize) -> Answer;
+    /// What [`crate::exact_room`] calls.
     #[must_use]
     pub fn cv_exact_room(n: u64, longest: u64) -> Answer;
+    /// What [`crate::doubled_room`] calls.
     #[must_use]
     pub fn cv_doubled_room(n: u64, longest: u64) -> Answer;
+    /// What [`crate::quick_room`] calls.
     #[must_use]
     pub fn cv_quick_room(n: u64, longest: u64) -> Answer;
+    /// What [`crate::second::exact_room`] calls.
     #[must_use]
     pub fn cv2_exact_room(n: u64, longest: u64) -> Answer;
+    /// What [`crate::second::doubled_room`] calls.
     #[must_use]
     pub fn cv2_doubled_room(n: u64, longest: u64) -> Answer;
+    /// What [`crate::second::quick_room`] calls.
     #[must_use]
     pub fn cv2_quick_room(n: u64, longest: u64) -> Answer;
+    /// What [`crate::grating_doubled`] calls.
     #[must_use]
     pub fn cv_grating_doubled(
         n: u64,
@@ -117,6 +137,7 @@ extern "C" {
         plan: *mut u8,
         plan_len: usize,
     ) -> Answer;
+    /// What [`crate::grating_report`] calls.
     #[must_use]
     pub fn cv_grating_report(
         n: u64,
@@ -125,18 +146,25 @@ extern "C" {
         report: *mut u8,
         report_len: usize,
     ) -> Answer;
+    /// What [`crate::check`] calls.
     #[must_use]
     pub fn cv_check(n: u64, cells: *const u32, cells_len: usize, plan: *const u8, plan_len: usize) -> Answer;
+    /// What [`crate::length`] calls.
     #[must_use]
     pub fn cv_length(n: u64, plan: *const u8, plan_len: usize, d: u16) -> Answer;
+    /// What [`crate::join`] calls.
     #[must_use]
     pub fn cv_join(n: u64, plan: *const u8, plan_len: usize, joined: *mut u8, joined_len: usize) -> Answer;
+    /// What [`crate::write`] calls.
     #[must_use]
     pub fn cv_write(hold: u16, n: u64, outputs: *const u8, plan: *mut u8, plan_len: usize) -> Answer;
+    /// What [`crate::open`] calls.
     #[must_use]
     pub fn cv_open(n: u64, plan: *const u8, plan_len: usize) -> Answer;
+    /// What [`crate::step_at`] calls.
     #[must_use]
     pub fn cv_step_at(n: u64, plan: *const u8, plan_len: usize, at: u64) -> RawStep;
+    /// What [`crate::in_force`] calls.
     #[must_use]
     pub fn cv_in_force(
         n: u64,
@@ -146,6 +174,7 @@ extern "C" {
         standby_len: usize,
         slot: u64,
     ) -> RawPart;
+    /// What [`crate::carry_over`] calls.
     #[must_use]
     pub fn cv_carry_over(
         n: u64,
