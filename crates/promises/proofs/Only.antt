@@ -71,7 +71,9 @@ pub step-one-answer : (E : Edition) (N : ℕ) (plan : List ℕ) (at : ℕ) → O
 step-one-answer E N plan at = one _
 
 pub step-second-one-answer : (N : ℕ) (plan : List ℕ) (at : ℕ) → OneAnswer (call.StepSecond N plan at)
-step-second-one-answer N plan at a b p q = cc (one _ (ofSecond a) (ofSecond b) p q)
+step-second-one-answer N plan at a b p q =
+    let e : ofSecond a ≡ ofSecond b = one _ (ofSecond a) (ofSecond b) p q in
+    λ i. record { step = e i .step; hold = e i .hold; outputs = e i .outputs; next = e i .next }
 
 -- a reader and the step that it takes
 pub reader-one-answer : (N : ℕ) (plan : RefT (List ℕ)) → OneAnswer (call.OpenReader N plan)
@@ -159,7 +161,7 @@ pub cv-join-one-result : (N : ℕ) (plan buf : List ℕ) → OneResult (call.CvJ
 cv-join-one-result N plan buf = crosses-one-result _
 
 pub cv-write-one-result : (hold N : ℕ) (outputs buf : List ℕ) → OneResult (call.CvWrite hold N outputs buf)
-cv-write-one-result E hold N outputs buf = crosses-one-result _
+cv-write-one-result hold N outputs buf = crosses-one-result _
 
 pub cv-open-one-answer : (N : ℕ) (plan : List ℕ) → OneAnswer (call.CvOpen N plan)
 cv-open-one-answer N plan = one _
