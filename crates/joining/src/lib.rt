@@ -24,9 +24,9 @@ const MOST: usize = 65535;
 pub fn join_plan(n: usize, plan: &[u8], joined: &mut [u8]) -> Outcome
     ensures { λ r. ⌜ Gives (joining firstEdition n (now (plan .entry)) (now (joined .entry))) r (now (joined .exit)) ⌝ }
 {
-    let mut heads = [0u32; settings::BUCKETS];
-    let mut nexts = [0u32; switch::RECORDS];
-    let mut firsts = [0u32; switch::RECORDS];
+    let mut heads = [0u16; settings::BUCKETS];
+    let mut nexts = [0u16; switch::RECORDS];
+    let mut firsts = [0u16; switch::RECORDS];
     let mut totals = [0u32; switch::RECORDS];
     join_for(
         n,
@@ -40,18 +40,19 @@ pub fn join_plan(n: usize, plan: &[u8], joined: &mut [u8]) -> Outcome
     )
 }
 
-// Joins a plan of an edition. The table of settings is lent: an entry for each record that there may be, and its chains empty.
+// Joins a plan of an edition, whose records have numbers of 16 bits. The table of settings is lent: an entry for each record that there
+// may be, and its chains empty.
 pub fn join_for(
     n: usize,
     plan: &[u8],
     e: Edition,
-    heads: &mut [u32],
-    nexts: &mut [u32],
-    firsts: &mut [u32],
+    heads: &mut [u16],
+    nexts: &mut [u16],
+    firsts: &mut [u16],
     totals: &mut [u32],
     buffer: &mut [u8],
 ) -> Outcome
-    requires { ⌜ Bounded e × Empty (now heads) × Roomy (e .records) (now nexts) (now firsts) (now totals) ⌝ }
+    requires { ⌜ Bounded e × Empty (now heads) × Roomy (e .records) (now nexts) (now firsts) (now totals) × (e .records < 65536) ⌝ }
     ensures { λ r. ⌜ Gives (joining e n (now (plan .entry)) (now (buffer .entry))) r (now (buffer .exit)) ⌝ }
 {
     let checked = plans::check_plan(n, plan, e);
@@ -91,7 +92,7 @@ fn lay_sums(
     plan: &[u8],
     width: usize,
     edition: u8,
-    firsts: &[u32],
+    firsts: &[u16],
     totals: &[u32],
     count: usize,
     buffer: &mut [u8],
@@ -101,7 +102,7 @@ fn lay_sums(
 {
     let mut at: usize = 0;
     for e in 0..count {
-        let setting = settings::setting_at(plan, width, wide(firsts[e]));
+        let setting = settings::setting_at(plan, width, settings::wide(firsts[e]));
         at = lay_sum(n, edition, setting, wide(totals[e]), buffer, at);
     }
 }

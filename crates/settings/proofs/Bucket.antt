@@ -1,17 +1,11 @@
--- Stirring in one output more leaves the rest to stir; and a stirred number has 32 bits, so its upper 14 name one of 16,384 buckets.
-use mathlib.Core.Path.{_≡_, sym, ap, _∙_}
+-- Stirring goes on by one eight of outputs at a time, as the definition does.
+use mathlib.Core.Path.{_≡_, ap, _∙_}
 use mathlib.Core.List.{List}
-use Prim.Native.Nat.{ℕ, _+_, _*_, _/_, _%_, _<_, _≤_}
+use Prim.Native.Nat.{ℕ, _+_, _*_}
 use native.Mathlib.Numerals.{add-one}
-use lib.ListN.{length, getD, drop, drop-of-length-le}
-use lib.Seq.{drop-cons}
-use Rattle.settings.specs.Table.{stirred, bucketOf}
+use lib.Bits.{bitXor}
+use Rattle.settings.specs.Table.{word, stir, stirred}
 
-module _ (o : List ℕ) where
-  pub stir-more : (h i : ℕ) → i < length o → stirred h (drop i o) ≡ stirred ((h + getD o i 0) * 2654435761 % 4294967296) (drop (i + 1) o)
-  unfolding stirred
-  stir-more h i l = rw (add-one, drop-cons o i 0 l)
-
-  pub stir-end : (h i : ℕ) → length o ≤ i → stirred 0 o ≡ stirred h (drop i o) → h / 262144 ≡ bucketOf o
-  unfolding stirred bucketOf
-  stir-end h i l e = ap (λ (x : ℕ). x / 262144) (sym (e ∙ ap (stirred h) (drop-of-length-le o {i = i} l)))
+pub stir-next : (o : List ℕ) (k h w x : ℕ) → h ≡ stirred o k → w ≡ word o (8 * k) → x ≡ stir (bitXor h w) → x ≡ stirred o (k + 1)
+unfolding stirred
+stir-next o k h w x e f g = rw add-one (g ∙ ap (λ (y : ℕ). stir (bitXor y w)) e ∙ ap (λ (y : ℕ). stir (bitXor (stirred o k) y)) f)

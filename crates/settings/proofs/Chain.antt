@@ -11,7 +11,7 @@ use lib.ListN.{getD}
 use borrow.Author.Tests.{eq-eqb, ne-eqb}
 use Rattle.records.specs.Record.{outputs}
 use Rattle.records.specs.Bytes.{recordAt}
-use Rattle.settings.specs.Table.{entrySetting, bucketOf, lastIn, entryBucket, Chained, Found}
+use Rattle.settings.specs.Table.{entrySetting, buckets, bucketOf, lastIn, entryBucket, Chained, Found}
 
 -- ---- the last entry of a bucket
 
@@ -68,7 +68,7 @@ pub record Looking (W : ℕ) (plan : List ℕ) (count : ℕ) (firsts setting : L
   pub passed : (i : ℕ) → link ≤ i → i < count → entrySetting W plan firsts i ≡ setting → ⊥
 
 module _ (W : ℕ) (plan : List ℕ) (count : ℕ) (heads nexts firsts setting : List ℕ) (c : Chained W plan count heads nexts firsts) where
-  pub look-first : (b link : ℕ) → b ≡ bucketOf setting → b < 16384 → link ≡ getD heads b 0 → Looking W plan count firsts setting link
+  pub look-first : (b link : ℕ) → b ≡ bucketOf setting → b < buckets → link ≡ getD heads b 0 → Looking W plan count firsts setting link
   look-first b link s l q =
       let e : link ≡ lastIn (entryBucket W plan firsts) b count = q ∙ c .head b l in
       let t = last-is (entryBucket W plan firsts) b count in record {

@@ -15,7 +15,7 @@ use Rattle.records.specs.Record.{hold, outputs, decoded}
 use Rattle.records.specs.Bytes.{recordAt, whole, planFrom}
 use Rattle.plans.proofs.Plans.{plan-next}
 use Rattle.settings.specs.Sums.{addHold, sumsOnto, sums, settingAt}
-use Rattle.settings.specs.Table.{entrySetting, entriesFrom, Listed, Roomy, bucketOf, lastIn, entryBucket, Chained, Empty}
+use Rattle.settings.specs.Table.{entrySetting, entriesFrom, Listed, Roomy, buckets, bucketOf, lastIn, entryBucket, Chained, Empty}
 use Rattle.settings.proofs.Sums.{add-at, add-new, sums-next, sums-summed, distinct}
 use Rattle.settings.proofs.Chain.{last-here, last-before, last-cong}
 use Rattle.settings.proofs.Entries.{entry, entries-length, entry-at, entries-next, entries-same, entries-set}
@@ -34,7 +34,7 @@ unfolding lastIn
 chained-none W plan heads nexts firsts e = record { room = e .room; inside = λ i l. absurd (not-suc-le-zero l); head = λ b _. e .clear b; next = λ i l. absurd (not-suc-le-zero l) }
 
 -- new arrays: every chain is empty, and there is room for as many entries as they are long
-pub empty-zeros : (m : ℕ) → 16384 ≤ m → Empty (replicate m 0)
+pub empty-zeros : (m : ℕ) → buckets ≤ m → Empty (replicate m 0)
 empty-zeros m l = record {
   room = omega (arith, length-replicate {A = ℕ} m 0);
   clear = λ k. dite (decLt k m) (getD-replicate m k 0 0) (λ g. List·getD-eq-default (replicate m 0) 0 (omega (arith, g, length-replicate {A = ℕ} m 0)));
@@ -133,7 +133,7 @@ module _ (W : ℕ) (plan : List ℕ) (k count : ℕ) (firsts totals : List ℕ) 
       }
 
       -- the chains
-      module _ (heads nexts : List ℕ) (c : Chained W plan count heads nexts firsts) (rn : count < length nexts) (b : ℕ) (is : b ≡ bucketOf (outputs (recordAt W plan k))) (lb : b < 16384) where
+      module _ (heads nexts : List ℕ) (c : Chained W plan count heads nexts firsts) (rn : count < length nexts) (b : ℕ) (is : b ≡ bucketOf (outputs (recordAt W plan k))) (lb : b < buckets) where
         bucket-old : (i : ℕ) → i < count → entryBucket W plan firsts' i ≡ entryBucket W plan firsts i
         bucket-old i l = ap (λ (j : ℕ). bucketOf (outputs (recordAt W plan j))) (first-old i l)
 

@@ -1,10 +1,13 @@
 -- Comparing outputs one after the other tells whether two settings are the same, by induction on the first.
 use mathlib.Core.Path.{_≡_, refl, sym, ap, ap₂, _∙_}
-use mathlib.Core.Bool.{Bool, true, false}
+use mathlib.Core.Bool.{Bool, true, false, _&&_}
 use mathlib.Core.List.{List, [], _∷_}
-use Prim.Native.Nat.{ℕ}
+use Prim.Native.Nat.{ℕ, _+_, _<_, _≤_}
+use native.Mathlib.Numerals.{add-one}
 use native.Mathlib.Omega.{arith}
 use lib.Dec.{eqb}
+use lib.ListN.{length, getD, drop, drop-of-length-le}
+use lib.Seq.{drop-cons}
 use borrow.Author.Tests.{eqb-true, eq-eqb}
 use Rattle.settings.specs.Sums.{sameOutputs}
 use Rattle.records.proofs.Every.{and-l, and-r}
@@ -39,6 +42,26 @@ same-no a b n = by (sameOutputs a b) refl
     by : (t : Bool) → sameOutputs a b ≡ t → sameOutputs a b ≡ false
     by true q = absurd (n (same-true a b q))
     by false q = q
+
+-- the outputs from i on: the same at i, and from i + 1 on
+same-next : (a b : List ℕ) (i : ℕ) → i < length a → i < length b
+    → sameOutputs (drop i a) (drop i b) ≡ (eqb (getD a i 0) (getD b i 0) && sameOutputs (drop (i + 1) a) (drop (i + 1) b))
+unfolding sameOutputs
+same-next a b i l m = rw (add-one, drop-cons a i 0 l, drop-cons b i 0 m)
+
+same-end : (a b : List ℕ) (i : ℕ) → length a ≤ i → length b ≤ i → sameOutputs (drop i a) (drop i b) ≡ true
+same-end a b i l m = rw (drop-of-length-le a {i = i} l, drop-of-length-le b {i = i} m) (same-self [])
+
+-- the outputs below i are the same, or not, and so those below i + 1; and all of them
+module _ (a b : List ℕ) (i : ℕ) where
+  pub same-more : (t : Bool) → i < length a → i < length b → sameOutputs a b ≡ (t && sameOutputs (drop i a) (drop i b))
+      → sameOutputs a b ≡ ((t && eqb (getD a i 0) (getD b i 0)) && sameOutputs (drop (i + 1) a) (drop (i + 1) b))
+  same-more true l m e = e ∙ same-next a b i l m
+  same-more false l m e = e
+
+  pub same-all : (t : Bool) → length a ≤ i → length b ≤ i → sameOutputs a b ≡ (t && sameOutputs (drop i a) (drop i b)) → t ≡ sameOutputs a b
+  same-all true l m e = sym (e ∙ same-end a b i l m)
+  same-all false l m e = sym e
 
 pub told-same : (a b : List ℕ) (t : Bool) → t ≡ sameOutputs a b → t ≡ true → a ≡ b
 told-same a b t e q = same-true a b (sym e ∙ q)

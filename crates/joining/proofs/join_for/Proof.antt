@@ -24,7 +24,7 @@ sum-up-requires : tie.Need-sum-up-requires
 sum-up-requires c κs =
     let p = c .before .before .before .before .before .before .before .before .before .before .before .before .before .before .pre in
     let m = records-few _ _ _ (c .before .before .before .before .before .before .before .before .before .before .before .before .before .before .args .buffer .now) (p .0) _ (sym (c .before .before .before .before .before .checked .given .1) ∙ c .before .before .before .before .before .before .before .check-plan .ensures) in
-    (p .0 .width, records-whole _ _ _ (c .before .before .before .before .before .before .before .before .before .before .before .before .before .before .args .buffer .now) (p .0) _ (sym (c .before .before .before .before .before .checked .given .1) ∙ c .before .before .before .before .before .before .before .check-plan .ensures), m .0, p .1, record { links = omega (arith, m .1, p .2 .links); records = omega (arith, m .1, p .2 .records); sums = omega (arith, m .1, p .2 .sums) })
+    (p .0 .width, records-whole _ _ _ (c .before .before .before .before .before .before .before .before .before .before .before .before .before .before .args .buffer .now) (p .0) _ (sym (c .before .before .before .before .before .checked .given .1) ∙ c .before .before .before .before .before .before .before .check-plan .ensures), omega (arith, m .1, p .3), p .1, record { links = omega (arith, m .1, p .2 .links); records = omega (arith, m .1, p .2 .records); sums = omega (arith, m .1, p .2 .sums) })
 
 count-pieces-requires : tie.Need-count-pieces-requires
 count-pieces-requires c κs =

@@ -26,7 +26,7 @@ slice-aggregate-join-for-4 : tie.Need-slice-aggregate-join-for-4
 slice-aggregate-join-for-4 c = search needs
 
 join-for-requires : tie.Need-join-for-requires
-join-for-requires c κs = rw (c .before .before .before .before .before .first-edition .ensures) (first-bounded, empty-zeros 16384 (omega arith), roomy-zeros 8192)
+join-for-requires c κs = rw (c .before .before .before .before .before .first-edition .ensures) (first-bounded, empty-zeros 8192 (omega arith), roomy-zeros 8192, omega arith)
 
 same-length : tie.Need-same-length
 same-length c = search needs

@@ -1,48 +1,53 @@
--- Each turn stirs one output more into a number that stays below 2^32.
-use mathlib.Core.Path.{_≡_, refl, _∙_}
-use Prim.Native.Nat.{_-_, _≤_, _<_}
+-- Each turn stirs eight outputs more into a number of 64 bits, whose upper 13 name the bucket.
+use mathlib.Core.Path.{_≡_, refl, ap, _∙_}
+use Prim.Native.Nat.{ℕ, _/_, _-_, _≤_}
 use native.Mathlib.Omega.{arith}
-use lib.ListN.{length, drop}
-use Rattle.settings.specs.Table.{stirred}
-use Rattle.settings.proofs.Bucket.{stir-more, stir-end}
+use lib.ListN.{length}
+use Rattle.settings.specs.Table.{stirred, stir, bucketOf}
+use Rattle.settings.proofs.Bucket.{stir-next}
 use borrow.Author.Needs.{needs}
 use Rattle.settings.proofs.bucket_of.Statement.{statement}
 use Rattle.settings.proofs.bucket_of.Tie as tie
 
 abbrev Inv-loop : tie.InvT-loop
-Inv-loop setting h₀ i₀ i-end h i = (i ≤ length setting) × (i-end ≡ length setting) × (h < 4294967296) × (stirred 0 setting ≡ stirred h (drop i setting))
+Inv-loop setting words h₀ k₀ h k = (k ≤ words) × (words ≡ length setting / 8) × (h ≡ stirred setting k)
 
 abbrev μ-loop : tie.MeasureT-loop
-μ-loop setting h₀ i₀ i-end h i = length setting - i
+μ-loop setting words h₀ k₀ h k = words - k
 
 loop-holds : tie.Need-loop-holds Inv-loop μ-loop
-loop-holds c = (search needs, refl, omega arith, refl)
+unfolding stirred
+loop-holds c = (omega arith, refl, refl)
 
-shared-slice-read-h : tie.Need-shared-slice-read-h Inv-loop μ-loop
-shared-slice-read-h c = search needs
+mul-word-at : tie.Need-mul-word-at Inv-loop μ-loop
+mul-word-at c = search needs
 
-cast-h : tie.Need-cast-h Inv-loop μ-loop
-cast-h c = omega (arith, c .shared-slice-known .given (c .before .before .loop .i))
+word-at-requires : tie.Need-word-at-requires Inv-loop μ-loop
+word-at-requires c κs = search needs
 
-add-h : tie.Need-add-h Inv-loop μ-loop
-add-h c = omega (arith, c .shared-slice-known .given (c .before .before .loop .i))
+stir-requires : tie.Need-stir-requires Inv-loop μ-loop
+stir-requires c κs = search needs
 
-mul-h : tie.Need-mul-h Inv-loop μ-loop
-mul-h c = omega (arith, c .shared-slice-known .given (c .before .before .loop .i))
-
-add-i : tie.Need-add-i Inv-loop μ-loop
-add-i c = search needs
+add-k : tie.Need-add-k Inv-loop μ-loop
+add-k c = search needs
 
 loop-less : tie.Need-loop-less Inv-loop μ-loop
 loop-less c = search needs
 
 loop-again : tie.Need-loop-again Inv-loop μ-loop
 loop-again c =
-    let l = c .before .before .loop in
-    (omega arith, refl, omega arith, l .inv .3 ∙ stir-more (c .before .before .before .args .setting .now) (l .h) (l .i) (omega arith))
+    let l = c .before .before .before .loop in
+    (omega arith, refl, stir-next _ (l .k) (l .h) (c .before .word-at .result) _ (l .inv .2) (c .before .word-at .ensures) (c .stir .ensures))
+
+stir-requires-2 : tie.Need-stir-requires-2 Inv-loop μ-loop
+stir-requires-2 c κs = search needs
 
 returns : tie.Need-returns Inv-loop μ-loop
-returns c = (stir-end (c .before .before .args .setting .now) (c .before .loop .h) (c .before .loop .i) (omega arith) (c .before .loop .inv .3), omega arith)
+unfolding bucketOf
+returns c =
+    let l = c .before .before .loop in
+    let all : l .k ≡ length (c .before .before .before .before .args .setting .now) / 8 = omega (arith, l .inv .0, l .inv .1, c .before .loop-test .left) in
+    (ap (λ (x : ℕ). x / 2251799813685248) (c .stir2 .ensures ∙ ap stir (l .inv .2 ∙ ap (stirred _) all)), omega arith)
 
 pub bucket-of-spec : {M : Type 1} → statement M
 bucket-of-spec =
@@ -51,11 +56,11 @@ bucket-of-spec =
     Inv-loop
     μ-loop
     loop-holds
-    shared-slice-read-h
-    cast-h
-    add-h
-    mul-h
-    add-i
+    mul-word-at
+    word-at-requires
+    stir-requires
+    add-k
     loop-less
     loop-again
+    stir-requires-2
     returns)

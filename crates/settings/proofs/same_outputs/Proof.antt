@@ -1,35 +1,29 @@
--- Lists of one length are the same where they have the same element everywhere.
-use mathlib.Core.Path.{_≡_, refl, sym, ap}
-use mathlib.Core.List.{List}
-use Prim.Native.Nat.{ℕ, _-_, _≤_, _<_}
+-- What is left to compare decides, where what is passed is the same.
+use mathlib.Core.Path.{_≡_, refl}
+use mathlib.Core.Bool.{_&&_}
+use Prim.Native.Nat.{_-_, _≤_}
 use native.Mathlib.Omega.{arith}
-use borrow.Author.Count.{below-none, below-more}
-use lib.ListN.{length, getD}
-use lib.Seq.{ext-getD}
-use Rattle.settings.proofs.Same.{same-yes, same-no}
+use lib.ListN.{length, drop}
+use Rattle.settings.specs.Sums.{sameOutputs}
+use Rattle.settings.proofs.Same.{same-more, same-all}
 use borrow.Author.Needs.{needs}
 use Rattle.settings.proofs.same_outputs.Statement.{statement}
 use Rattle.settings.proofs.same_outputs.Tie as tie
 
 abbrev Inv-loop : tie.InvT-loop
-Inv-loop a b i₀ i-end i = (i ≤ length a) × (i-end ≡ length a) × ((k : ℕ) → k < i → getD a k 0 ≡ getD b k 0)
+Inv-loop a b same₀ i₀ i-end same i = (i ≤ length a) × (i-end ≡ length a) × (sameOutputs a b ≡ (same && sameOutputs (drop i a) (drop i b)))
 
 abbrev μ-loop : tie.MeasureT-loop
-μ-loop a b i₀ i-end i = length a - i
+μ-loop a b same₀ i₀ i-end same i = length a - i
 
 loop-holds : tie.Need-loop-holds Inv-loop μ-loop
-loop-holds c = (search needs, refl, below-none _)
+loop-holds c = (search needs, refl, refl)
 
-shared-slice-read-if1 : tie.Need-shared-slice-read-if1 Inv-loop μ-loop
-shared-slice-read-if1 c = search needs
+shared-slice-read-same : tie.Need-shared-slice-read-same Inv-loop μ-loop
+shared-slice-read-same c = search needs
 
-shared-slice-read-if1-2 : tie.Need-shared-slice-read-if1-2 Inv-loop μ-loop
-shared-slice-read-if1-2 c = search needs
-
-returns : tie.Need-returns Inv-loop μ-loop
-returns c =
-    let l = c .before .before .before .before .loop in
-    sym (same-no _ _ (λ e. c .if1 .taken (ap (λ (x : List ℕ). getD x (l .i) 0) e)))
+shared-slice-read-same-2 : tie.Need-shared-slice-read-same-2 Inv-loop μ-loop
+shared-slice-read-same-2 c = search needs
 
 add-i : tie.Need-add-i Inv-loop μ-loop
 add-i c = search needs
@@ -39,13 +33,11 @@ loop-less c = search needs
 
 loop-again : tie.Need-loop-again Inv-loop μ-loop
 loop-again c =
-    let l = c .before .before .before .before .loop in
-    (omega arith, refl, below-more _ _ (l .inv .2) (c .if1 .left))
+    let l = c .before .before .before .loop in
+    (omega arith, refl, same-more _ _ (l .i) (l .same) (omega arith) (omega (arith, c .before .before .before .before .pre)) (l .inv .2))
 
-returns-2 : tie.Need-returns-2 Inv-loop μ-loop
-returns-2 c =
-    let l = c .before .loop in
-    sym (same-yes _ _ (ext-getD 0 _ _ (c .before .before .pre) (λ i h. l .inv .2 i (omega arith))))
+returns : tie.Need-returns Inv-loop μ-loop
+returns c = let l = c .before .loop in same-all _ _ (l .i) (l .same) (omega arith) (omega (arith, c .before .before .pre)) (l .inv .2)
 
 pub same-outputs-spec : {M : Type 1} → statement M
 same-outputs-spec =
@@ -54,10 +46,9 @@ same-outputs-spec =
     Inv-loop
     μ-loop
     loop-holds
-    shared-slice-read-if1
-    shared-slice-read-if1-2
-    returns
+    shared-slice-read-same
+    shared-slice-read-same-2
     add-i
     loop-less
     loop-again
-    returns-2)
+    returns)
