@@ -57,5 +57,13 @@ from .refusals import (
     WrongCells,
 )
 from .schedules import Schedule, Task, shop
+from .texts import BadLine, read_wishes
 
-__all__ = [name for name in dir() if not name.startswith("_") and name not in ("arrays", "calls", "demands", "pictures", "plans", "refusals", "singles")]
+__all__ = [  # fmt: skip
+    "AboveMost", "BadLimit", "BadLine", "BadPorts", "BelowZero", "CallMissing", "Counts", "Demand", "Dropped",
+    "FirstOver", "InForce", "LibraryMissing", "LineTooLong", "METHODS", "Malformed", "NamedTwice", "NoListRoom",
+    "NoRoom", "NotFinite", "NothingInForce", "Plan", "Ports", "Refused", "Rescued", "Schedule", "Setting", "Task",
+    "TooLongForQuick", "TooManyRecords", "Torn", "Uncovered", "WrongCells", "carry_over", "cells", "check", "demand",
+    "in_force", "join", "least", "length", "load", "move", "of_wish_list", "picture", "plan", "read_wishes", "report",
+    "report_picture", "rescue", "room", "shop", "wish",
+]

@@ -227,16 +227,19 @@ def report(of: AnyPlan, ports: Optional[int] = None) -> Any:
 
 
 def move(of: AnyPlan, edition: AnyEdition = None, ports: Optional[int] = None) -> Plan:
-    """The same plan in the other edition, or in the one that is named. There and back gives the same bytes.
+    """The same plan in the other edition, or in the one that is named; bytes that are to be moved there are of the other.
+    There and back gives the same bytes.
 
     >>> p = plan(cells([[2, 1], [1, 2]]))
     >>> move(p).edition, len(move(p).data), move(move(p)) == p
     (2, 264, True)
     """
-    n, data, kind = _opened(of, ports, None)
+    if edition is not None and isinstance(of, Plan) and edition_for(of.ports, edition).number == of.edition:
+        return of
+    target = None if edition is None else edition_for(0, edition)
+    source = None if target is None else 3 - target.number
+    n, data, kind = _opened(of, ports, source)
     target = lib.SECOND if kind is lib.FIRST else lib.FIRST
-    if edition is not None and edition_for(n, edition) is kind:
-        return of if isinstance(of, Plan) else Plan.from_bytes(data, n, kind.number)
     memory = bytearray(len(data) // kind.size * target.size)
     called = lib.call("cv_to_second" if target is lib.SECOND else "cv_to_first")
     answer = called(n, data, len(data), lib.lent(memory), len(memory))

@@ -173,7 +173,7 @@ def wish(slots: Any) -> int:
     """
     answer = lib.call("cv_wish")(bits_of(slots))
     if answer.code:
-        raise refusals.BY_CODE[answer.code](f"the wish {slots} {_FAULTS[answer.code]}")
+        raise refusals.BY_CODE[answer.code](f"the wish {slots} {FAULTS[answer.code]}")
     return answer.total
 
 
@@ -306,7 +306,7 @@ def bad_ports(n: int, edition: Union[int, str, None]) -> refusals.BadPorts:
     return refusals.BadPorts(f"N is {n}, and {'a switch' if edition is None else 'this edition'} has 1 to {most} ports")
 
 
-_FAULTS = {6: "is no finite number", 7: "is less than 0", 8: "is more than 65,535"}
+FAULTS = {6: "is no finite number", 7: "is less than 0", 8: "is more than 65,535"}
 
 
 def _refused(answer: Any, n: int, edition: Any, records: bytes, listed: _Listed, names: Ports) -> refusals.Refused:
@@ -326,7 +326,7 @@ def _refused(answer: Any, n: int, edition: Any, records: bytes, listed: _Listed,
         before = next(b for b in range(k) if records[b * lib.WISH_SIZE :][:2] == record[:2])
         return refusals.NamedTwice(f"wish {k} names input {i} and output {j}, and so did wish {before}", k)
     slots = f", {listed.slots[k]}," if listed.slots[k] != "" else ""
-    words = f"wish {k}, from input {i} to output {j}{',' if not slots else slots} {_FAULTS[answer.code]}"
+    words = f"wish {k}, from input {i} to output {j}{',' if not slots else slots} {FAULTS[answer.code]}"
     return refusals.BY_CODE[answer.code](words, k)
 
 

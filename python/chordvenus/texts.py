@@ -12,7 +12,7 @@ from typing import Any, List, NamedTuple, Optional, Tuple, Union
 
 from . import _library as lib
 from . import refusals
-from .demands import Demand, demand, of_wish_list
+from .demands import FAULTS, Demand, demand, of_wish_list
 from .plans import File, read_bytes
 from .singles import is_number, single, value_of
 
@@ -283,7 +283,7 @@ def _placed(refused: refusals.Refused, wishes: List[Wish]) -> refusals.Refused:
         before = next(w for w in wishes if (w.input.text, w.output.text) == pair or _same_ports(w, wish))
         words = f"input {pair[0]} and output {pair[1]} are named before, on line {before.line}"
     elif refused.code != 11:
-        words = f"the wish {wish.slots.text[:40]}{words[words.rindex(',') + 1 :]}"
+        words = f"the wish {wish.slots.text[:40]} {FAULTS[refused.code]}"
     else:
         words = words.split(", ", 1)[1]
     placed = type(refused)(words, refused.place, refused.side, refused.about)

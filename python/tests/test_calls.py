@@ -428,8 +428,8 @@ class Compared(unittest.TestCase):
             data = cases.plan(rng, source, n)
             if k % 4:
                 answer, moved = more.moved(FIRST, source, target, n, data, bytes(len(data) // source.RECORD * target.RECORD))
-                got, told = tried(self.read_move, data, n, edition(source)) if answer.get("code") != 11 else (None, answer)
-                self.same(told, answer if answer.get("code") else {}, n, data)
+                got, told = tried(cv.move, data, edition(target), n)
+                self.same(told, numbers(answer) if answer.get("code") else {}, n, data)
                 if not answer.get("code"):
                     self.same((got.data, got.total, got.edition), (moved, answer.get("total", 0), edition(target)), n, data)
             else:
@@ -440,11 +440,6 @@ class Compared(unittest.TestCase):
             return answer.get("code", 0)
 
         self.compare(name, one, 17)
-
-    @staticmethod
-    def read_move(data, n, edition):
-        whole = cv.Plan.from_bytes(data, n, edition) if 0 < n <= 64 else None
-        return cv.move(whole if whole is not None else data, ports=n)
 
     def test_to_second(self):
         self.moves("cv_to_second", FIRST, SECOND)
