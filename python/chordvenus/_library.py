@@ -120,7 +120,7 @@ def candidates() -> List[str]:
         return [named]
     here = pathlib.Path(__file__).resolve().parent
     built = here.parent.parent / "target"
-    places = [here / "libchordvenus.so", built / "shared" / "libchordvenus.so", built / "libchordvenus.so"]
+    places = [here / "libchordvenus.so", built / "staticlib" / "libchordvenus.so"]
     return [str(place) for place in places if place.exists()] + [f"libchordvenus.so.{VERSION}", "libchordvenus.so"]
 
 

@@ -17,6 +17,7 @@ COLOURS = ("#e69f00", "#56b4e9", "#009e73", "#f0e442", "#0072b2", "#d55e00", "#c
 INK, PAPER, GREY, FAINT = "#111111", "#ffffff", "#555555", "#dddddd"
 SCALES = (32, 24, 16, 12, 8, 6, 4, 3, 2, 1, 0.5, 0.25, 0.125, 0.0625, 0.03125, 0.015625, 0.0078125)  # all exact as text
 WIDEST = 960  # of the bars together
+NARROWEST = 520  # of a picture, for the words below it
 ROW, BAR = 28, 22  # from row to row, and the height of a bar
 DIGIT = 7.5  # the width of a digit, a little generous
 
@@ -152,9 +153,10 @@ def _report(of: Plan, numbers: List[int], limit: Optional[int], title: Optional[
     most = max([1, *numbers, limit if limit is not None and limit <= of.ports else 0])
     wide = next((w for w in (28, 20, 14, 8, 4, 2, 1) if w * len(numbers) <= WIDEST), 1)
     unit = max(4, min(24, 320 // most))
-    left, top = 70, 56
-    width, base = left + wide * max(1, len(numbers)) + 90, top + unit * most + 8
-    lines = _opening(max(width, 560), base + 66, title or f"{_plan_title(of)}: the most inputs on one wavelength, by record", unit)
+    left, top = 70, 74
+    width, base = left + wide * max(1, len(numbers)) + 90, top + unit * most
+    lines = _opening(max(width, NARROWEST), base + 66, title or _plan_title(of), unit)
+    lines.append('<text class="note" x="16" y="48">the most inputs on one wavelength, by record</text>')
     lines += _heights(most, unit, left, base, width - 60)
     for k, number in enumerate(numbers):
         lines += _column(k, number, limit is not None and number > limit, left + k * wide, wide, unit, base, of[k].hold)
@@ -205,7 +207,7 @@ class _Sheet:
         self.scale = next((scale for scale in SCALES if scale * total <= WIDEST), SCALES[-1])
         self.total, self.rows = total, len(labels)
         self.left, self.top = 24 + 7 * max(len(side) + 1 + len(label) for label in labels), 62
-        self.width = max(self.left + self.scale * total + 24, 620)
+        self.width = max(self.left + self.scale * total + 24, NARROWEST)
         self.lines: List[str] = []
         self.title = title
         for k, label in enumerate(labels):
@@ -271,6 +273,7 @@ class _Sheet:
 
 def _opening(width: float, height: float, title: str, scale: float) -> List[str]:
     """The first lines of a picture: its size, what it shows in words, its styles and its hatchings."""
+    width = max(width, 32 + 9 * len(title))
     hatches = [_hatch("h", FAINT)] + [_hatch(f"h{k}", _tint(colour)) for k, colour in enumerate(COLOURS)]
     return [
         f'<svg xmlns="http://www.w3.org/2000/svg" viewBox="0 0 {_n(width)} {_n(height)}" width="{_n(width)}" height="{_n(height)}" '
