@@ -25,6 +25,18 @@ LISTED = 4_096  # the bytes of a wish list that the lister reads
 LISTED_PORTS = 16  # the most ports of the lister
 
 
+class Edition(NamedTuple):
+    """The most inputs, which are the outputs that a record has room for, the bytes of a record, and its byte behind N."""
+
+    ports: int
+    record: int
+    byte: int
+
+
+FIRST = Edition(PORTS, RECORD, 0)
+SECOND = Edition(128, 132, 2)
+
+
 class Answer(NamedTuple):
     """What a call answers. What does not apply is 0; side is "input" or "output" with code 3 alone."""
 
@@ -54,9 +66,9 @@ def longest_line(n, cells):
     return max(inputs_lines(n, cells) + outputs_lines(n, cells))
 
 
-def refused_demand(n, cells):
+def refused_demand(n, cells, edition=FIRST):
     """Codes 1, 2 and 3 in turn, or None where the demand stands."""
-    if n == 0 or n > PORTS:
+    if n == 0 or n > edition.ports:
         return Answer(1)
     if len(cells) != n * n:
         return Answer(2, n * n)
@@ -148,9 +160,9 @@ def read_wishes(n, wishes, cells):
 # ---- Plan records
 
 
-def record_bytes(hold, n, outputs):
-    """The 68 bytes of one record; outputs beyond those given are idle."""
-    return bytes([hold % 256, hold // 256, n, 0, *outputs]) + bytes([IDLE] * (PORTS - len(outputs)))
+def record_bytes(hold, n, outputs, edition=FIRST):
+    """The bytes of one record; outputs beyond those given are idle."""
+    return bytes([hold % 256, hold // 256, n, edition.byte, *outputs]) + bytes([IDLE] * (edition.ports - len(outputs)))
 
 
 def well_formed(n, record):
@@ -387,36 +399,36 @@ def quick_list(n, cells):
     return plan
 
 
-def planned(n, cells, plan, buffer):
+def planned(n, cells, plan, buffer, edition=FIRST):
     """Writes a plan at the start of the lent buffer, or refuses with code 5 and writes nothing."""
-    if len(buffer) // RECORD < len(plan):
+    if len(buffer) // edition.record < len(plan):
         return Answer(5, len(plan)), buffer
-    written = b"".join(record_bytes(hold, n, outputs) for hold, outputs in plan)
+    written = b"".join(record_bytes(hold, n, outputs, edition) for hold, outputs in plan)
     return counted(n, cells, plan), written + buffer[len(written) :]
 
 
-def exact_plan(n, cells, buffer):
-    refused = refused_demand(n, cells)
-    return (refused, buffer) if refused else planned(n, cells, exact_list(n, cells), buffer)
+def exact_plan(n, cells, buffer, edition=FIRST):
+    refused = refused_demand(n, cells, edition)
+    return (refused, buffer) if refused else planned(n, cells, exact_list(n, cells), buffer, edition)
 
 
-def doubled_plan(n, cells, buffer):
-    refused = refused_demand(n, cells)
-    return (refused, buffer) if refused else planned(n, cells, doubled_list(n, cells), buffer)
+def doubled_plan(n, cells, buffer, edition=FIRST):
+    refused = refused_demand(n, cells, edition)
+    return (refused, buffer) if refused else planned(n, cells, doubled_list(n, cells), buffer, edition)
 
 
-def doubled_plan_every_rotation(n, cells, buffer):
-    refused = refused_demand(n, cells)
-    return (refused, buffer) if refused else planned(n, cells, doubled_list_every_rotation(n, cells), buffer)
+def doubled_plan_every_rotation(n, cells, buffer, edition=FIRST):
+    refused = refused_demand(n, cells, edition)
+    return (refused, buffer) if refused else planned(n, cells, doubled_list_every_rotation(n, cells), buffer, edition)
 
 
-def quick_plan(n, cells, buffer):
-    refused = refused_demand(n, cells)
+def quick_plan(n, cells, buffer, edition=FIRST):
+    refused = refused_demand(n, cells, edition)
     if refused:
         return refused, buffer
     if longest_line(n, cells) > QUICK:
         return Answer(4), buffer
-    return planned(n, cells, quick_list(n, cells), buffer)
+    return planned(n, cells, quick_list(n, cells), buffer, edition)
 
 
 # ---- The checker and the length

@@ -44,7 +44,7 @@ def lay_cells(cells):
 
 
 def runs(items):
-    """Cuts a list into (part, times) pieces: greedily the repetition of up to 65 items that saves most, else single items."""
+    """Cuts a list into (part, times) pieces: greedily the repetition of up to 129 items that saves most, else single items."""
     pieces, single, at = [], [], 0
     while at < len(items):
         period, times = longest_repeat(items, at)
@@ -60,7 +60,7 @@ def runs(items):
 
 def longest_repeat(items, at):
     best = (1, 1)
-    for period in (1, 2, 3, 4, 5, 8, 9, 16, 17, 33, 34, 64, 65):
+    for period in (1, 2, 3, 4, 5, 8, 9, 16, 17, 33, 34, 64, 65, 66, 128, 129):
         times = 1
         while items[at + times * period : at + (times + 1) * period] == items[at : at + period] and at + (times + 1) * period <= len(items):
             times += 1

@@ -114,7 +114,7 @@ pub extern "C" fn cv_wishes(n: usize, list: &[u8], cells: &mut [u32]) -> CvAnswe
 // The exact plan.
 #[no_mangle]
 pub extern "C" fn cv_exact(n: usize, cells: &[u32], plan: &mut [u8]) -> CvAnswer
-    ensures { λ r. ⌜ Crosses (planned 64 0 n (now (cells .entry)) (exactPlan 64 n (now (cells .entry))) (now (plan .entry))) r (now (plan .exit)) ⌝ }
+    ensures { λ r. ⌜ Crosses (planned firstEdition n (now (cells .entry)) (exactPlan 64 n (now (cells .entry))) (now (plan .entry))) r (now (plan .exit)) ⌝ }
 {
     flatten(exact::exact_plan(n, cells, plan))
 }
@@ -122,7 +122,7 @@ pub extern "C" fn cv_exact(n: usize, cells: &[u32], plan: &mut [u8]) -> CvAnswer
 // The doubled plan.
 #[no_mangle]
 pub extern "C" fn cv_doubled(n: usize, cells: &[u32], plan: &mut [u8]) -> CvAnswer
-    ensures { λ r. ⌜ Crosses (planned 64 0 n (now (cells .entry)) (tightPlan 64 n (now (cells .entry))) (now (plan .entry))) r (now (plan .exit)) ⌝ }
+    ensures { λ r. ⌜ Crosses (planned firstEdition n (now (cells .entry)) (tightPlan 64 n (now (cells .entry))) (now (plan .entry))) r (now (plan .exit)) ⌝ }
 {
     flatten(doubled::doubled_plan(n, cells, plan))
 }
@@ -130,7 +130,7 @@ pub extern "C" fn cv_doubled(n: usize, cells: &[u32], plan: &mut [u8]) -> CvAnsw
 // The doubled plan by the rule of every rotation.
 #[no_mangle]
 pub extern "C" fn cv_doubled_every_rotation(n: usize, cells: &[u32], plan: &mut [u8]) -> CvAnswer
-    ensures { λ r. ⌜ Crosses (planned 64 0 n (now (cells .entry)) (doubledPlan 64 n (now (cells .entry))) (now (plan .entry))) r (now (plan .exit)) ⌝ }
+    ensures { λ r. ⌜ Crosses (planned firstEdition n (now (cells .entry)) (doubledPlan 64 n (now (cells .entry))) (now (plan .entry))) r (now (plan .exit)) ⌝ }
 {
     flatten(doubled::doubled_plan_every_rotation(n, cells, plan))
 }
@@ -138,7 +138,7 @@ pub extern "C" fn cv_doubled_every_rotation(n: usize, cells: &[u32], plan: &mut 
 // The quick cover.
 #[no_mangle]
 pub extern "C" fn cv_quick(n: usize, cells: &[u32], plan: &mut [u8]) -> CvAnswer
-    ensures { λ r. ⌜ Crosses (plannedUpTo 1024 64 0 n (now (cells .entry)) (quickPlan 64 n (now (cells .entry))) (now (plan .entry))) r (now (plan .exit)) ⌝ }
+    ensures { λ r. ⌜ Crosses (plannedUpTo 1024 firstEdition n (now (cells .entry)) (quickPlan 64 n (now (cells .entry))) (now (plan .entry))) r (now (plan .exit)) ⌝ }
 {
     flatten(quick::quick_plan(n, cells, plan))
 }
@@ -191,10 +191,42 @@ pub extern "C" fn cv2_quick_room(n: usize, longest: u64) -> CvAnswer
     flatten(room::quick_room_second(n, longest))
 }
 
+// The planners for switches of up to 128 ports: the exact plan.
+#[no_mangle]
+pub extern "C" fn cv2_exact(n: usize, cells: &[u32], plan: &mut [u8]) -> CvAnswer
+    ensures { λ r. ⌜ Crosses (planned secondEdition n (now (cells .entry)) (exactPlan 128 n (now (cells .entry))) (now (plan .entry))) r (now (plan .exit)) ⌝ }
+{
+    flatten(exact::exact_plan_second(n, cells, plan))
+}
+
+// The doubled plan.
+#[no_mangle]
+pub extern "C" fn cv2_doubled(n: usize, cells: &[u32], plan: &mut [u8]) -> CvAnswer
+    ensures { λ r. ⌜ Crosses (planned secondEdition n (now (cells .entry)) (tightPlan 128 n (now (cells .entry))) (now (plan .entry))) r (now (plan .exit)) ⌝ }
+{
+    flatten(doubled::doubled_plan_second(n, cells, plan))
+}
+
+// The doubled plan by the rule of every rotation.
+#[no_mangle]
+pub extern "C" fn cv2_doubled_every_rotation(n: usize, cells: &[u32], plan: &mut [u8]) -> CvAnswer
+    ensures { λ r. ⌜ Crosses (planned secondEdition n (now (cells .entry)) (doubledPlan 128 n (now (cells .entry))) (now (plan .entry))) r (now (plan .exit)) ⌝ }
+{
+    flatten(doubled::doubled_plan_every_rotation_second(n, cells, plan))
+}
+
+// The quick cover.
+#[no_mangle]
+pub extern "C" fn cv2_quick(n: usize, cells: &[u32], plan: &mut [u8]) -> CvAnswer
+    ensures { λ r. ⌜ Crosses (plannedUpTo 1024 secondEdition n (now (cells .entry)) (quickPlan 128 n (now (cells .entry))) (now (plan .entry))) r (now (plan .exit)) ⌝ }
+{
+    flatten(quick::quick_plan_second(n, cells, plan))
+}
+
 // The doubled plan for the grating fabric.
 #[no_mangle]
 pub extern "C" fn cv_grating_doubled(n: usize, cells: &[u32], plan: &mut [u8]) -> CvAnswer
-    ensures { λ r. ⌜ Crosses (gratingPlanned 64 0 n (now (cells .entry)) (now (plan .entry))) r (now (plan .exit)) ⌝ }
+    ensures { λ r. ⌜ Crosses (gratingPlanned firstEdition n (now (cells .entry)) (now (plan .entry))) r (now (plan .exit)) ⌝ }
 {
     flatten(grating::grating_doubled(n, cells, plan))
 }

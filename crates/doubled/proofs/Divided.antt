@@ -4,6 +4,7 @@ use mathlib.Core.List.{List, map}
 use Prim.Native.Nat.{ℕ, _+_, _*_, _≤_}
 use native.Mathlib.Omega.{arith}
 use lib.ListN.{length}
+use Rattle.switch.specs.declared.Edition.{Edition}
 use Rattle.switch.specs.Demand.{cell, longest}
 use Rattle.switch.specs.Sound.{Each, OfWidth}
 use Rattle.switch.proofs.Sound.{each-width}
@@ -19,7 +20,7 @@ use Rattle.turns.specs.Second.{second, parts, Divided}
 use Rattle.turns.proofs.Divided.{asked, holding, sized, small}
 use Rattle.turns.proofs.Both.{first-room, second-room, second-laid}
 
-pub quotient-cells : {W N T u : ℕ} {d q : List ℕ} → Divided W N T u d q → {S : ℕ} → S ≡ longest N (cell N q) → Cells N S q
+pub quotient-cells : {E : Edition} {N T u : ℕ} {d q : List ℕ} → Divided E N T u d q → {S : ℕ} → S ≡ longest N (cell N q) → Cells N S q
 quotient-cells v longest-is = record {
   some = asked v .some;
   few = holding v .few;

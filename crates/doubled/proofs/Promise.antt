@@ -4,6 +4,7 @@ use mathlib.Core.List.{List}
 use Prim.Native.Nat.{ℕ, _*_, _≤_, _<_}
 use lib.ListN.{length}
 use Rattle.switch.specs.declared.Outcome.{Outcome}
+use Rattle.switch.specs.declared.Edition.{Edition}
 use Rattle.switch.specs.Plan.{Record}
 use Rattle.switch.proofs.Answer.{determined}
 use Rattle.rules.specs.Doubled.{doubledPlan, tightPlan, Doubled}
@@ -16,11 +17,11 @@ use Rattle.turns.specs.declared.Turning.the-variants.{Forward}
 use Rattle.turns.specs.Second.{doubledRule}
 
 -- any two outcomes, and any two buffers afterwards, that satisfy either contract are equal
-module _ (W e N : ℕ) (d : List ℕ) (p : List Record) (buf : List ℕ) where
-  pub same-outcome : (r s : Outcome) → r ≡ planned W e N d p buf .outcome → s ≡ planned W e N d p buf .outcome → r ≡ s
+module _ (E : Edition) (N : ℕ) (d : List ℕ) (p : List Record) (buf : List ℕ) where
+  pub same-outcome : (r s : Outcome) → r ≡ planned E N d p buf .outcome → s ≡ planned E N d p buf .outcome → r ≡ s
   same-outcome r s x y = determined r s _ x y
 
-  pub same-bytes : (l m : List ℕ) → l ≡ planned W e N d p buf .bytes → m ≡ planned W e N d p buf .bytes → l ≡ m
+  pub same-bytes : (l m : List ℕ) → l ≡ planned E N d p buf .bytes → m ≡ planned E N d p buf .bytes → l ≡ m
   same-bytes l m x y = determined l m _ x y
 
 -- both bounds and the cover, by either rule: each has holds from the largest remainder to u - 1, which is what `doubled-any` asks

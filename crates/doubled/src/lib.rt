@@ -7,18 +7,19 @@ use demand::Checked;
 use demand::check_demand;
 use demand::empty_slots;
 use demand::longest_line;
-use records::EDITION;
 use records::HEAD;
-use records::OUTPUTS;
 use switch::Counts;
+use switch::Edition;
 use switch::Outcome;
 use switch::PORTS;
 use switch::Refusal;
+use switch::WIDE_PORTS;
 use turns::Rule;
 use turns::Turning;
 ghost use mathlib.Core.Path.{_≡_};
-ghost use Prim.Native.Nat.{ℕ, _+_, _<_, _≤_};
+ghost use Prim.Native.Nat.{ℕ, _+_, _*_, _<_, _≤_};
 ghost use lib.ListN.{length};
+ghost use Rattle.switch.specs.Editions.{firstEdition, secondEdition, Bounded};
 ghost use Rattle.switch.specs.Result.{Gives};
 ghost use Rattle.demand.specs.Check.{checkDemand};
 ghost use Rattle.demand.specs.declared.Checked.the-variants.{Fine};
@@ -32,42 +33,105 @@ ghost use Rattle.turns.specs.declared.Turning.the-variants.{Forward};
 ghost use Rattle.turns.specs.Second.{doubledRule, parts, Divided, Table};
 ghost use Rattle.doubled.specs.Parts.{Needs};
 
-// The cells of the largest switch of this edition.
+// The cells of a switch of 64 ports, and of 128.
 const CELLS: usize = 4096;
+
+const WIDE_CELLS: usize = 16384;
 
 // The doubled plan of a demand, written at the start of a lent plan. Each rotation is held for the largest remainder among its pairs.
 pub fn doubled_plan(n: usize, cells: &[u32], plan: &mut [u8]) -> Outcome
-    ensures { λ r. ⌜ Gives (planned 64 0 n (now (cells .entry)) (tightPlan 64 n (now (cells .entry))) (now (plan .entry))) r (now (plan .exit)) ⌝ }
+    ensures { λ r. ⌜ Gives (planned firstEdition n (now (cells .entry)) (tightPlan 64 n (now (cells .entry))) (now (plan .entry))) r (now (plan .exit)) ⌝ }
 {
-    plan_by(Rule::Tight, n, cells, plan)
+    let mut work = [0u32; CELLS];
+    let mut holds = [0u16; PORTS];
+    plan_for(
+        Rule::Tight,
+        switch::first_edition(),
+        n,
+        cells,
+        &mut work,
+        &mut holds,
+        plan,
+    )
 }
 
 // The doubled plan by the old rule: if u is at least 2, every rotation is there, held for u - 1.
 pub fn doubled_plan_every_rotation(n: usize, cells: &[u32], plan: &mut [u8]) -> Outcome
-    ensures { λ r. ⌜ Gives (planned 64 0 n (now (cells .entry)) (doubledPlan 64 n (now (cells .entry))) (now (plan .entry))) r (now (plan .exit)) ⌝ }
+    ensures { λ r. ⌜ Gives (planned firstEdition n (now (cells .entry)) (doubledPlan 64 n (now (cells .entry))) (now (plan .entry))) r (now (plan .exit)) ⌝ }
 {
-    plan_by(Rule::Every, n, cells, plan)
+    let mut work = [0u32; CELLS];
+    let mut holds = [0u16; PORTS];
+    plan_for(
+        Rule::Every,
+        switch::first_edition(),
+        n,
+        cells,
+        &mut work,
+        &mut holds,
+        plan,
+    )
 }
 
-// The doubled plan by either rule.
-fn plan_by(rule: Rule, n: usize, cells: &[u32], plan: &mut [u8]) -> Outcome
-    ensures { λ r. ⌜ Gives (planned 64 0 n (now (cells .entry)) (doubledRule rule Forward 64 n (now (cells .entry))) (now (plan .entry))) r (now (plan .exit)) ⌝ }
+// The doubled plan in the second edition, by the tight rule.
+pub fn doubled_plan_second(n: usize, cells: &[u32], plan: &mut [u8]) -> Outcome
+    ensures { λ r. ⌜ Gives (planned secondEdition n (now (cells .entry)) (tightPlan 128 n (now (cells .entry))) (now (plan .entry))) r (now (plan .exit)) ⌝ }
 {
-    match check_demand(n, PORTS, cells) {
+    let mut work = [0u32; WIDE_CELLS];
+    let mut holds = [0u16; WIDE_PORTS];
+    plan_for(
+        Rule::Tight,
+        switch::second_edition(),
+        n,
+        cells,
+        &mut work,
+        &mut holds,
+        plan,
+    )
+}
+
+// The doubled plan in the second edition, by the old rule.
+pub fn doubled_plan_every_rotation_second(n: usize, cells: &[u32], plan: &mut [u8]) -> Outcome
+    ensures { λ r. ⌜ Gives (planned secondEdition n (now (cells .entry)) (doubledPlan 128 n (now (cells .entry))) (now (plan .entry))) r (now (plan .exit)) ⌝ }
+{
+    let mut work = [0u32; WIDE_CELLS];
+    let mut holds = [0u16; WIDE_PORTS];
+    plan_for(
+        Rule::Every,
+        switch::second_edition(),
+        n,
+        cells,
+        &mut work,
+        &mut holds,
+        plan,
+    )
+}
+
+// The doubled plan of an edition by either rule. Lent beside the plan are the cells of its largest switch, for the quotients, and a hold
+// for each of its rotations.
+pub fn plan_for(
+    rule: Rule,
+    e: Edition,
+    n: usize,
+    cells: &[u32],
+    work: &mut [u32],
+    holds: &mut [u16],
+    plan: &mut [u8],
+) -> Outcome
+    requires { ⌜ Bounded e × (e .ports * e .ports ≤ length (now work)) × (e .ports ≤ length (now holds)) ⌝ }
+    ensures { λ r. ⌜ Gives (planned e n (now (cells .entry)) (doubledRule rule Forward (e .width) n (now (cells .entry))) (now (plan .entry))) r (now (plan .exit)) ⌝ }
+{
+    match check_demand(n, e.ports, cells) {
         Checked::Faulty(r) => Outcome::Refused(r),
         Checked::Fine(longest) => {
-            let mut work = [0u32; CELLS];
-            let mut holds = [0u16; PORTS];
             let size = cells.len();
             plan_fine(
                 rule,
+                e,
                 n,
                 longest,
                 cells,
                 &mut work[..size],
                 &mut holds[..n],
-                OUTPUTS,
-                EDITION,
                 plan,
             )
         }
@@ -77,17 +141,16 @@ fn plan_by(rule: Rule, n: usize, cells: &[u32], plan: &mut [u8]) -> Outcome
 // The same for a demand that nothing but the room can refuse. If T is 0, the plan is empty, and there is no u to divide by.
 fn plan_fine(
     rule: Rule,
+    e: Edition,
     n: usize,
     longest: u64,
     cells: &[u32],
     work: &mut [u32],
     holds: &mut [u16],
-    width: usize,
-    edition: u8,
     plan: &mut [u8],
 ) -> Outcome
-    requires { ⌜ (checkDemand width n (now cells) ≡ Fine longest) × (width ≤ 128) × (length (now work) ≡ length (now cells)) × (length (now holds) ≡ n) ⌝ }
-    ensures { λ r. ⌜ Gives (planned width edition n (now (cells .entry)) (doubledRule rule Forward width n (now (cells .entry))) (now (plan .entry))) r (now (plan .exit)) ⌝ }
+    requires { ⌜ (checkDemand (e .ports) n (now cells) ≡ Fine longest) × Bounded e × (length (now work) ≡ length (now cells)) × (length (now holds) ≡ n) ⌝ }
+    ensures { λ r. ⌜ Gives (planned e n (now (cells .entry)) (doubledRule rule Forward (e .width) n (now (cells .entry))) (now (plan .entry))) r (now (plan .exit)) ⌝ }
 {
     if longest == 0 {
         return Outcome::Done(Counts {
@@ -99,33 +162,33 @@ fn plan_fine(
         });
     }
     let unit = turns::split(rule, Turning::Forward, n, longest, cells, work, holds);
-    plan_parts(n, longest, unit, cells, work, holds, width, edition, plan)
+    plan_parts(e, n, longest, unit, cells, work, holds, plan)
 }
 
 // The plan of quotients and of holds that meet the remainders: both parts, once it is known that there is room for both.
 fn plan_parts(
+    e: Edition,
     n: usize,
     longest: u64,
     unit: u32,
     cells: &[u32],
     work: &mut [u32],
     holds: &[u16],
-    width: usize,
-    edition: u8,
     plan: &mut [u8],
 ) -> Outcome
-    requires { ⌜ Divided width n longest unit (now cells) (now work) × Table n (now holds) × Doubled n (now cells) (parts Forward width n unit (now work) (now holds)) ⌝ }
-    ensures { λ r. ⌜ Gives (planned width edition n (now (cells .entry)) (parts Forward width n unit (now (work .entry)) (now (holds .entry))) (now (plan .entry))) r (now (plan .exit)) ⌝ }
+    requires { ⌜ Divided e n longest unit (now cells) (now work) × Table n (now holds) × Doubled n (now cells) (parts Forward (e .width) n unit (now work) (now holds)) ⌝ }
+    ensures { λ r. ⌜ Gives (planned e n (now (cells .entry)) (parts Forward (e .width) n unit (now (work .entry)) (now (holds .entry))) (now (plan .entry))) r (now (plan .exit)) ⌝ }
 {
     let first = longest_line(work, n);
     let second = turns::measure(n, holds);
     let turns = second.records;
+    let width = e.width;
     let room = plan.len() / (width + HEAD);
     let need = needed(cells, work, n, unit, first, turns, room);
     if room < need {
         return Outcome::Refused(Refusal::Room(need));
     }
-    let records = lay_parts(work, n, first, unit, holds, width, edition, plan);
+    let records = lay_parts(e, work, n, first, unit, holds, plan);
     let total = first * unit as u64 + second.total;
     Outcome::Done(Counts {
         records: records + turns,
@@ -161,25 +224,24 @@ fn needed(
 
 // The first part at the plan's start and the second behind it; and how many records the first has. The quotients are spent.
 fn lay_parts(
+    e: Edition,
     work: &mut [u32],
     n: usize,
     first: u64,
     unit: u32,
     holds: &[u16],
-    width: usize,
-    edition: u8,
     plan: &mut [u8],
 ) -> usize
-    requires { ⌜ Cells n first (now work) × Table n (now holds) × Place n first unit width 0 (parts Forward width n unit (now work) (now holds)) (now plan) ⌝ }
-    ensures { λ r. ⌜ (r ≡ length (exactPlan width n (now (work .entry)))) × (now (plan .exit) ≡ laid (now (plan .entry)) 0 (bytes edition n (parts Forward width n unit (now (work .entry)) (now (holds .entry))))) ⌝ }
+    requires { ⌜ Cells n first (now work) × Table n (now holds) × Place n first unit (e .width) 0 (parts Forward (e .width) n unit (now work) (now holds)) (now plan) ⌝ }
+    ensures { λ r. ⌜ (r ≡ length (exactPlan (e .width) n (now (work .entry)))) × (now (plan .exit) ≡ laid (now (plan .entry)) 0 (bytes (e .byte) n (parts Forward (e .width) n unit (now (work .entry)) (now (holds .entry))))) ⌝ }
 {
-    let records = exact::lay(work, n, first, unit, width, edition, plan, 0);
+    let width = e.width;
+    let records = exact::lay(e, work, n, first, unit, plan, 0);
     turns::lay(
         Turning::Forward,
+        e,
         n,
         holds,
-        width,
-        edition,
         plan,
         records * (width + HEAD),
     );

@@ -1,11 +1,13 @@
 -- The demand at the start of the working copy has the demand's exact plan.
 use mathlib.Core.Path.{_≡_, refl, sym, ap, ap₂, _∙_}
 use mathlib.Core.List.{List, [], _∷_, _++_, map}
-use Prim.Native.Nat.{ℕ, zero, suc, _+_, _*_, _/_, _≤_, _<_}
+use Prim.Native.Nat.{ℕ, _+_, _*_, _/_, _≤_, _<_}
 use native.Mathlib.Omega.{arith}
-use native.Mathlib.Nat.{mul-le-mul, mul-le-mul-right, le-of-eq, div-mul-le-self, mul-one}
+use native.Mathlib.Nat.{mul-le-mul-right, le-of-eq, div-mul-le-self, mul-one}
 use lib.ListN.{length, getD, length-append, List·getD-append}
 use lib.Arith.{digits-lt}
+use Rattle.switch.specs.declared.Edition.{Edition}
+use Rattle.switch.specs.Editions.{Bounded}
 use Rattle.switch.specs.Demand.{cell}
 use Rattle.switch.specs.Plan.{Record}
 use Rattle.demand.specs.Check.{Asked}
@@ -15,19 +17,7 @@ use Rattle.rules.proofs.Exact.{longest-cong, exact-cong}
 use Rattle.peel.specs.Standing.{Cells}
 use Rattle.exact.specs.Laying.{Place}
 
--- ---- room
-
-pub twice-small : (n : ℕ) → 2 * n ≤ n * n + 2
-twice-small zero = omega arith
-twice-small (suc zero) = omega arith
-twice-small (suc (suc m)) =
-    let a : 2 ≤ suc (suc m) = omega arith in
-    let b : suc (suc m) ≤ suc (suc m) = omega arith in
-    omega (arith, mul-le-mul a b)
-
--- ---- a demand copied to the start of a longer list
-
-module _ (W N T : ℕ) (d w : List ℕ) (narrow : W ≤ 128) (a : Asked W N T d) (z : List ℕ) (copied : w ≡ d ++ z) where
+module _ (E : Edition) (bounded : Bounded E) (N T : ℕ) (d w : List ℕ) (a : Asked (E .ports) N T d) (z : List ℕ) (copied : w ≡ d ++ z) where
   padded : (i j : ℕ) → i < N → j < N → cell N w i j ≡ cell N d i j
   unfolding cell
   padded i j li lj = ap (λ (l : List ℕ). getD l (i * N + j) 0) copied
@@ -36,25 +26,33 @@ module _ (W N T : ℕ) (d w : List ℕ) (narrow : W ≤ 128) (a : Asked W N T d)
   room : N * N ≤ length w
   room = omega (arith, a .size, length-append d z, ap length copied)
 
+  wide : N ≤ E .width
+  wide = omega (arith, a .few, bounded .ports)
+
   pub copied-cells : Cells N T w
   copied-cells = record {
     some = a .some;
-    few = omega (arith, a .few);
+    few = omega (arith, wide, bounded .width);
     room = room;
     longest-is = a .longest-is ∙ sym (longest-cong N (cell N w) (cell N d) padded);
     small = a .small;
   }
 
-  pub copied-plan : exactPlan W N w ≡ exactPlan W N d
-  copied-plan = exact-cong W N (a .some) (a .few) w d room (le-of-eq (sym (a .size))) padded
+  pub copied-plan : exactPlan (E .width) N w ≡ exactPlan (E .width) N d
+  copied-plan = exact-cong (E .width) N (a .some) wide w d room (le-of-eq (sym (a .size))) padded
 
   -- all holds once as long: the plan itself
-  pub place : (plan : List ℕ) → length (exactPlan W N d) ≤ length plan / (W + 4) → Place N T 1 W 0 (exactPlan W N w) plan
+  pub place : (plan : List ℕ) → length (exactPlan (E .width) N d) ≤ length plan / (E .width + 4) → Place N T 1 (E .width) 0 (exactPlan (E .width) N w) plan
   place plan l = record {
-    wide = a .few;
-    narrow = narrow;
+    wide = wide;
+    narrow = bounded .width;
     fits = omega (arith, a .small);
-    room = omega (arith, ap (λ (p : List Record). length p * (W + 4)) copied-plan, div-mul-le-self (length plan) (W + 4), mul-le-mul-right (W + 4) l);
+    room = omega (
+      arith,
+      ap (λ (p : List Record). length p * (E .width + 4)) copied-plan,
+      div-mul-le-self (length plan) (E .width + 4),
+      mul-le-mul-right (E .width + 4) l,
+    );
   }
 
 pub stretch-once : (p : List Record) → map (stretch 1) p ≡ p

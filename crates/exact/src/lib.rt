@@ -7,20 +7,20 @@ use demand::check_demand;
 use demand::empty_slots;
 use peel::start;
 use peel::take_off;
-use records::EDITION;
 use records::HEAD;
 use records::IDLE;
-use records::OUTPUTS;
 use records::put_record;
+use room::exact_records;
 use switch::Counts;
+use switch::Edition;
 use switch::Outcome;
-use switch::PORTS;
 use switch::Refusal;
 use switch::WIDE_PORTS;
 ghost use mathlib.Core.Path.{_≡_};
 ghost use mathlib.Core.List.{map};
 ghost use Prim.Native.Nat.{ℕ, _*_, _≤_};
 ghost use lib.ListN.{length};
+ghost use Rattle.switch.specs.Editions.{firstEdition, secondEdition, Bounded};
 ghost use Rattle.switch.specs.Result.{Gives};
 ghost use Rattle.demand.specs.declared.Checked.the-variants.{Fine};
 ghost use Rattle.demand.specs.Check.{checkDemand};
@@ -31,42 +31,63 @@ ghost use Rattle.planner.specs.Planned.{planned, shortage};
 ghost use Rattle.peel.specs.Standing.{Cells, Tables};
 ghost use Rattle.exact.specs.Laying.{Place};
 
-// The cells of a switch of 64 ports.
+// The cells of a switch of 64 ports, and of 128.
 const CELLS: usize = 4096;
+
+const WIDE_CELLS: usize = 16384;
 
 // The exact plan of a demand, written at the start of the plan buffer.
 pub fn exact_plan(n: usize, cells: &[u32], plan: &mut [u8]) -> Outcome
-    ensures { λ r. ⌜ Gives (planned 64 0 n (now (cells .entry)) (exactPlan 64 n (now (cells .entry))) (now (plan .entry))) r (now (plan .exit)) ⌝ }
+    ensures { λ r. ⌜ Gives (planned firstEdition n (now (cells .entry)) (exactPlan 64 n (now (cells .entry))) (now (plan .entry))) r (now (plan .exit)) ⌝ }
 {
-    match check_demand(n, PORTS, cells) {
+    let mut work = [0u32; CELLS];
+    plan_for(switch::first_edition(), n, cells, &mut work, plan)
+}
+
+// The exact plan in the second edition.
+pub fn exact_plan_second(n: usize, cells: &[u32], plan: &mut [u8]) -> Outcome
+    ensures { λ r. ⌜ Gives (planned secondEdition n (now (cells .entry)) (exactPlan 128 n (now (cells .entry))) (now (plan .entry))) r (now (plan .exit)) ⌝ }
+{
+    let mut work = [0u32; WIDE_CELLS];
+    plan_for(switch::second_edition(), n, cells, &mut work, plan)
+}
+
+// The exact plan of an edition. Lent beside the plan are the cells of its largest switch, for the working copy.
+pub fn plan_for(
+    e: Edition,
+    n: usize,
+    cells: &[u32],
+    work: &mut [u32],
+    plan: &mut [u8],
+) -> Outcome
+    requires { ⌜ Bounded e × (e .ports * e .ports ≤ length (now work)) ⌝ }
+    ensures { λ r. ⌜ Gives (planned e n (now (cells .entry)) (exactPlan (e .width) n (now (cells .entry))) (now (plan .entry))) r (now (plan .exit)) ⌝ }
+{
+    match check_demand(n, e.ports, cells) {
         Checked::Faulty(r) => Outcome::Refused(r),
-        Checked::Fine(longest) => {
-            let mut work = [0u32; CELLS];
-            lay_or_refuse(n, longest, cells, &mut work, OUTPUTS, EDITION, plan)
-        }
+        Checked::Fine(longest) => lay_or_refuse(e, n, longest, cells, work, plan),
     }
 }
 
 // The exact plan at the plan's start, or code 5. The demand is only read; what is filled and peeled is a working copy.
 fn lay_or_refuse(
+    e: Edition,
     n: usize,
     longest: u64,
     cells: &[u32],
     work: &mut [u32],
-    width: usize,
-    edition: u8,
     plan: &mut [u8],
 ) -> Outcome
-    requires { ⌜ (checkDemand width n (now cells) ≡ Fine longest) × (width ≤ 128) × (n * n ≤ length (now work)) ⌝ }
-    ensures { λ r. ⌜ Gives (planned width edition n (now (cells .entry)) (exactPlan width n (now (cells .entry))) (now (plan .entry))) r (now (plan .exit)) ⌝ }
+    requires { ⌜ (checkDemand (e .ports) n (now cells) ≡ Fine longest) × Bounded e × (n * n ≤ length (now work)) ⌝ }
+    ensures { λ r. ⌜ Gives (planned e n (now (cells .entry)) (exactPlan (e .width) n (now (cells .entry))) (now (plan .entry))) r (now (plan .exit)) ⌝ }
 {
     work::copy(cells, work);
-    let need = short_of(work, n, longest, plan.len() / (width + HEAD));
+    let need = short_of(work, n, longest, plan.len() / (e.width + HEAD));
     if need != 0 {
         return Outcome::Refused(Refusal::Room(need));
     }
     work::copy(cells, work);
-    let records = lay(work, n, longest, 1, width, edition, plan, 0);
+    let records = lay(e, work, n, longest, 1, plan, 0);
     Outcome::Done(Counts {
         records: records,
         longest: longest,
@@ -77,16 +98,12 @@ fn lay_or_refuse(
 }
 
 // How many records the exact plan has, where the room is too small for them; and 0 where it is not. The cells are spent.
-// They are not counted where the room is for the most that there can be.
+// They are not counted where there is the room that is promised beforehand.
 pub fn short_of(work: &mut [u32], n: usize, longest: u64, room: usize) -> usize
     requires { ⌜ Cells n longest (now work) ⌝ }
     ensures { λ r. ⌜ ((W : ℕ) → n ≤ W → W ≤ 128 → r ≡ shortage room (length (exactPlan W n (now (work .entry))))) ⌝ }
 {
-    let most = n * n + 2 - 2 * n;
-    if most <= room {
-        return 0;
-    }
-    if longest <= room as u64 {
+    if exact_records(n, longest) <= room {
         return 0;
     }
     let need = count(work, n, longest);
@@ -118,23 +135,23 @@ pub fn count(work: &mut [u32], n: usize, longest: u64) -> usize
 
 // The exact plan's records laid over a plan from `at` on, each held `unit` times as long; and how many they are. The cells are spent.
 pub fn lay(
+    e: Edition,
     work: &mut [u32],
     n: usize,
     longest: u64,
     unit: u32,
-    width: usize,
-    edition: u8,
     plan: &mut [u8],
     at: usize,
 ) -> usize
-    requires { ⌜ Cells n longest (now work) × Place n longest unit width at (exactPlan width n (now work)) (now plan) ⌝ }
-    ensures { λ r. ⌜ (r ≡ length (exactPlan width n (now (work .entry)))) × (now (plan .exit) ≡ laid (now (plan .entry)) at (bytes edition n (map (stretch unit) (exactPlan width n (now (work .entry)))))) ⌝ }
+    requires { ⌜ Cells n longest (now work) × Place n longest unit (e .width) at (exactPlan (e .width) n (now work)) (now plan) ⌝ }
+    ensures { λ r. ⌜ (r ≡ length (exactPlan (e .width) n (now (work .entry)))) × (now (plan .exit) ≡ laid (now (plan .entry)) at (bytes (e .byte) n (map (stretch unit) (exactPlan (e .width) n (now (work .entry)))))) ⌝ }
 {
     let mut lows = [0u64; WIDE_PORTS];
     let mut highs = [0u64; WIDE_PORTS];
     let mut by = [0u8; WIDE_PORTS];
     let mut out = [IDLE; WIDE_PORTS];
     lay_off(
+        e,
         work,
         n,
         longest,
@@ -143,8 +160,6 @@ pub fn lay(
         &mut by,
         &mut out,
         unit,
-        width,
-        edition,
         plan,
         at,
     )
@@ -178,6 +193,7 @@ fn count_off(
 
 // The settings that are taken off the working copy, laid as records one after the other.
 fn lay_off(
+    e: Edition,
     work: &mut [u32],
     n: usize,
     longest: u64,
@@ -186,15 +202,14 @@ fn lay_off(
     by: &mut [u8],
     out: &mut [u8],
     unit: u32,
-    width: usize,
-    edition: u8,
     plan: &mut [u8],
     at: usize,
 ) -> usize
-    requires { ⌜ Cells n longest (now work) × Tables n (now lows) (now highs) (now by) (now out) × Place n longest unit width at (exactPlan width n (now work)) (now plan) ⌝ }
-    ensures { λ r. ⌜ (r ≡ length (exactPlan width n (now (work .entry)))) × (now (plan .exit) ≡ laid (now (plan .entry)) at (bytes edition n (map (stretch unit) (exactPlan width n (now (work .entry)))))) ⌝ }
+    requires { ⌜ Cells n longest (now work) × Tables n (now lows) (now highs) (now by) (now out) × Place n longest unit (e .width) at (exactPlan (e .width) n (now work)) (now plan) ⌝ }
+    ensures { λ r. ⌜ (r ≡ length (exactPlan (e .width) n (now (work .entry)))) × (now (plan .exit) ≡ laid (now (plan .entry)) at (bytes (e .byte) n (map (stretch unit) (exactPlan (e .width) n (now (work .entry)))))) ⌝ }
 {
     start(work, n, longest, lows, highs);
+    let width = e.width;
     let mut records: usize = 0;
     let mut kept: usize = 0;
     let mut remains = longest;
@@ -204,7 +219,7 @@ fn lay_off(
         kept = s.kept;
         remains -= s.hold as u64;
         let hold = (s.hold * unit) as u16;
-        put_record(plan, next, edition, hold, n, &out[..width]);
+        put_record(plan, next, e.byte, hold, n, &out[..width]);
         next += width + HEAD;
         records += 1;
     }

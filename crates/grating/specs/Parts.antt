@@ -2,6 +2,9 @@
 use mathlib.Core.Path.{_≡_}
 use mathlib.Core.List.{List, _++_, map}
 use Prim.Native.Nat.{ℕ, _*_, _≤_}
+use lib.ListN.{length}
+use Rattle.switch.specs.declared.Edition.{Edition}
+use Rattle.switch.specs.Editions.{Bounded}
 use Rattle.switch.specs.Plan.{Record, total}
 use Rattle.rules.specs.Doubled.{stretch}
 use Rattle.records.specs.Bytes.{whole, planFrom}
@@ -22,3 +25,11 @@ pub record First (W u : ℕ) (first : List ℕ) (records sum : ℕ) : Type 0 whe
   pub room : records ≤ whole W first
   pub sum-is : sum ≡ total (planFrom W first 0 records)
   pub small : sum * u ≤ 65535
+
+-- what the planner is lent for the largest switch of an edition, and for smaller ones
+pub record Lent (E : Edition) (quotients work holds first : List ℕ) : Type 0 where
+  pub bounded : Bounded E
+  pub divided : E .ports * E .ports ≤ length quotients
+  pub copied : E .ports * E .ports ≤ length work
+  pub held : E .ports ≤ length holds
+  pub parted : E .ports ≤ whole (E .width) first

@@ -33,21 +33,21 @@ module _ (E : Edition) (N : ℕ) (plan buf : List ℕ) where
   abbrev result : List Record
   result = joinPlan (planOf (E .width) plan)
 
-  after : {o : Outcome} → o ≡ checking E N plan → afterReading o buf (λ c. roomFor (E .width) (E .byte) N 0 0 result buf) ≡ joining E N plan buf
+  after : {o : Outcome} → o ≡ checking E N plan → afterReading o buf (λ c. roomFor E N 0 0 result buf) ≡ joining E N plan buf
   unfolding joining
-  after e = ap (λ (o : Outcome). afterReading o buf (λ c. roomFor (E .width) (E .byte) N 0 0 result buf)) e
+  after e = ap (λ (o : Outcome). afterReading o buf (λ c. roomFor E N 0 0 result buf)) e
 
   -- codes 1, 9, 10 and 11
   pub joining-refused : {r : Refusal} → Refused r ≡ checking E N plan → refuses r buf ≡ joining E N plan buf
   joining-refused e = after e
 
   module _ {c : Counts} (fine : Done c ≡ checking E N plan) where
-    pub joining-room : roomFor (E .width) (E .byte) N 0 0 result buf ≡ joining E N plan buf
+    pub joining-room : roomFor E N 0 0 result buf ≡ joining E N plan buf
     joining-room = after fine
 
     -- code 5
     pub joining-short : whole (E .width) buf < length result → refuses (Room (length result)) buf ≡ joining E N plan buf
-    joining-short l = sym (no-room (E .width) (E .byte) N 0 0 result buf l) ∙ joining-room
+    joining-short l = sym (no-room E N 0 0 result buf l) ∙ joining-room
 
     pub joining-done : length result ≤ whole (E .width) buf → writes (E .byte) N 0 0 result buf ≡ joining E N plan buf
     joining-done l = sym (room (E .width) (E .byte) N 0 0 result buf l) ∙ joining-room
@@ -107,5 +107,5 @@ module _ (E : Edition) (N : ℕ) (plan buf : List ℕ) where
       answers-done need q l after w =
           let e : need ≡ length (result E N plan buf) = q ∙ ap length table-cut in
           let sum : c .total ≡ total (result E N plan buf) = ap (λ (x : Counts). x .total) (known .counts) ∙ sym (join-total (planOf W plan)) in
-          gives (sym (joining-done E N plan buf fine (omega arith))) (written-outcome (E .byte) N 0 0 need (c .total) 0 (result E N plan buf) buf e sum refl)
-          (w ∙ ap (λ (p : List Record). laid buf 0 (bytes (E .byte) N p)) table-cut ∙ written-bytes (E .byte) N 0 0 (result E N plan buf) buf)
+          gives (sym (joining-done E N plan buf fine (omega arith))) (written-outcome E N 0 0 need (c .total) 0 (result E N plan buf) buf e sum refl)
+          (w ∙ ap (λ (p : List Record). laid buf 0 (bytes (E .byte) N p)) table-cut ∙ written-bytes E N 0 0 (result E N plan buf) buf)

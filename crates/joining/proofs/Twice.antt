@@ -68,7 +68,7 @@ module _ (E : Edition) (bounds : Bounded E) (N : ℕ) (plan : List ℕ) (byte : 
     pub joined-again : (buf : List ℕ) → joining E N (bytes (E .byte) N again) buf ≡ joining E N plan buf
     joined-again buf =
         sym (joining-room E N (bytes (E .byte) N again) buf (sym joined-passes))
-        ∙ ap (λ (p : List Record). roomFor W (E .byte) N 0 0 p buf) (ap joinPlan (planOf-bytes (E .byte) N W (each-width W N sound)) ∙ join-twice (positive (known .sound)))
+        ∙ ap (λ (p : List Record). roomFor E N 0 0 p buf) (ap joinPlan (planOf-bytes (E .byte) N W (each-width W N sound)) ∙ join-twice (positive (known .sound)))
         ∙ joining-room E N plan buf fine
 
   -- the records that a call wrote

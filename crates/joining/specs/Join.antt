@@ -35,4 +35,4 @@ joinPlan p = cut (sums p)
 -- refusals 1, 9, 10, 11, 5; records and total of the plan that is written, no T and no empty slots
 unfoldable pub joining : Edition → ℕ → List ℕ → List ℕ → Result
 joining E N plan buf =
-    afterReading (checking E N plan) buf (λ c. roomFor (E .width) (E .byte) N 0 0 (joinPlan (planOf (E .width) plan)) buf)
+    afterReading (checking E N plan) buf (λ c. roomFor E N 0 0 (joinPlan (planOf (E .width) plan)) buf)

@@ -25,6 +25,7 @@ use Rattle.records.specs.Bytes.{bytes, laid, planFrom}
 use Rattle.records.proofs.Laid.{length-laid}
 use Rattle.records.proofs.Bytes.{bytes-size}
 use Rattle.records.proofs.Round.{plan-records}
+use Rattle.switch.specs.Editions.{firstEdition}
 use Rattle.switch.specs.Result.{Result}
 use Rattle.planner.specs.Planned.{writes, planned}
 use Rattle.planner.proofs.Planned.{planned-faulty, planned-done}
@@ -50,7 +51,7 @@ module _ (N : ℕ) (d buf : List ℕ) (small : N ≤ 16) (size : length buf ≡ 
   plan = exactPlan 64 N d
 
   abbrev answer : Result
-  answer = planned 64 0 N d plan buf
+  answer = planned firstEdition N d plan buf
 
   module _ (T : ℕ) (fine : checkDemand 64 N d ≡ Fine T) where
     asked : Asked 64 N T d
@@ -60,8 +61,8 @@ module _ (N : ℕ) (d buf : List ℕ) (small : N ≤ 16) (size : length buf ≡ 
     unfolding demandText
     text-is = rw fine
 
-    done-is : answer ≡ writes 0 N T (emptySlots N (cell N d) plan) plan buf
-    done-is = planned-done 64 0 N d plan buf T fine (omega (arith, exact-few N T d small asked))
+    done-is : answer ≡ writes firstEdition N T (emptySlots N (cell N d) plan) plan buf
+    done-is = planned-done firstEdition N d plan buf T fine (omega (arith, exact-few N T d small asked))
 
     bytes-are : length (bytes 0 N plan) ≡ length plan * 68
     bytes-are = bytes-size 0 N 64 (exact-width N T d small asked)
@@ -92,7 +93,7 @@ module _ (N : ℕ) (d buf : List ℕ) (small : N ≤ 16) (size : length buf ≡ 
 
   module _ (r : Refusal) (faulty : checkDemand 64 N d ≡ Faulty r) where
     refused-is : answer .outcome ≡ Refused r
-    refused-is = ap (λ (a : Result). a .outcome) (planned-faulty 64 0 N d plan buf r faulty)
+    refused-is = ap (λ (a : Result). a .outcome) (planned-faulty firstEdition N d plan buf r faulty)
 
     refused-text : demandText N d ≡ refusedLine r
     unfolding demandText

@@ -38,8 +38,8 @@ module _ (rule : Rule) (E : Edition) (serves : Serves E) (N : ℕ) (d : List ℕ
       }
 
   pub doubled-promise : (buf : List ℕ) (r : Outcome) (after : List ℕ)
-      → r ≡ planned (E .width) (E .byte) N d (planBy rule (E .width) N d) buf .outcome
-      → after ≡ planned (E .width) (E .byte) N d (planBy rule (E .width) N d) buf .bytes → PlansDoubled rule E N d buf r after
+      → r ≡ planned E N d (planBy rule (E .width) N d) buf .outcome
+      → after ≡ planned E N d (planBy rule (E .width) N d) buf .bytes → PlansDoubled rule E N d buf r after
   doubled-promise buf = planned-promise E serves N d (planBy rule (E .width) N d) (Doubled N d) buf doubled-ready
 
 -- any outcome and any buffer afterwards that satisfy the contract of doubled::doubled_plan

@@ -26,8 +26,8 @@ module _ (E : Edition) (serves : Serves E) (N : ℕ) (d : List ℕ) where
       }
 
   pub exact-promise : (buf : List ℕ) (r : Outcome) (after : List ℕ)
-      → r ≡ planned (E .width) (E .byte) N d (exactPlan (E .width) N d) buf .outcome
-      → after ≡ planned (E .width) (E .byte) N d (exactPlan (E .width) N d) buf .bytes → PlansExactly E N d buf r after
+      → r ≡ planned E N d (exactPlan (E .width) N d) buf .outcome
+      → after ≡ planned E N d (exactPlan (E .width) N d) buf .bytes → PlansExactly E N d buf r after
   exact-promise buf = planned-promise E serves N d (exactPlan (E .width) N d) (Exact N d) buf exact-ready
 
 -- any outcome and any buffer afterwards that satisfy the contract of exact::exact_plan

@@ -153,7 +153,7 @@ module _ (N : ℕ) (d buf : List ℕ) (r : Outcome) (after : List ℕ) (met : Gr
   abbrev T : ℕ
   T = longest N (cell N d)
 
-  refused : (x : Refusal) → Gives (gratingPlanned 64 0 N d buf) (Refused x) buf → (Taken firstEdition 65535 N d plan buf → ⊥)
+  refused : (x : Refusal) → Gives (gratingPlanned firstEdition N d buf) (Refused x) buf → (Taken firstEdition 65535 N d plan buf → ⊥)
       → Why firstEdition 65535 N d plan buf x → GratingGiven N d buf r after
   refused x e bad why =
       let is : r ≡ Refused x = met .outcome ∙ sym (e .outcome) in
@@ -189,10 +189,10 @@ module _ (N : ℕ) (d buf : List ℕ) (r : Outcome) (after : List ℕ) (met : Gr
     counts = planCounts (length plan) 0 (total plan)
 
     is : r ≡ Done counts
-    is = met .outcome ∙ ap (λ (x : Result). x .outcome) (sym (done 64 0 N plan buf room ∙ fine-answer 64 0 N d buf T asks))
+    is = met .outcome ∙ ap (λ (x : Result). x .outcome) (sym (done firstEdition N plan buf room ∙ fine-answer firstEdition N d buf T asks))
 
     lays : after ≡ laid buf 0 (bytes 0 N plan)
-    lays = met .bytes ∙ ap (λ (x : Result). x .bytes) (sym (done 64 0 N plan buf room ∙ fine-answer 64 0 N d buf T asks))
+    lays = met .bytes ∙ ap (λ (x : Result). x .bytes) (sym (done firstEdition N plan buf room ∙ fine-answer firstEdition N d buf T asks))
 
     front : take (length plan * 68) after ≡ bytes 0 N plan
     front = ap (take (length plan * 68)) lays ∙ plan-front 0 N 64 (each-width 64 N sound) buf
@@ -251,11 +251,11 @@ module _ (N : ℕ) (d buf : List ℕ) (r : Outcome) (after : List ℕ) (met : Gr
     where
       by : (x : Checked) → checkDemand 64 N d ≡ x → Dec (whole 64 buf < length plan) → GratingGiven N d buf r after
       by (Faulty x) e _ =
-          refused x (faulty-answer 64 0 N d buf x e) (λ t. not-fine firstEdition N d (sym e ∙ sym (fair-fine firstEdition N d (omega arith) (t .fair))))
+          refused x (faulty-answer firstEdition N d buf x e) (λ t. not-fine firstEdition N d (sym e ∙ sym (fair-fine firstEdition N d (omega arith) (t .fair))))
           (faulty (faulty-fault firstEdition N d x (sym e)))
       by (Fine t) e (yes l) =
-          let s = short-answer 64 0 N plan buf (length plan) refl l in
-          let f = fine-answer 64 0 N d buf t e in
+          let s = short-answer firstEdition N plan buf (length plan) refl l in
+          let f = fine-answer firstEdition N d buf t e in
           refused (Room (length plan)) (gives-as (sym f) s)
           (λ q. omega (arith, q .room)) (no-room (fine-fair firstEdition N d t 65535 (sym e) (fine-asked 64 N t d e .small)) l)
       by (Fine t) e (no l) = given (e ∙ ap Fine (fine-asked 64 N t d e .longest-is)) (omega (arith, l))

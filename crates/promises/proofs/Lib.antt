@@ -17,6 +17,7 @@ pub mod Planner
 pub mod Exact
 pub mod Doubled
 pub mod Quick
+pub mod Second
 pub mod Checked
 pub mod Wrong
 pub mod Edge

@@ -58,6 +58,18 @@ every-rotation-one-result N d buf = gives-one-result _
 pub quick-one-result : (N : ℕ) (d buf : List ℕ) → OneResult (call.QuickPlan N d buf)
 quick-one-result N d buf = gives-one-result _
 
+pub exact-second-one-result : (N : ℕ) (d buf : List ℕ) → OneResult (call.ExactPlanSecond N d buf)
+exact-second-one-result N d buf = gives-one-result _
+
+pub doubled-second-one-result : (N : ℕ) (d buf : List ℕ) → OneResult (call.DoubledPlanSecond N d buf)
+doubled-second-one-result N d buf = gives-one-result _
+
+pub every-rotation-second-one-result : (N : ℕ) (d buf : List ℕ) → OneResult (call.EveryRotationSecond N d buf)
+every-rotation-second-one-result N d buf = gives-one-result _
+
+pub quick-second-one-result : (N : ℕ) (d buf : List ℕ) → OneResult (call.QuickPlanSecond N d buf)
+quick-second-one-result N d buf = gives-one-result _
+
 pub grating-doubled-one-result : (N : ℕ) (d buf : List ℕ) → OneResult (call.GratingDoubled N d buf)
 grating-doubled-one-result N d buf = gives-one-result _
 
@@ -141,6 +153,18 @@ cv-every-rotation-one-result N d buf = crosses-one-result _
 
 pub cv-quick-one-result : (N : ℕ) (d buf : List ℕ) → OneResult (call.CvQuick N d buf)
 cv-quick-one-result N d buf = crosses-one-result _
+
+pub cv2-exact-one-result : (N : ℕ) (d buf : List ℕ) → OneResult (call.Cv2Exact N d buf)
+cv2-exact-one-result N d buf = crosses-one-result _
+
+pub cv2-doubled-one-result : (N : ℕ) (d buf : List ℕ) → OneResult (call.Cv2Doubled N d buf)
+cv2-doubled-one-result N d buf = crosses-one-result _
+
+pub cv2-every-rotation-one-result : (N : ℕ) (d buf : List ℕ) → OneResult (call.Cv2EveryRotation N d buf)
+cv2-every-rotation-one-result N d buf = crosses-one-result _
+
+pub cv2-quick-one-result : (N : ℕ) (d buf : List ℕ) → OneResult (call.Cv2Quick N d buf)
+cv2-quick-one-result N d buf = crosses-one-result _
 
 pub cv-room-one-answer : (E : Edition) (planner : Planner) (N T : ℕ) → OneAnswer (call.CvRoomFor E planner N T)
 cv-room-one-answer E planner N T = one _

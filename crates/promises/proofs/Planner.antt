@@ -29,8 +29,8 @@ use Rattle.records.proofs.Part.{whole-fits}
 use Rattle.records.proofs.Round.{planOf-bytes}
 use Rattle.records.proofs.Laid.{length-laid}
 use Rattle.switch.specs.declared.Edition.{Edition}
-use Rattle.switch.specs.Editions.{firstEdition}
-use Rattle.switch.proofs.Editions.{first-bounded}
+use Rattle.switch.specs.Editions.{firstEdition, secondEdition}
+use Rattle.switch.proofs.Editions.{first-bounded, second-bounded}
 use Rattle.switch.specs.Result.{Result, refuses}
 use Rattle.planner.specs.Planned.{writes, planned, plannedUpTo}
 use Rattle.planner.proofs.Planned.{planned-faulty, planned-short, planned-done, limited-faulty, limited-long, limited-short, limited-done}
@@ -46,22 +46,18 @@ use Rattle.promises.specs.Planner.{Serves, Fair, Taken, Why, faulty, ove
 -- a refusal with its reason, where something is not taken; or the plan written, where all is
 data Results (E : Edition) (most N : ℕ) (d : List ℕ) (p : List Record) (buf : List ℕ) : Result → Type 0 where
   refused : (f : Refusal) → (Taken E most N d p buf → ⊥) → Why E most N d p buf f → Results E most N d p buf (refuses f buf)
-  written : Taken E most N d p buf → Results E most N d p buf (writes (E .byte) N (longest N (cell N d)) (emptySlots N (cell N d) p) p buf)
+  written : Taken E most N d p buf → Results E most N d p buf (writes E N (longest N (cell N d)) (emptySlots N (cell N d) p) p buf)
 
--- an edition whose planners take as many ports as its records have outputs
-module _ (E : Edition) (square : E .ports ≡ E .width) (N : ℕ) (d : List ℕ) (p : List Record) (buf : List ℕ) where
-  checks : {o : Checked} → o ≡ checkDemand (E .ports) N d → checkDemand (E .width) N d ≡ o
-  checks e = ap (λ (m : ℕ). checkDemand m N d) (sym square) ∙ sym e
-
+module _ (E : Edition) (N : ℕ) (d : List ℕ) (p : List Record) (buf : List ℕ) where
   -- a demand that is checked
   module _ (most : ℕ) (few : most ≤ 65535) (T : ℕ) (q : Fine T ≡ checkDemand (E .ports) N d) where
     longest-is : T ≡ longest N (cell N d)
     longest-is = demand.fine-asked (E .ports) N T d (sym q) .longest-is
 
     fits : T ≤ most → length p ≤ whole (E .width) buf
-        → {x : Result} → x ≡ writes (E .byte) N T (emptySlots N (cell N d) p) p buf → Results E most N d p buf x
+        → {x : Result} → x ≡ writes E N T (emptySlots N (cell N d) p) p buf → Results E most N d p buf x
     fits l room e =
-        subst (Results E most N d p buf) (sym (e ∙ ap (λ (t : ℕ). writes (E .byte) N t (emptySlots N (cell N d) p) p buf) longest-is))
+        subst (Results E most N d p buf) (sym (e ∙ ap (λ (t : ℕ). writes E N t (emptySlots N (cell N d) p) p buf) longest-is))
         (written (record { fair = fine-fair E N d T most q l; room = room }))
 
     long : most < T → Taken E most N d p buf → ⊥
@@ -70,43 +66,43 @@ module _ (E : Edition) (square : E .ports ≡ E .width) (N : ℕ) (d : List ℕ)
   faulty-not : (most : ℕ) → most ≤ 65535 → (f : Refusal) → Faulty f ≡ checkDemand (E .ports) N d → Taken E most N d p buf → ⊥
   faulty-not most few f q t = not-fine E N d (q ∙ sym (fair-fine E N d few (t .fair)))
 
-  limited-results : (most : ℕ) → most ≤ 65535 → Results E most N d p buf (plannedUpTo most (E .width) (E .byte) N d p buf)
+  limited-results : (most : ℕ) → most ≤ 65535 → Results E most N d p buf (plannedUpTo most E N d p buf)
   limited-results most few = by-demand (checkDemand (E .ports) N d) refl
     where
       by-room : (T : ℕ) → Fine T ≡ checkDemand (E .ports) N d → Dec (most < T) → Dec (whole (E .width) buf < length p)
-          → Results E most N d p buf (plannedUpTo most (E .width) (E .byte) N d p buf)
-      by-room T q (yes h) x = rw (limited-long most (E .width) (E .byte) N d p buf T (checks q) h) (refused Longest (long most few T q h)
+          → Results E most N d p buf (plannedUpTo most E N d p buf)
+      by-room T q (yes h) x = rw (limited-long most E N d p buf T (sym q) h) (refused Longest (long most few T q h)
           (over-limit (fine-fair E N d T 65535 q (demand.fine-asked (E .ports) N T d (sym q) .small)) (omega (arith, h, longest-is most few T q))))
       by-room T q (no h) (yes l) =
-          rw (limited-short most (E .width) (E .byte) N d p buf T (checks q) (omega (arith, h)) l)
+          rw (limited-short most E N d p buf T (sym q) (omega (arith, h)) l)
           (refused (Room (length p)) (λ t. omega (arith, l, t .room)) (no-room (fine-fair E N d T most q (omega (arith, h))) l))
       by-room T q (no h) (no l) =
           let a : T ≤ most = omega (arith, h) in
           let b : length p ≤ whole (E .width) buf = omega (arith, l) in
-          fits most few T q a b (limited-done most (E .width) (E .byte) N d p buf T (checks q) a b)
+          fits most few T q a b (limited-done most E N d p buf T (sym q) a b)
 
-      by-demand : (o : Checked) → o ≡ checkDemand (E .ports) N d → Results E most N d p buf (plannedUpTo most (E .width) (E .byte) N d p buf)
+      by-demand : (o : Checked) → o ≡ checkDemand (E .ports) N d → Results E most N d p buf (plannedUpTo most E N d p buf)
       by-demand (Faulty f) q =
-          rw (limited-faulty most (E .width) (E .byte) N d p buf f (checks q)) (refused f (faulty-not most few f q) (faulty (faulty-fault E N d f q)))
+          rw (limited-faulty most E N d p buf f (sym q)) (refused f (faulty-not most few f q) (faulty (faulty-fault E N d f q)))
       by-demand (Fine T) q = by-room T q (decLt most T) (decLt (whole (E .width) buf) (length p))
 
   -- a planner without a limit of its own: no line is over 65,535
-  planned-results : Results E 65535 N d p buf (planned (E .width) (E .byte) N d p buf)
+  planned-results : Results E 65535 N d p buf (planned E N d p buf)
   planned-results = by-demand (checkDemand (E .ports) N d) refl
     where
       by-room : (T : ℕ) → Fine T ≡ checkDemand (E .ports) N d → Dec (whole (E .width) buf < length p)
-          → Results E 65535 N d p buf (planned (E .width) (E .byte) N d p buf)
+          → Results E 65535 N d p buf (planned E N d p buf)
       by-room T q (yes l) =
-          rw (planned-short (E .width) (E .byte) N d p buf T (checks q) l)
+          rw (planned-short E N d p buf T (sym q) l)
           (refused (Room (length p)) (λ t. omega (arith, l, t .room))
           (no-room (fine-fair E N d T 65535 q (demand.fine-asked (E .ports) N T d (sym q) .small)) l))
       by-room T q (no l) =
           let b : length p ≤ whole (E .width) buf = omega (arith, l) in
-          fits 65535 (omega arith) T q (demand.fine-asked (E .ports) N T d (sym q) .small) b (planned-done (E .width) (E .byte) N d p buf T (checks q) b)
+          fits 65535 (omega arith) T q (demand.fine-asked (E .ports) N T d (sym q) .small) b (planned-done E N d p buf T (sym q) b)
 
-      by-demand : (o : Checked) → o ≡ checkDemand (E .ports) N d → Results E 65535 N d p buf (planned (E .width) (E .byte) N d p buf)
+      by-demand : (o : Checked) → o ≡ checkDemand (E .ports) N d → Results E 65535 N d p buf (planned E N d p buf)
       by-demand (Faulty f) q =
-          rw (planned-faulty (E .width) (E .byte) N d p buf f (checks q)) (refused f (faulty-not 65535 (omega arith) f q) (faulty (faulty-fault E N d f q)))
+          rw (planned-faulty E N d p buf f (sym q)) (refused f (faulty-not 65535 (omega arith) f q) (faulty (faulty-fault E N d f q)))
       by-demand (Fine T) q = by-room T q (decLt (whole (E .width) buf) (length p))
 
 -- ---- what the written plan is worth
@@ -194,24 +190,27 @@ module _ (E : Edition) (serves : Serves E) (most : ℕ) (small : most ≤ 65535)
       bytes-are = b ∙ (unfold writes in refl)
 
   -- the contract of a planner with a limit
-  pub limited-promise : (r : Outcome) (after : List ℕ) → r ≡ plannedUpTo most (E .width) (E .byte) N d p buf .outcome
-      → after ≡ plannedUpTo most (E .width) (E .byte) N d p buf .bytes → Plans E most N d p Worth buf r after
-  limited-promise = promised (limited-results E (serves .square) N d p buf most small)
+  pub limited-promise : (r : Outcome) (after : List ℕ) → r ≡ plannedUpTo most E N d p buf .outcome
+      → after ≡ plannedUpTo most E N d p buf .bytes → Plans E most N d p Worth buf r after
+  limited-promise = promised (limited-results E N d p buf most small)
 
 -- the contract of a planner without one
 pub planned-promise : (E : Edition) → Serves E → (N : ℕ) (d : List ℕ) (p : List Record) (Worth : List Record → Type 0) (buf : List ℕ)
-    → (Fair E 65535 N d → Ready E N d p Worth) → (r : Outcome) (after : List ℕ) → r ≡ planned (E .width) (E .byte) N d p buf .outcome
-    → after ≡ planned (E .width) (E .byte) N d p buf .bytes → Plans E 65535 N d p Worth buf r after
-planned-promise E serves N d p Worth buf ready = promised E serves 65535 (omega arith) N d p Worth buf ready (planned-results E (serves .square) N d p buf)
+    → (Fair E 65535 N d → Ready E N d p Worth) → (r : Outcome) (after : List ℕ) → r ≡ planned E N d p buf .outcome
+    → after ≡ planned E N d p buf .bytes → Plans E 65535 N d p Worth buf r after
+planned-promise E serves N d p Worth buf ready = promised E serves 65535 (omega arith) N d p Worth buf ready (planned-results E N d p buf)
 
--- the first edition serves
+-- both editions serve
 pub first-serves : Serves firstEdition
-first-serves = record { bounded = first-bounded; square = refl; roomy = omega arith }
+first-serves = record { bounded = first-bounded; roomy = omega arith }
+
+pub second-serves : Serves secondEdition
+second-serves = record { bounded = second-bounded; roomy = omega arith }
 
 -- a fair demand's N and cells, as the rules' laws ask for them
 module _ (E : Edition) (serves : Serves E) {most N : ℕ} {d : List ℕ} (fair : Fair E most N d) where
   pub fair-top : N ≤ E .width
-  fair-top = omega (arith, fair .few, serves .square)
+  fair-top = omega (arith, fair .few, serves .bounded .ports)
 
   pub fair-small : N ≤ 128
   fair-small = omega (arith, fair-top, serves .bounded .width)

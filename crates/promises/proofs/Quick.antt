@@ -29,8 +29,8 @@ module _ (E : Edition) (serves : Serves E) (N : ℕ) (d : List ℕ) where
       }
 
   pub quick-promise : (buf : List ℕ) (r : Outcome) (after : List ℕ)
-      → r ≡ plannedUpTo 1024 (E .width) (E .byte) N d (quickPlan (E .width) N d) buf .outcome
-      → after ≡ plannedUpTo 1024 (E .width) (E .byte) N d (quickPlan (E .width) N d) buf .bytes → PlansQuickly E N d buf r after
+      → r ≡ plannedUpTo 1024 E N d (quickPlan (E .width) N d) buf .outcome
+      → after ≡ plannedUpTo 1024 E N d (quickPlan (E .width) N d) buf .bytes → PlansQuickly E N d buf r after
   quick-promise buf = limited-promise E serves 1024 (omega arith) N d (quickPlan (E .width) N d) (Quick N d) buf quick-ready
 
 -- any outcome and any buffer afterwards that satisfy the contract of quick::quick_plan

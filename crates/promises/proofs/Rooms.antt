@@ -29,8 +29,6 @@ use Rattle.rules.proofs.Exact.{exact}
 use Rattle.rules.proofs.Quick.{quick}
 use Rattle.room.specs.declared.Planner.{Planner}
 use Rattle.room.specs.declared.Planner.the-variants.{Exact, Doubled, Quick}
-use Rattle.switch.specs.Editions.{secondEdition}
-use Rattle.switch.proofs.Editions.{second-bounded}
 use Rattle.room.specs.Room.{exactRoom, doubledRoom, quickRoom, sufficing, roomOf, roomed}
 use Rattle.room.proofs.Room.{roomed-over, roomed-fine}
 use Rattle.promises.specs.Papers.{d1, d6}
@@ -42,10 +40,6 @@ use Rattle.promises.proofs.Planner.{fair-top, fair-small, fair-cells}
 use Rattle.promises.proofs.Exact.{exact-promise}
 use Rattle.promises.proofs.Doubled.{both-doubled, doubled-promise}
 use Rattle.promises.proofs.Quick.{quick-promise}
-
--- the second edition serves
-pub second-serves : Serves secondEdition
-second-serves = record { bounded = second-bounded; square = refl; roomy = omega arith }
 
 -- ---- the number that a call gives
 

@@ -63,23 +63,39 @@ WishList N list cells = Leaves (outcome 64 N list (length cells)) (cellsAfter 64
 
 -- exact::exact_plan(n, cells, plan)
 abbrev pub ExactPlan : ℕ → List ℕ → List ℕ → Outcome → List ℕ → Type 0
-ExactPlan N d buf = Gives (planned 64 0 N d (exactPlan 64 N d) buf)
+ExactPlan N d buf = Gives (planned firstEdition N d (exactPlan 64 N d) buf)
 
 -- doubled::doubled_plan(n, cells, plan)
 abbrev pub DoubledPlan : ℕ → List ℕ → List ℕ → Outcome → List ℕ → Type 0
-DoubledPlan N d buf = Gives (planned 64 0 N d (tightPlan 64 N d) buf)
+DoubledPlan N d buf = Gives (planned firstEdition N d (tightPlan 64 N d) buf)
 
 -- doubled::doubled_plan_every_rotation(n, cells, plan)
 abbrev pub EveryRotation : ℕ → List ℕ → List ℕ → Outcome → List ℕ → Type 0
-EveryRotation N d buf = Gives (planned 64 0 N d (doubledPlan 64 N d) buf)
+EveryRotation N d buf = Gives (planned firstEdition N d (doubledPlan 64 N d) buf)
 
 -- quick::quick_plan(n, cells, plan)
 abbrev pub QuickPlan : ℕ → List ℕ → List ℕ → Outcome → List ℕ → Type 0
-QuickPlan N d buf = Gives (plannedUpTo 1024 64 0 N d (quickPlan 64 N d) buf)
+QuickPlan N d buf = Gives (plannedUpTo 1024 firstEdition N d (quickPlan 64 N d) buf)
+
+-- the same in the second edition: exact::exact_plan_second(n, cells, plan)
+abbrev pub ExactPlanSecond : ℕ → List ℕ → List ℕ → Outcome → List ℕ → Type 0
+ExactPlanSecond N d buf = Gives (planned secondEdition N d (exactPlan 128 N d) buf)
+
+-- doubled::doubled_plan_second(n, cells, plan)
+abbrev pub DoubledPlanSecond : ℕ → List ℕ → List ℕ → Outcome → List ℕ → Type 0
+DoubledPlanSecond N d buf = Gives (planned secondEdition N d (tightPlan 128 N d) buf)
+
+-- doubled::doubled_plan_every_rotation_second(n, cells, plan)
+abbrev pub EveryRotationSecond : ℕ → List ℕ → List ℕ → Outcome → List ℕ → Type 0
+EveryRotationSecond N d buf = Gives (planned secondEdition N d (doubledPlan 128 N d) buf)
+
+-- quick::quick_plan_second(n, cells, plan)
+abbrev pub QuickPlanSecond : ℕ → List ℕ → List ℕ → Outcome → List ℕ → Type 0
+QuickPlanSecond N d buf = Gives (plannedUpTo 1024 secondEdition N d (quickPlan 128 N d) buf)
 
 -- grating::grating_doubled(n, cells, plan)
 abbrev pub GratingDoubled : ℕ → List ℕ → List ℕ → Outcome → List ℕ → Type 0
-GratingDoubled N d buf = Gives (gratingPlanned 64 0 N d buf)
+GratingDoubled N d buf = Gives (gratingPlanned firstEdition N d buf)
 
 -- ---- plans
 
@@ -159,19 +175,35 @@ CvWishes N list cells = Leaves (flat (outcome 64 N list (length cells))) (cellsA
 
 -- cv_exact(n, cells, plan)
 abbrev pub CvExact : ℕ → List ℕ → List ℕ → CvAnswer → List ℕ → Type 0
-CvExact N d buf = Crosses (planned 64 0 N d (exactPlan 64 N d) buf)
+CvExact N d buf = Crosses (planned firstEdition N d (exactPlan 64 N d) buf)
 
 -- cv_doubled(n, cells, plan)
 abbrev pub CvDoubled : ℕ → List ℕ → List ℕ → CvAnswer → List ℕ → Type 0
-CvDoubled N d buf = Crosses (planned 64 0 N d (tightPlan 64 N d) buf)
+CvDoubled N d buf = Crosses (planned firstEdition N d (tightPlan 64 N d) buf)
 
 -- cv_doubled_every_rotation(n, cells, plan)
 abbrev pub CvEveryRotation : ℕ → List ℕ → List ℕ → CvAnswer → List ℕ → Type 0
-CvEveryRotation N d buf = Crosses (planned 64 0 N d (doubledPlan 64 N d) buf)
+CvEveryRotation N d buf = Crosses (planned firstEdition N d (doubledPlan 64 N d) buf)
 
 -- cv_quick(n, cells, plan)
 abbrev pub CvQuick : ℕ → List ℕ → List ℕ → CvAnswer → List ℕ → Type 0
-CvQuick N d buf = Crosses (plannedUpTo 1024 64 0 N d (quickPlan 64 N d) buf)
+CvQuick N d buf = Crosses (plannedUpTo 1024 firstEdition N d (quickPlan 64 N d) buf)
+
+-- cv2_exact(n, cells, plan)
+abbrev pub Cv2Exact : ℕ → List ℕ → List ℕ → CvAnswer → List ℕ → Type 0
+Cv2Exact N d buf = Crosses (planned secondEdition N d (exactPlan 128 N d) buf)
+
+-- cv2_doubled(n, cells, plan)
+abbrev pub Cv2Doubled : ℕ → List ℕ → List ℕ → CvAnswer → List ℕ → Type 0
+Cv2Doubled N d buf = Crosses (planned secondEdition N d (tightPlan 128 N d) buf)
+
+-- cv2_doubled_every_rotation(n, cells, plan)
+abbrev pub Cv2EveryRotation : ℕ → List ℕ → List ℕ → CvAnswer → List ℕ → Type 0
+Cv2EveryRotation N d buf = Crosses (planned secondEdition N d (doubledPlan 128 N d) buf)
+
+-- cv2_quick(n, cells, plan)
+abbrev pub Cv2Quick : ℕ → List ℕ → List ℕ → CvAnswer → List ℕ → Type 0
+Cv2Quick N d buf = Crosses (plannedUpTo 1024 secondEdition N d (quickPlan 128 N d) buf)
 
 -- cv_exact_room(n, longest), cv_doubled_room and cv_quick_room, and cv2_ of each
 abbrev pub CvRoomFor : Edition → Planner → ℕ → ℕ → CvAnswer → Type 0
@@ -179,7 +211,7 @@ CvRoomFor E planner N T r = r ≡ flat (roomed E planner N T)
 
 -- cv_grating_doubled(n, cells, plan)
 abbrev pub CvGratingDoubled : ℕ → List ℕ → List ℕ → CvAnswer → List ℕ → Type 0
-CvGratingDoubled N d buf = Crosses (gratingPlanned 64 0 N d buf)
+CvGratingDoubled N d buf = Crosses (gratingPlanned firstEdition N d buf)
 
 -- cv_grating_report(n, plan, report)
 abbrev pub CvGratingReport : ℕ → List ℕ → List ℕ → CvAnswer → List ℕ → Type 0

@@ -17,7 +17,7 @@ use Rattle.planner.specs.Planned.{planned}
 
 -- what the exact call gives, in any edition
 abbrev pub exactGiven : Edition → (N : ℕ) (d buf : List ℕ) → Result
-exactGiven E N d buf = planned (E .width) (E .byte) N d (exactPlan (E .width) N d) buf
+exactGiven E N d buf = planned E N d (exactPlan (E .width) N d) buf
 
 -- as many records, and T, total and empty slots multiplied by k
 abbrev pub largerCounts : ℕ → Counts → Counts

@@ -19,11 +19,9 @@ use Rattle.switch.specs.declared.Edition.{Edition}
 use Rattle.switch.specs.Editions.{Bounded}
 use Rattle.checker.specs.Check.{checkPlan}
 
--- an edition for the planners: its records have an output for every port, and a plan may have as many of them as any planner writes, which are
--- N² - 2N + 2, 2N, and 2T - 1 with T at most 1,024
+-- an edition for the planners: a plan may have as many records as any planner writes, which are N² - 2N + 2, 2N, and 2T - 1 with T at most 1,024
 pub record Serves (E : Edition) : Type 0 where
   pub bounded : Bounded E
-  pub square : E .ports ≡ E .width
   pub roomy : E .ports * E .ports + 2048 ≤ E .records
 
 -- a demand that a planner takes: N is 1 to the edition's most ports, there are N² cells, and no row and no column sums over `most`

@@ -30,9 +30,9 @@ plannerOf (doubling rule) = Doubled
 
 -- what the planner gives for a demand and a buffer
 abbrev pub resultOf : Method → Edition → ℕ → List ℕ → List ℕ → Result
-resultOf exactly E N d = planned (E .width) (E .byte) N d (exactPlan (E .width) N d)
-resultOf quickly E N d = plannedUpTo 1024 (E .width) (E .byte) N d (quickPlan (E .width) N d)
-resultOf (doubling rule) E N d = planned (E .width) (E .byte) N d (planBy rule (E .width) N d)
+resultOf exactly E N d = planned E N d (exactPlan (E .width) N d)
+resultOf quickly E N d = plannedUpTo 1024 E N d (quickPlan (E .width) N d)
+resultOf (doubling rule) E N d = planned E N d (planBy rule (E .width) N d)
 
 -- the number of records that is promised
 abbrev pub numberOf : Planner → ℕ → ℕ → ℕ

@@ -14,6 +14,8 @@ use Rattle.switch.specs.declared.Refusal.{Refusal}
 use Rattle.switch.specs.declared.Refusal.the-variants.{Longest, Room}
 use Rattle.switch.specs.declared.Outcome.{Outcome}
 use Rattle.switch.specs.declared.Outcome.the-variants.{Done, Refused}
+use Rattle.switch.specs.declared.Edition.{Edition}
+use Rattle.switch.specs.Editions.{Bounded}
 use Rattle.switch.specs.Answer.{planCounts}
 use Rattle.switch.specs.Demand.{cell}
 use Rattle.switch.specs.Plan.{Record}
@@ -34,11 +36,15 @@ use Rattle.switch.specs.Result.{Result, Gives}
 use Rattle.planner.specs.Planned.{plannedUpTo}
 use Rattle.switch.proofs.Result.{gives, gives-one}
 use Rattle.planner.proofs.Planned.{limited-faulty, limited-long, limited-short, limited-done, written-outcome, written-bytes}
+use Rattle.room.specs.Room.{quickRoom}
 use Rattle.quick.specs.Lent.{Lent, Space}
 
--- room for 2T - 1 records is always enough
-pub enough : (W N T room : ℕ) (d : List ℕ) → W ≤ 128 → Asked W N T d → 2 * T - 1 ≤ room → length (quickPlan W N d) ≤ room
-enough W N T room d w a l = omega (arith, quick-at-most W N (a .some) (a .few) (omega (arith, a .few)) d, a .longest-is)
+-- the room that is promised beforehand is always enough
+pub enough : (E : Edition) → Bounded E → (N T room : ℕ) (d : List ℕ) → Asked (E .ports) N T d → quickRoom T ≤ room → length (quickPlan (E .width) N d) ≤ room
+unfolding quickRoom
+enough E b N T room d a l =
+    let f : N ≤ E .width = omega (arith, a .few, b .ports) in
+    omega (arith, quick-at-most (E .width) N (a .some) f (omega (arith, f, b .width)) d, a .longest-is)
 
 -- ---- the plan's bytes
 
@@ -61,54 +67,62 @@ plan-fits W e N d buf l = omega (arith, plan-size W e N d, le-div-iff-mul-le {k 
 
 -- ---- the answer
 
-module _ (W e N : ℕ) (d buf : List ℕ) where
+module _ (E : Edition) (N : ℕ) (d buf : List ℕ) where
+  abbrev plan : List Record
+  plan = quickPlan (E .width) N d
+
   abbrev answer : Result
-  answer = plannedUpTo 1024 W e N d (quickPlan W N d) buf
+  answer = plannedUpTo 1024 E N d plan buf
 
   -- codes 1, 2 and 3
-  pub gives-fault : (r : Refusal) → checkDemand W N d ≡ Faulty r → Gives answer (Refused r) buf
-  gives-fault r c = gives (limited-faulty 1024 W e N d (quickPlan W N d) buf r c) refl refl
+  pub gives-fault : (r : Refusal) → checkDemand (E .ports) N d ≡ Faulty r → Gives answer (Refused r) buf
+  gives-fault r c = gives (limited-faulty 1024 E N d plan buf r c) refl refl
 
-  module _ (T : ℕ) (fine : checkDemand W N d ≡ Fine T) where
+  module _ (T : ℕ) (fine : checkDemand (E .ports) N d ≡ Fine T) where
     -- code 4
     pub gives-longest : 1024 < T → Gives answer (Refused Longest) buf
-    gives-longest l = gives (limited-long 1024 W e N d (quickPlan W N d) buf T fine l) refl refl
+    gives-longest l = gives (limited-long 1024 E N d plan buf T fine l) refl refl
 
-    module _ (small : T ≤ 1024) (r : ℕ) (count : r ≡ length (quickPlan W N d)) where
+    module _ (small : T ≤ 1024) (r : ℕ) (count : r ≡ length plan) where
       -- code 5
-      pub gives-room : whole W buf < r → Gives answer (Refused (Room r)) buf
+      pub gives-room : whole (E .width) buf < r → Gives answer (Refused (Room r)) buf
       gives-room h =
-          gives (limited-short 1024 W e N d (quickPlan W N d) buf T fine small (omega (arith, count))) (ap {B = Outcome} (λ (k : ℕ). Refused (Room k)) count) refl
+          gives (limited-short 1024 E N d plan buf T fine small (omega (arith, count))) (ap {B = Outcome} (λ (k : ℕ). Refused (Room k)) count) refl
 
       -- as many records as the plan has, each held for one slot, and no slot empty
-      pub gives-plan : W ≤ 128 → length (quickPlan W N d) ≤ whole W buf → (after : List ℕ) → after ≡ laid buf 0 (bytes e N (quickPlan W N d))
+      pub gives-plan : Bounded E → length plan ≤ whole (E .width) buf → (after : List ℕ) → after ≡ laid buf 0 (bytes (E .byte) N plan)
           → Gives answer (Done (planCounts r T r)) after
       gives-plan w fits after b =
-          let k = fine-asked W N T d fine in
-          gives (limited-done 1024 W e N d (quickPlan W N d) buf T fine small fits)
-          (written-outcome e N T (emptySlots N (cell N d) (quickPlan W N d)) r r 0 (quickPlan W N d) buf count (count ∙ sym (quick-total W N (k .some) (k .few) (omega (arith, k .few)) d))
-          (sym (quick-empty-slots W N (k .some) (k .few) (omega (arith, k .few)) d)))
-          (b ∙ written-bytes e N T (emptySlots N (cell N d) (quickPlan W N d)) (quickPlan W N d) buf)
+          let k = fine-asked (E .ports) N T d fine in
+          let f : N ≤ E .width = omega (arith, k .few, w .ports) in
+          let s : N ≤ 255 = omega (arith, f, w .width) in
+          gives (limited-done 1024 E N d plan buf T fine small fits)
+          (written-outcome E N T (emptySlots N (cell N d) plan) r r 0 plan buf count (count ∙ sym (quick-total (E .width) N (k .some) f s d))
+          (sym (quick-empty-slots (E .width) N (k .some) f s d)))
+          (b ∙ written-bytes E N T (emptySlots N (cell N d) plan) plan buf)
 
 -- any two results of the call are one
-pub one-result : (N : ℕ) (d buf : List ℕ) (r s : Outcome) (after later : List ℕ) → Gives (answer 64 0 N d buf) r after → Gives (answer 64 0 N d buf) s later → (r ≡ s) × (after ≡ later)
-one-result N d buf r s after later = gives-one
+pub one-result : (E : Edition) (N : ℕ) (d buf : List ℕ) (r s : Outcome) (after later : List ℕ)
+    → Gives (answer E N d buf) r after → Gives (answer E N d buf) s later → (r ≡ s) × (after ≡ later)
+one-result E N d buf r s after later = gives-one
 
 -- ---- what is lent
 
 -- as many labels as ports are lent of those that there are
-pub lends : (N T : ℕ) (d w lows highs out : List ℕ) → Lent w lows highs out → checkDemand (length out) N d ≡ Fine T → (N ≤ length lows) × (N ≤ length highs) × Space N w (take N lows) (take N highs) out
-lends N T d w lows highs out l f =
-    let k : Asked (length out) N T d = fine-asked (length out) N T d f in
+pub lends : (E : Edition) (N T : ℕ) (d w lows highs out : List ℕ) → Lent E w lows highs out → checkDemand (E .ports) N d ≡ Fine T
+    → (N ≤ length lows) × (N ≤ length highs) × Space N w (take N lows) (take N highs) out
+lends E N T d w lows highs out l f =
+    let k : Asked (E .ports) N T d = fine-asked (E .ports) N T d f in
     let a : N ≤ length lows = omega (arith, k .few, l .low) in
-    let b : N ≤ length highs = omega (arith, k .few, l .high) in (
+    let b : N ≤ length highs = omega (arith, k .few, l .high) in
+    let s : N ≤ E .width = omega (arith, k .few, l .bounded .ports) in (
       a,
       b,
       record {
-        sized = record { some = k .some; few = omega (arith, k .few, l .few); room = omega (arith, mul-le-mul (k .few) (k .few), l .cells) };
+        sized = record { some = k .some; few = omega (arith, s, l .bounded .width); room = omega (arith, mul-le-mul (k .few) (k .few), l .cells) };
         low = length-take-le N lows a;
         high = length-take-le N highs b;
-        wide = l .few;
-        seats = k .few;
+        wide = omega (arith, l .wide, l .bounded .width);
+        seats = omega (arith, l .wide, s);
       },
     )

@@ -4,6 +4,8 @@ use mathlib.Core.Bool.{Bool, true, false, cond}
 use mathlib.Core.List.{List}
 use Prim.Native.Nat.{ℕ, _+_, _*_, _≤_, _<_}
 use lib.ListN.{length}
+use Rattle.switch.specs.declared.Edition.{Edition}
+use Rattle.switch.specs.Editions.{Bounded}
 use Rattle.switch.specs.Demand.{cell}
 use Rattle.demand.specs.declared.Checked.{Checked}
 use Rattle.demand.specs.declared.Checked.the-variants.{Fine}
@@ -21,25 +23,27 @@ pub record Space (N : ℕ) (w lows highs out : List ℕ) : Type 0 where
   pub wide : length out ≤ 128
   pub seats : N ≤ length out
 
--- the same for as many ports as a record has outputs, and for fewer
-pub record Lent (w lows highs out : List ℕ) : Type 0 where
-  pub few : length out ≤ 128
-  pub cells : length out * length out ≤ length w
-  pub low : length out ≤ length lows
-  pub high : length out ≤ length highs
+-- the same for the largest switch of an edition, and for smaller ones
+pub record Lent (E : Edition) (w lows highs out : List ℕ) : Type 0 where
+  pub bounded : Bounded E
+  pub cells : E .ports * E .ports ≤ length w
+  pub low : E .ports ≤ length lows
+  pub high : E .ports ≤ length highs
+  pub wide : length out ≡ E .width
 
 -- the working copy has the demand's cells
 abbrev pub Copied : ℕ → List ℕ → List ℕ → Type 0
 Copied N d w = (i j : ℕ) → i < N → j < N → cell N w i j ≡ cell N d i j
 
 -- the demand is checked, and where nothing refuses it by itself it is copied in
-pub record CopyChecked (W N : ℕ) (d w' : List ℕ) (r : Checked) : Type 0 where
-  pub checked : r ≡ checkDemand W N d
+pub record CopyChecked (most N : ℕ) (d w' : List ℕ) (r : Checked) : Type 0 where
+  pub checked : r ≡ checkDemand most N d
   pub copied : (T : ℕ) → r ≡ Fine T → Copied N d w'
 
 -- a demand that nothing but the room can refuse, and its working copy
-pub record Asked (W N T : ℕ) (d w : List ℕ) : Type 0 where
-  pub fine : checkDemand W N d ≡ Fine T
+pub record Asked (E : Edition) (N T : ℕ) (d w : List ℕ) : Type 0 where
+  pub bounded : Bounded E
+  pub fine : checkDemand (E .ports) N d ≡ Fine T
   pub small : T ≤ 1024
   pub copied : Copied N d w
 

@@ -6,82 +6,106 @@ use demand::Checked;
 use demand::asked_slots;
 use demand::check_demand;
 use labels::Inputs;
-use records::EDITION;
 use records::HEAD;
 use records::IDLE;
 use records::put_record;
+use room::MOST_QUICK;
+use room::quick_records;
 use slot::Rest;
 use slot::fill_slot;
 use switch::Counts;
+use switch::Edition;
 use switch::Outcome;
 use switch::PORTS;
 use switch::Refusal;
+use switch::WIDE_PORTS;
 use work::copy;
 use work::label_rows;
 ghost use mathlib.Core.Path.{_≡_};
 ghost use mathlib.Core.Bool.{true};
-ghost use Prim.Native.Nat.{_+_, _*_, _-_, _<_, _≤_};
+ghost use Prim.Native.Nat.{_+_, _*_, _<_, _≤_};
 ghost use lib.ListN.{length};
 ghost use Rattle.demand.specs.Lines.{Short};
 ghost use Rattle.records.specs.Bytes.{bytes};
 ghost use Rattle.rules.specs.Quick.{quickPlan};
+ghost use Rattle.switch.specs.Editions.{firstEdition, secondEdition};
 ghost use Rattle.switch.specs.Result.{Gives};
 ghost use Rattle.planner.specs.Planned.{plannedUpTo};
 ghost use Rattle.slot.specs.Filled.{leftover, Copy};
 ghost use Rattle.quick.specs.Lent.{Space, Lent, Asked, CopyChecked, ShortOf, laidIf, LaidOne};
 
-// T is at most 1,024 here.
-pub const MOST_SLOTS: u64 = 1024;
-
-// The cells of a switch of 64 ports.
+// The cells of a switch of 64 ports, and of 128.
 const CELLS: usize = 4096;
+
+const WIDE_CELLS: usize = 16384;
 
 // The quick cover of a demand, written at the start of a lent plan.
 pub fn quick_plan(n: usize, cells: &[u32], plan: &mut [u8]) -> Outcome
-    ensures { λ r. ⌜ Gives (plannedUpTo 1024 64 0 n (now (cells .entry)) (quickPlan 64 n (now (cells .entry))) (now (plan .entry))) r (now (plan .exit)) ⌝ }
+    ensures { λ r. ⌜ Gives (plannedUpTo 1024 firstEdition n (now (cells .entry)) (quickPlan 64 n (now (cells .entry))) (now (plan .entry))) r (now (plan .exit)) ⌝ }
 {
     let mut work = [0u32; CELLS];
     let mut lows = [0u64; PORTS];
     let mut highs = [0u64; PORTS];
     let mut out = [IDLE; PORTS];
-    plan_with(
+    plan_for(
+        switch::first_edition(),
         n,
         cells,
-        EDITION,
-        plan,
         &mut work,
         &mut lows,
         &mut highs,
         &mut out,
+        plan,
     )
 }
 
-// The same for the edition whose records have as many outputs as `out`. The working copy, its labels and the outputs of a slot are lent.
-fn plan_with(
+// The quick cover in the second edition.
+pub fn quick_plan_second(n: usize, cells: &[u32], plan: &mut [u8]) -> Outcome
+    ensures { λ r. ⌜ Gives (plannedUpTo 1024 secondEdition n (now (cells .entry)) (quickPlan 128 n (now (cells .entry))) (now (plan .entry))) r (now (plan .exit)) ⌝ }
+{
+    let mut work = [0u32; WIDE_CELLS];
+    let mut lows = [0u64; WIDE_PORTS];
+    let mut highs = [0u64; WIDE_PORTS];
+    let mut out = [IDLE; WIDE_PORTS];
+    plan_for(
+        switch::second_edition(),
+        n,
+        cells,
+        &mut work,
+        &mut lows,
+        &mut highs,
+        &mut out,
+        plan,
+    )
+}
+
+// The quick cover of an edition. Lent beside the plan are the cells of its largest switch, for the working copy, their labels, and the
+// outputs of a record.
+pub fn plan_for(
+    e: Edition,
     n: usize,
     cells: &[u32],
-    edition: u8,
-    plan: &mut [u8],
     work: &mut [u32],
     lows: &mut [u64],
     highs: &mut [u64],
     out: &mut [u8],
+    plan: &mut [u8],
 ) -> Outcome
-    requires { ⌜ Lent (now work) (now lows) (now highs) (now out) ⌝ }
-    ensures { λ r. ⌜ Gives (plannedUpTo 1024 (length (now (out .entry))) edition n (now (cells .entry)) (quickPlan (length (now (out .entry))) n (now (cells .entry))) (now (plan .entry))) r (now (plan .exit)) ⌝ }
+    requires { ⌜ Lent e (now work) (now lows) (now highs) (now out) ⌝ }
+    ensures { λ r. ⌜ Gives (plannedUpTo 1024 e n (now (cells .entry)) (quickPlan (e .width) n (now (cells .entry))) (now (plan .entry))) r (now (plan .exit)) ⌝ }
 {
-    let checked = copy_checked(n, out.len(), cells, work);
+    let checked = copy_checked(n, e.ports, cells, work);
     match checked {
         Checked::Faulty(r) => Outcome::Refused(r),
         Checked::Fine(longest) => {
-            if MOST_SLOTS < longest {
+            if MOST_QUICK < longest {
                 return Outcome::Refused(Refusal::Longest);
             }
             plan_checked(
                 n,
                 cells,
                 longest,
-                edition,
+                e,
                 plan,
                 work,
                 &mut lows[..n],
@@ -111,21 +135,21 @@ fn plan_checked(
     n: usize,
     cells: &[u32],
     longest: u64,
-    edition: u8,
+    e: Edition,
     plan: &mut [u8],
     work: &mut [u32],
     lows: &mut [u64],
     highs: &mut [u64],
     out: &mut [u8],
 ) -> Outcome
-    requires { ⌜ Asked (length (now out)) n longest (now cells) (now work) × Space n (now work) (now lows) (now highs) (now out) ⌝ }
-    ensures { λ r. ⌜ Gives (plannedUpTo 1024 (length (now (out .entry))) edition n (now (cells .entry)) (quickPlan (length (now (out .entry))) n (now (cells .entry))) (now (plan .entry))) r (now (plan .exit)) ⌝ }
+    requires { ⌜ Asked e n longest (now cells) (now work) × Space n (now work) (now lows) (now highs) (now out) × (length (now out) ≡ e .width) ⌝ }
+    ensures { λ r. ⌜ Gives (plannedUpTo 1024 e n (now (cells .entry)) (quickPlan (e .width) n (now (cells .entry))) (now (plan .entry))) r (now (plan .exit)) ⌝ }
 {
-    let need = short_of(n, cells, longest, edition, plan, work, lows, highs, out);
+    let need = short_of(n, cells, longest, e, plan, work, lows, highs, out);
     if need != 0 {
         return Outcome::Refused(Refusal::Room(need));
     }
-    let records = fill_slots(n, edition, plan, true, work, lows, highs, out);
+    let records = fill_slots(n, e.byte, plan, true, work, lows, highs, out);
     Outcome::Done(Counts {
         records: records,
         longest: longest,
@@ -135,43 +159,33 @@ fn plan_checked(
     })
 }
 
-// How many records the plan has, where the room is too small for them; and 0 where it is not. Room for 2T - 1 records is always enough;
-// with less they are counted, and the demand is copied in again.
+// How many records the plan has, where the room is too small for them; and 0 where it is not. With the room that is promised beforehand
+// they are not counted; with less they are, and the demand is copied in again.
 fn short_of(
     n: usize,
     cells: &[u32],
     longest: u64,
-    edition: u8,
+    e: Edition,
     plan: &mut [u8],
     work: &mut [u32],
     lows: &mut [u64],
     highs: &mut [u64],
     out: &mut [u8],
 ) -> usize
-    requires { ⌜ Asked (length (now out)) n longest (now cells) (now work) × Space n (now work) (now lows) (now highs) (now out) ⌝ }
-    ensures { λ r. ⌜ ShortOf (length (now (out .entry))) n (now (cells .entry)) (now (plan .entry)) (now (plan .exit)) (now (work .exit)) r ⌝ }
+    requires { ⌜ Asked e n longest (now cells) (now work) × Space n (now work) (now lows) (now highs) (now out) × (length (now out) ≡ e .width) ⌝ }
+    ensures { λ r. ⌜ ShortOf (e .width) n (now (cells .entry)) (now (plan .entry)) (now (plan .exit)) (now (work .exit)) r ⌝ }
 {
-    let room = plan.len() / (out.len() + HEAD);
-    if most_records(longest) <= room {
+    let width = e.width;
+    let room = plan.len() / (width + HEAD);
+    if quick_records(longest) <= room {
         return 0;
     }
-    let need = fill_slots(n, edition, plan, false, work, lows, highs, out);
+    let need = fill_slots(n, e.byte, plan, false, work, lows, highs, out);
     if room < need {
         return need;
     }
     copy(cells, work);
     0
-}
-
-// The number of records that always suffices: 2T - 1, or 0 when T is 0.
-fn most_records(longest: u64) -> usize
-    requires { ⌜ longest ≤ 1024 ⌝ }
-    ensures { λ r. ⌜ r ≡ 2 * longest - 1 ⌝ }
-{
-    if longest == 0 {
-        return 0;
-    }
-    (2 * longest - 1) as usize
 }
 
 // All slots of the working copy, until nothing is left: how many they are, and their records at the plan's start where they are to be written.

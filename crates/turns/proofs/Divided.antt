@@ -4,9 +4,11 @@ use mathlib.Core.Path.{_≡_, sym, ap, _∙_}
 use mathlib.Core.List.{List, _++_, map}
 use Prim.Native.Nat.{ℕ, _*_, _≤_}
 use native.Mathlib.Omega.{arith}
-use native.Mathlib.Nat.{div-mul-le-self, mul-le-mul-right, le-mul-of-pos-right, le-of-mul-le-mul-right}
+use native.Mathlib.Nat.{mul-le-mul, div-mul-le-self, mul-le-mul-right, le-mul-of-pos-right, le-of-mul-le-mul-right}
 use lib.ListN.{length}
 use borrow.Author.Tests.{ne-eqb}
+use Rattle.switch.specs.declared.Edition.{Edition}
+use Rattle.switch.specs.Editions.{Bounded}
 use Rattle.switch.specs.Demand.{cell, longest}
 use Rattle.switch.specs.Plan.{Record, total}
 use Rattle.demand.specs.declared.Checked.the-variants.{Fine}
@@ -22,26 +24,38 @@ use Rattle.turns.specs.declared.Turning.{Turning}
 use Rattle.turns.specs.Second.{turn, holdsBy, doubledRule, parts, Asks, Splits, Holding, Divided}
 use Rattle.turns.proofs.Holds.{unit-holding, table-turns}
 
+-- cells and holds for the largest switch do for the cells and the settings of a demand that no check refuses
+module _ (most N T : ℕ) (d : List ℕ) (fine : checkDemand most N d ≡ Fine T) where
+  pub cells-fit : (w : List ℕ) → most * most ≤ length w → length d ≤ length w
+  cells-fit w l = let a = fine-asked most N T d fine in omega (arith, l, a .size, mul-le-mul (a .few) (a .few))
+
+  pub holds-fit : (H : List ℕ) → most ≤ length H → N ≤ length H
+  holds-fit H l = omega (arith, l, fine-asked most N T d fine .few)
+
 -- a demand that no check refuses, and that asks for something
-module _ {W N T : ℕ} {d : List ℕ} (fine : checkDemand W N d ≡ Fine T) (narrow : W ≤ 128) (some : T ≡ 0 → ⊥) where
+module _ {E : Edition} {N T : ℕ} {d : List ℕ} (fine : checkDemand (E .ports) N d ≡ Fine T) (bounded : Bounded E) (some : T ≡ 0 → ⊥) where
   pub fine-asks : Asks N T d
-  fine-asks = let a = fine-asked W N T d fine in record {
+  fine-asks = let a = fine-asked (E .ports) N T d fine in record {
     some = a .some;
-    few = omega (arith, a .few);
+    few = omega (arith, a .few, bounded .ports, bounded .width);
     room = omega (arith, a .size);
     least = omega (arith, some);
     most = a .small;
   }
 
-  pub divided : {r : Rule} {t : Turning} {u : ℕ} {q H : List ℕ} → Splits r t N T d u q H → Divided W N T u d q
-  divided s = record { fine = fine; narrow = narrow; some = fine-asks .least; unit-is = s .unit-is; quotients-are = s .quotients-are }
+  pub divided : {r : Rule} {t : Turning} {u : ℕ} {q H : List ℕ} → Splits r t N T d u q H → Divided E N T u d q
+  divided s = record { fine = fine; bounded = bounded; some = fine-asks .least; unit-is = s .unit-is; quotients-are = s .quotients-are }
 
-module _ {W N T u : ℕ} {d q : List ℕ} (v : Divided W N T u d q) where
-  pub asked : Asked W N T d
-  asked = fine-asked W N T d (v .fine)
+module _ {E : Edition} {N T u : ℕ} {d q : List ℕ} (v : Divided E N T u d q) where
+  pub asked : Asked (E .ports) N T d
+  asked = fine-asked (E .ports) N T d (v .fine)
+
+  -- a record has an output for every port
+  pub wide : N ≤ E .width
+  wide = omega (arith, asked .few, v .bounded .ports)
 
   pub holding : Holding N u d
-  holding = unit-holding (fine-asks (v .fine) (v .narrow) (λ z. omega (arith, v .some, z))) (v .unit-is)
+  holding = unit-holding (fine-asks (v .fine) (v .bounded) (λ z. omega (arith, v .some, z))) (v .unit-is)
 
   pub size : length q ≡ N * N
   size = ap length (v .quotients-are) ∙ length-divide u d ∙ asked .size
@@ -50,12 +64,12 @@ module _ {W N T u : ℕ} {d q : List ℕ} (v : Divided W N T u d q) where
   sized = record { few = holding .few; room = omega (arith, size) }
 
   -- the plan by a rule is the two parts, its settings held for what the rule says
-  pub rule-parts : (r : Rule) (t : Turning) (H : List ℕ) → H ≡ tab N 0 (holdsBy r t N d u) → doubledRule r t W N d ≡ parts t W N u q H
+  pub rule-parts : (r : Rule) (t : Turning) (H : List ℕ) → H ≡ tab N 0 (holdsBy r t N d u) → doubledRule r t (E .width) N d ≡ parts t (E .width) N u q H
   rule-parts r t H e = unfold doubledBy in
       rw (ne-eqb (longest N (cell N d)) 0 (omega (arith, asked .longest-is, v .some)))
-      (ap (λ (x : ℕ). map (stretch x) (exactPlan W N (divide x d)) ++ turns W (turn t N) (holdsBy r t N d x) N 0) (ap (unit N) (sym (asked .longest-is)) ∙ sym (v .unit-is))
-      ∙ ap (λ (p : List Record). map (stretch u) (exactPlan W N (divide u d)) ++ p) (table-turns t W N (holdsBy r t N d u) H e)
-      ∙ ap (λ (x : List ℕ). parts t W N u x H) (sym (v .quotients-are)))
+      (ap (λ (x : ℕ). map (stretch x) (exactPlan (E .width) N (divide x d)) ++ turns (E .width) (turn t N) (holdsBy r t N d x) N 0) (ap (unit N) (sym (asked .longest-is)) ∙ sym (v .unit-is))
+      ∙ ap (λ (p : List Record). map (stretch u) (exactPlan (E .width) N (divide u d)) ++ p) (table-turns t (E .width) N (holdsBy r t N d u) H e)
+      ∙ ap (λ (x : List ℕ). parts t (E .width) N u x H) (sym (v .quotients-are)))
 
   -- the quotients' T
   module _ {S : ℕ} (longest-is : S ≡ longest N (cell N q)) where
@@ -76,8 +90,8 @@ module _ {W N T u : ℕ} {d q : List ℕ} (v : Divided W N T u d q) where
     small = omega (arith, within, asked .small, le-mul-of-pos-right S (holding .least))
 
     -- the first part has that total, and no more records
-    pub first-total : total (exactPlan W N q) ≡ S
-    first-total = exact-total W N (asked .some) (asked .few) q (sized .room) ∙ sym longest-is
+    pub first-total : total (exactPlan (E .width) N q) ≡ S
+    first-total = exact-total (E .width) N (asked .some) wide q (sized .room) ∙ sym longest-is
 
-    pub first-records : length (exactPlan W N q) ≤ S
-    first-records = omega (arith, exact-records W N (asked .some) (asked .few) q (sized .room), longest-is)
+    pub first-records : length (exactPlan (E .width) N q) ≤ S
+    first-records = omega (arith, exact-records (E .width) N (asked .some) wide q (sized .room), longest-is)

@@ -4,6 +4,8 @@ use mathlib.Core.Path.{_≡_}
 use mathlib.Core.List.{List, _++_, map}
 use Prim.Native.Nat.{ℕ, _*_, _-_, _≤_, _<_}
 use lib.ListN.{length, getD}
+use Rattle.switch.specs.declared.Edition.{Edition}
+use Rattle.switch.specs.Editions.{Bounded}
 use Rattle.switch.specs.Plan.{Record, total}
 use Rattle.demand.specs.Check.{checkDemand}
 use Rattle.demand.specs.declared.Checked.the-variants.{Fine}
@@ -77,9 +79,9 @@ pub record Measures (N : ℕ) (H : List ℕ) (records sum : ℕ) : Type 0 where
   pub held : (W : ℕ) (τ : ℕ → ℕ → ℕ) → sum ≡ total (turns W τ (λ k. getD H k 0) N 0)
 
 -- a demand that asks for something and that no check refuses, its u, and its cells divided by u
-pub record Divided (W N T u : ℕ) (d q : List ℕ) : Type 0 where
-  pub fine : checkDemand W N d ≡ Fine T
-  pub narrow : W ≤ 128
+pub record Divided (E : Edition) (N T u : ℕ) (d q : List ℕ) : Type 0 where
+  pub fine : checkDemand (E .ports) N d ≡ Fine T
+  pub bounded : Bounded E
   pub some : 0 < T
   pub unit-is : u ≡ unit N T
   pub quotients-are : q ≡ divide u d

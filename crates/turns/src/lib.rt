@@ -7,6 +7,7 @@ use demand::cell_at;
 use records::HEAD;
 use records::IDLE;
 use records::put_record;
+use switch::Edition;
 use switch::InputPort;
 use switch::OutputPort;
 ghost use mathlib.Core.Path.{_≡_};
@@ -89,21 +90,14 @@ pub fn measure(n: usize, holds: &[u16]) -> Part
     }
 }
 
-// Lays the settings, as records of so many outputs, over a plan from `from` on.
-pub fn lay(
-    way: Turning,
-    n: usize,
-    holds: &[u16],
-    width: usize,
-    edition: u8,
-    plan: &mut [u8],
-    from: usize,
-)
-    requires { ⌜ Table n (now holds) × (n ≤ width) × (width ≤ 128) × (from + length (second way width n (now holds)) * (width + 4) ≤ length (now plan)) ⌝ }
-    ensures { λ _. ⌜ now (plan .exit) ≡ laid (now (plan .entry)) from (bytes edition n (second way width n (now (holds .entry)))) ⌝ }
+// Lays the settings, as records of an edition, over a plan from `from` on.
+pub fn lay(way: Turning, e: Edition, n: usize, holds: &[u16], plan: &mut [u8], from: usize)
+    requires { ⌜ Table n (now holds) × (n ≤ e .width) × (e .width ≤ 128) × (from + length (second way (e .width) n (now holds)) * (e .width + 4) ≤ length (now plan)) ⌝ }
+    ensures { λ _. ⌜ now (plan .exit) ≡ laid (now (plan .entry)) from (bytes (e .byte) n (second way (e .width) n (now (holds .entry)))) ⌝ }
 {
     let mut out = [IDLE; PLACES];
-    lay_all(way, n, holds, edition, plan, from, &mut out[..width]);
+    let width = e.width;
+    lay_all(way, n, holds, e.byte, plan, from, &mut out[..width]);
 }
 
 // u is T / N rounded up.

@@ -3,7 +3,7 @@
 
 use crate::exact::{peel, Writer};
 use crate::plan::{each_record, opened};
-use crate::{demand, Counts, Outcome, Refusal, IDLE, MOST_PORTS};
+use crate::{demand, Counts, Outcome, Refusal, BYTE, IDLE, MOST_PORTS};
 
 /// For each record of a plan the most inputs that share one wavelength, one byte for each.
 pub fn grating_report(n: u64, plan: &[u8], report: &mut [u8]) -> Outcome {
@@ -35,11 +35,11 @@ fn most_shared(n: usize, outputs: &[u8; MOST_PORTS]) -> u8 {
 /// (k - i) mod N, for as long as its largest remainder says (§13.5).
 pub fn grating_doubled(n: u64, cells: &[u32], plan: &mut [u8]) -> Outcome {
     let (n, longest) = demand(n, cells)?;
-    let mut written = Writer::default();
+    let mut written = Writer::new(BYTE);
     if longest > 0 {
         let unit = (longest as u32).div_ceil(n as u32);
         let quotients: Vec<u32> = cells.iter().map(|cell| cell / unit).collect();
-        peel(n, &quotients, unit, &mut written);
+        peel::<u64, MOST_PORTS>(n, &quotients, unit, &mut written);
         for (k, &hold) in remainders(n, cells, unit)[..n].iter().enumerate() {
             if hold > 0 {
                 written.push(hold, n, &anti_rotation(n, k));

@@ -9,6 +9,7 @@ mod console;
 mod exact;
 mod grating;
 mod join;
+mod label;
 mod more_plans;
 mod peel;
 mod plan;
@@ -17,10 +18,12 @@ pub mod slow;
 mod wishes;
 
 pub use console::{carry_over, in_force, About, Named, Part};
-pub use exact::exact;
+pub use exact::{exact, exact_second};
 pub use grating::{grating_doubled, grating_report};
 pub use join::join;
-pub use more_plans::{doubled, doubled_every_rotation, quick};
+pub use more_plans::{
+    doubled, doubled_every_rotation, doubled_every_rotation_second, doubled_second, quick, quick_second,
+};
 pub use plan::{check, length, open, step_at, write, Reader, Record, Step};
 pub use room::{doubled_room, exact_room, quick_room};
 pub use wishes::{wish, wishes};
@@ -30,6 +33,10 @@ pub const MOST_PORTS: usize = 64;
 pub const MOST_PORTS_SECOND: usize = 128;
 /// Bytes of a plan record: hold, N, a zero byte, an output for each possible input.
 pub const RECORD_SIZE: usize = 4 + MOST_PORTS;
+pub const RECORD_SIZE_SECOND: usize = 4 + MOST_PORTS_SECOND;
+/// The byte behind N, in the records of each edition.
+pub const BYTE: u8 = 0;
+pub const BYTE_SECOND: u8 = 2;
 /// Bytes of a wish record: input, output, two zero bytes, a binary32.
 pub const WISH_SIZE: usize = 8;
 /// The output of an idle input.
@@ -119,7 +126,12 @@ impl From<Outcome> for Numbers {
 
 /// Code 1: N is 1 to 64.
 fn ports(n: u64) -> Result<usize, Refusal> {
-    if n == 0 || n > MOST_PORTS as u64 {
+    ports_of::<MOST_PORTS>(n)
+}
+
+/// The same of an edition whose records have W outputs.
+fn ports_of<const W: usize>(n: u64) -> Result<usize, Refusal> {
+    if n == 0 || n > W as u64 {
         return Err(Refusal::Ports);
     }
     Ok(n as usize)
@@ -127,7 +139,11 @@ fn ports(n: u64) -> Result<usize, Refusal> {
 
 /// Codes 1 and 2: N is in range, and the cells lent are N².
 fn square(n: u64, cells: usize) -> Result<usize, Refusal> {
-    let n = ports(n)?;
+    square_of::<MOST_PORTS>(n, cells)
+}
+
+fn square_of<const W: usize>(n: u64, cells: usize) -> Result<usize, Refusal> {
+    let n = ports_of::<W>(n)?;
     if cells != n * n {
         return Err(Refusal::Cells(n * n));
     }
@@ -136,9 +152,13 @@ fn square(n: u64, cells: usize) -> Result<usize, Refusal> {
 
 /// Codes 1, 2 and 3: N, and the T of a demand no line of which is over 65,535.
 fn demand(n: u64, cells: &[u32]) -> Result<(usize, u64), Refusal> {
-    let n = square(n, cells.len())?;
-    let mut rows = [0u64; MOST_PORTS];
-    let mut columns = [0u64; MOST_PORTS];
+    demand_of::<MOST_PORTS>(n, cells)
+}
+
+fn demand_of<const W: usize>(n: u64, cells: &[u32]) -> Result<(usize, u64), Refusal> {
+    let n = square_of::<W>(n, cells.len())?;
+    let mut rows = [0u64; W];
+    let mut columns = [0u64; W];
     for (sum, row) in rows.iter_mut().zip(cells.chunks_exact(n)) {
         for (column, &cell) in columns[..n].iter_mut().zip(row) {
             *sum += u64::from(cell);

@@ -1,18 +1,48 @@
--- The plan by the old rule, which is the one that stood before.
+-- The plan by the old rule, which is the one that stood before, in the first edition.
+use mathlib.Core.Path.{sym, ap}
+use native.Mathlib.Omega.{arith}
+use Rattle.switch.specs.declared.Edition.{Edition}
+use Rattle.switch.proofs.Editions.{first-bounded}
+use Rattle.switch.proofs.Result.{gives-as}
 use Rattle.rules.specs.Doubled.{doubledPlan}
+use Rattle.planner.specs.Planned.{planned}
+use Rattle.turns.specs.declared.Rule.the-variants.{Every}
+use Rattle.turns.specs.declared.Turning.the-variants.{Forward}
+use Rattle.turns.specs.Second.{doubledRule}
 use borrow.Author.Needs.{needs}
 use Rattle.doubled.proofs.doubled_plan_every_rotation.Statement.{statement}
 use Rattle.doubled.proofs.doubled_plan_every_rotation.Tie as tie
 
-plan-by-requires : tie.Need-plan-by-requires
-plan-by-requires c κs = search needs
+first-edition-requires : tie.Need-first-edition-requires
+first-edition-requires c κs = search needs
+
+slice-aggregate-plan-for : tie.Need-slice-aggregate-plan-for
+slice-aggregate-plan-for c = search needs
+
+slice-aggregate-plan-for-2 : tie.Need-slice-aggregate-plan-for-2
+slice-aggregate-plan-for-2 c = search needs
+
+plan-for-requires : tie.Need-plan-for-requires
+plan-for-requires c κs = rw (c .before .before .before .first-edition .ensures) (first-bounded, omega arith, omega arith)
 
 same-length : tie.Need-same-length
 same-length c = search needs
 
 returns : tie.Need-returns
 unfolding doubledPlan
-returns c = c .before .before .plan-by .ensures
+returns c =
+    let a = c .before .before .before .before .before .before .before .before .before .before .before .args in
+    let q = c .before .before .before .before .before .before .before .before .first-edition .ensures in
+    gives-as (ap (λ (e : Edition). planned e (a .n) (a .cells .now) (doubledRule Every Forward (e .width) (a .n) (a .cells .now)) (a .plan .now)) (sym q))
+    (c .before .before .before .before .plan-for .ensures)
 
 pub doubled-plan-every-rotation-spec : {M : Type 1} → statement M
-doubled-plan-every-rotation-spec = tie.close (tie.spec plan-by-requires same-length returns)
+doubled-plan-every-rotation-spec =
+    tie.close
+    (tie.spec
+    first-edition-requires
+    slice-aggregate-plan-for
+    slice-aggregate-plan-for-2
+    plan-for-requires
+    same-length
+    returns)

@@ -18,13 +18,13 @@ mul-lay : tie.Need-mul-lay
 mul-lay c =
     let s = c .before .before .before .before .before .before .before .before .before .before .before in
     let l = c .before .before .before .before .before .lay .ensures in
-    omega (arith, behind-room _ _ _ _ _ (s .args .holds .now) (s .pre .0) _ (s .pre .2) (s .args .edition) (l .1) (l .0))
+    omega (arith, behind-room _ _ _ _ _ (s .args .holds .now) (s .pre .0) _ (s .pre .2) (s .args .e .byte) (l .1) (l .0))
 
 lay-requires-2 : tie.Need-lay-requires-2
 lay-requires-2 c κs =
     let s = c .before .before .before .before .before .before .before .before .before .before .before in
     let l = c .before .before .before .before .before .lay .ensures in
-    (s .pre .1, s .pre .2 .wide, s .pre .2 .narrow, behind-room _ _ _ _ _ (s .args .holds .now) (s .pre .0) _ (s .pre .2) (s .args .edition) (l .1) (l .0))
+    (s .pre .1, s .pre .2 .wide, s .pre .2 .narrow, behind-room _ _ _ _ _ (s .args .holds .now) (s .pre .0) _ (s .pre .2) (s .args .e .byte) (l .1) (l .0))
 
 same-length : tie.Need-same-length
 same-length c = search needs
@@ -36,7 +36,7 @@ returns : tie.Need-returns
 returns c =
     let s = c .before .before .before .before .before .before .before .before .before .before .before .before .before .before in
     let l = c .before .before .before .before .before .before .before .before .lay .ensures in
-    (l .0, c .before .before .lay2 .ensures ∙ behind-laid _ _ _ _ _ (s .args .holds .now) (s .pre .0) _ (s .pre .2) (s .args .edition) (l .1) (l .0))
+    (l .0, c .before .before .lay2 .ensures ∙ behind-laid _ _ _ _ _ (s .args .holds .now) (s .pre .0) _ (s .pre .2) (s .args .e .byte) (l .1) (l .0))
 
 pub lay-parts-spec : {M : Type 1} → statement M
 lay-parts-spec =

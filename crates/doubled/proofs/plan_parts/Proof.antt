@@ -1,6 +1,6 @@
 -- The first part's total is the quotients' longest line times u, so both parts and their room are known before anything is laid.
 use native.Mathlib.Omega.{arith}
-use Rattle.turns.proofs.Divided.{asked, holding, sized, within, small}
+use Rattle.turns.proofs.Divided.{asked, wide, holding, sized, within, small}
 use Rattle.doubled.proofs.Divided.{quotient-cells}
 use Rattle.doubled.proofs.Answer.{short-answer, ready, first-few, both-counted, both-answer}
 use borrow.Author.Needs.{needs}
@@ -32,15 +32,15 @@ returns c =
     let n = c .before .before .before in
     let s = n .before .before .before .before .before .before .before .before .before in
     let v = s .pre .0 in
-    short-answer v (n .before .before .measure .ensures) (s .args .edition) _ (n .needed .ensures .1 (s .args .width) (asked v .few) (v .narrow)) (c .if1 .taken)
+    short-answer v (n .before .before .measure .ensures) _ (n .needed .ensures .1 (s .args .e .width) (wide v) (v .bounded .width)) (c .if1 .taken)
 
 lay-parts-requires : tie.Need-lay-parts-requires
 lay-parts-requires c κs =
     let n = c .before .before .before .before .before in
     let s = n .before .before .before .before .before .before .before .before .before in
     let v = s .pre .0 in
-    let fits = n .needed .ensures .1 (s .args .width) (asked v .few) (v .narrow) in
-    let r = ready v (n .before .before .measure .ensures) (s .args .edition) (s .args .plan .now) fits (c .before .before .if1 .left) (n .before .before .before .longest-line .ensures) (n .needed .ensures .0) in
+    let fits = n .needed .ensures .1 (s .args .e .width) (wide v) (v .bounded .width) in
+    let r = ready v (n .before .before .measure .ensures) (s .args .plan .now) fits (c .before .before .if1 .left) (n .before .before .before .longest-line .ensures) (n .needed .ensures .0) in
     (r .0, s .pre .1, r .1)
 
 mul-total : tie.Need-mul-total
@@ -60,11 +60,11 @@ add-t19 c =
     let n = c .before .before .before .before .before .before .before .before .before .before .before in
     let s = n .before .before .before .before .before .before .before .before .before in
     let v = s .pre .0 in
-    let fits = n .needed .ensures .1 (s .args .width) (asked v .few) (v .narrow) in
+    let fits = n .needed .ensures .1 (s .args .e .width) (wide v) (v .bounded .width) in
     let m = n .before .before .measure .ensures in
     let l = n .before .before .before .longest-line .ensures in
     let left = c .before .before .before .before .before .before .before .before .if1 .left in
-    let few = first-few v m (s .args .edition) (s .args .plan .now) fits left l (n .needed .ensures .0) (c .before .before .before .before .before .lay-parts .ensures .0) in
+    let few = first-few v m (s .args .plan .now) fits left l (n .needed .ensures .0) (c .before .before .before .before .before .lay-parts .ensures .0) in
     omega (arith, few, small v l, m .few, holding v .few)
 
 empty-slots-requires : tie.Need-empty-slots-requires
@@ -72,9 +72,9 @@ empty-slots-requires c κs =
     let n = c .before .before .before .before .before .before .before .before .before .before .before in
     let s = n .before .before .before .before .before .before .before .before .before in
     let v = s .pre .0 in
-    let fits = n .needed .ensures .1 (s .args .width) (asked v .few) (v .narrow) in
+    let fits = n .needed .ensures .1 (s .args .e .width) (wide v) (v .bounded .width) in
     let m = n .before .before .measure .ensures in
-    both-counted v m (s .args .edition) (s .args .plan .now) fits (c .before .before .before .before .before .before .before .before .if1 .left) (n .before .before .before .longest-line .ensures) (n .needed .ensures .0) (s .pre .2)
+    both-counted v m (s .args .plan .now) fits (c .before .before .before .before .before .before .before .before .if1 .left) (n .before .before .before .longest-line .ensures) (n .needed .ensures .0) (s .pre .2)
 
 same-length-2 : tie.Need-same-length-2
 same-length-2 c = search needs
@@ -87,10 +87,10 @@ returns-2 c =
     let n = c .before .before .before .before .before .before .before .before .before .before .before .before in
     let s = n .before .before .before .before .before .before .before .before .before in
     let v = s .pre .0 in
-    let fits = n .needed .ensures .1 (s .args .width) (asked v .few) (v .narrow) in
+    let fits = n .needed .ensures .1 (s .args .e .width) (wide v) (v .bounded .width) in
     let m = n .before .before .measure .ensures in
     let l = c .before .before .before .before .before .before .lay-parts .ensures in
-    both-answer v m (s .args .edition) (s .args .plan .now) fits (c .before .before .before .before .before .before .before .before .before .if1 .left) (n .before .before .before .longest-line .ensures) (n .needed .ensures .0) (s .pre .2) (l .0) (l .1) (c .empty-slots .ensures)
+    both-answer v m (s .args .plan .now) fits (c .before .before .before .before .before .before .before .before .before .if1 .left) (n .before .before .before .longest-line .ensures) (n .needed .ensures .0) (s .pre .2) (l .0) (l .1) (c .empty-slots .ensures)
 
 pub plan-parts-spec : {M : Type 1} → statement M
 plan-parts-spec =

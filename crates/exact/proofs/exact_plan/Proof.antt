@@ -1,54 +1,33 @@
--- A demand that is refused by itself changes nothing; the rest is decided on a working copy.
-use mathlib.Core.Path.{refl, sym, _∙_}
+-- The first edition keeps to the bounds of every edition, and has 64 × 64 cells.
+use mathlib.Core.Path.{sym, ap}
 use native.Mathlib.Omega.{arith}
-use native.Mathlib.Nat.{mul-le-mul}
+use Rattle.switch.specs.declared.Edition.{Edition}
+use Rattle.switch.proofs.Editions.{first-bounded}
+use Rattle.switch.proofs.Result.{gives-as}
 use Rattle.rules.specs.Exact.{exactPlan}
-use Rattle.switch.proofs.Result.{gives}
-use Rattle.planner.proofs.Planned.{planned-faulty}
-use Rattle.exact.proofs.Outcome.{asked}
+use Rattle.planner.specs.Planned.{planned}
 use borrow.Author.Needs.{needs}
 use Rattle.exact.proofs.exact_plan.Statement.{statement}
 use Rattle.exact.proofs.exact_plan.Tie as tie
 
-check-demand-requires : tie.Need-check-demand-requires
-check-demand-requires c κs = search needs
+first-edition-requires : tie.Need-first-edition-requires
+first-edition-requires c κs = search needs
 
-enum-known-r : tie.Need-enum-known-r
-enum-known-r c = search needs
+slice-aggregate-plan-for : tie.Need-slice-aggregate-plan-for
+slice-aggregate-plan-for c = search needs
 
-enum-known-longest : tie.Need-enum-known-longest
-enum-known-longest c = search needs
-
-slice-aggregate-lay-or-refuse : tie.Need-slice-aggregate-lay-or-refuse
-slice-aggregate-lay-or-refuse c = search needs
-
-lay-or-refuse-requires : tie.Need-lay-or-refuse-requires
-lay-or-refuse-requires c κs =
-    let e = sym (c .before .before .before .before .before .check-demand .ensures) ∙ c .before .before .before .longest .given .1 in
-    let f = asked 64 0 _ _ _ (c .before .before .before .before .before .before .before .before .args .plan .now) (omega arith) e .few in
-    (e, omega arith, mul-le-mul f f)
-
-returns : tie.Need-returns
-returns c =
-    let a = c .before .before .before .before .before .before .args in
-    let q = planned-faulty 64 0 (a .n) (a .cells .now) (exactPlan 64 (a .n) (a .cells .now)) (a .plan .now) _ (sym (c .before .before .before .check-demand .ensures) ∙ c .before .r .given .1) in
-    gives q refl refl
+plan-for-requires : tie.Need-plan-for-requires
+plan-for-requires c κs = rw (c .before .before .first-edition .ensures) (first-bounded, omega arith)
 
 same-length : tie.Need-same-length
 same-length c = search needs
 
-returns-2 : tie.Need-returns-2
-returns-2 c = search needs
+returns : tie.Need-returns
+returns c =
+    let a = c .before .before .before .before .before .before .before .before .before .args in
+    let q = c .before .before .before .before .before .before .first-edition .ensures in
+    gives-as (ap (λ (e : Edition). planned e (a .n) (a .cells .now) (exactPlan (e .width) (a .n) (a .cells .now)) (a .plan .now)) (sym q))
+    (c .before .before .before .plan-for .ensures)
 
 pub exact-plan-spec : {M : Type 1} → statement M
-exact-plan-spec =
-    tie.close
-    (tie.spec
-    check-demand-requires
-    enum-known-r
-    enum-known-longest
-    slice-aggregate-lay-or-refuse
-    lay-or-refuse-requires
-    returns
-    same-length
-    returns-2)
+exact-plan-spec = tie.close (tie.spec first-edition-requires slice-aggregate-plan-for plan-for-requires same-length returns)

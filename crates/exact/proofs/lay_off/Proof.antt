@@ -18,12 +18,12 @@ use Rattle.exact.proofs.lay_off.Statement.{statement}
 use Rattle.exact.proofs.lay_off.Tie as tie
 
 abbrev Inv-loop : tie.InvT-loop
-Inv-loop work₀ n longest lows₀ highs₀ by₀ out₀ unit width edition plan₀ at records₀ kept₀ remains₀ next₀ work lows highs by out plan records kept remains next =
+Inv-loop e work₀ n longest lows₀ highs₀ by₀ out₀ unit plan₀ at width₀ records₀ kept₀ remains₀ next₀ work lows highs by out plan records kept remains next =
     Standing n work lows highs by out kept × (remains ≡ left n work) × (records + remains ≤ longest) × (left n work * unit ≤ 65535)
-    × (length work ≡ length work₀) × Written edition n unit width work₀ plan₀ at work plan records next
+    × (length work ≡ length work₀) × Written (e .byte) n unit (e .width) work₀ plan₀ at work plan records next
 
 abbrev μ-loop : tie.MeasureT-loop
-μ-loop work₀ n longest lows₀ highs₀ by₀ out₀ unit width edition plan₀ at records₀ kept₀ remains₀ next₀ work lows highs by out plan records kept remains next = remains
+μ-loop e work₀ n longest lows₀ highs₀ by₀ out₀ unit plan₀ at width₀ records₀ kept₀ remains₀ next₀ work lows highs by out plan records kept remains next = remains
 
 start-requires : tie.Need-start-requires Inv-loop μ-loop
 start-requires c κs = let p = c .before .before .before .before .before .before .before .before .before .pre in (p .0, p .1 .low, p .1 .high)
@@ -40,7 +40,7 @@ loop-holds c =
       omega arith,
       subst (λ (t : ℕ). t * a .unit ≤ 65535) (s .0) (q .fits),
       refl,
-      written-none _ _ (a .unit) _ _ _ _ (from-peels _ _ (p .0 .some) (q .wide) _ _ (s .1 .level .rows) (s .1 .level .cols)) (subst (λ (p : List Record). a .at + length p * (a .width + 4) ≤ length (a .plan .now)) (sym (b .plan (a .width))) (q .room)),
+      written-none _ _ (a .unit) _ _ _ _ (from-peels _ _ (p .0 .some) (q .wide) _ _ (s .1 .level .rows) (s .1 .level .cols)) (subst (λ (p : List Record). a .at + length p * (a .e .width + 4) ≤ length (a .plan .now)) (sym (b .plan (a .e .width))) (q .room)),
     )
 
 take-off-requires : tie.Need-take-off-requires Inv-loop μ-loop
@@ -78,7 +78,7 @@ add-next-2 c =
     let p = c .before .before .before .before .before .before .before .before .before .before .before .before .before .before .before .before .before .before .before .before .before .before .before .before .before .before .before .before .before .before .before .before .before .before .before .before .before .before .before .before .before .pre in
     let s = c .before .before .before .before .before .before .before .before .before .before .before .before .before .before .before .before .before .take-off .ensures in
     let l = c .before .before .before .before .before .before .before .before .before .before .before .before .before .before .before .before .before .before .before .before .before .before .before .before .loop .inv .5 in
-    omega (arith, next-room _ _ (c .before .before .before .before .before .before .before .before .before .before .before .before .before .before .before .before .before .before .before .before .before .before .before .before .before .before .before .before .before .before .before .before .before .before .before .before .before .before .before .before .before .args .unit) _ _ _ _ _ _ _ _ l _ _ _ (s .more _ (p .2 .wide) (p .2 .narrow)), record-long _ (p .2 .narrow) (s .standing), l .size, c .before .before .before .before .before .before .before .before .before .before .before .before .before .before .before .before .before .before .before .before .before .before .before .before .before .before .before .before .before .before .before .before .before .before .before .before .before .before .before .before .before .good .1 .1 .1 .1 .1 .1 .1 .1 .1 .1 .0 .0)
+    omega (arith, next-room _ _ (c .before .before .before .before .before .before .before .before .before .before .before .before .before .before .before .before .before .before .before .before .before .before .before .before .before .before .before .before .before .before .before .before .before .before .before .before .before .before .before .before .before .args .unit) _ _ _ _ _ _ _ _ l _ _ _ (s .more _ (p .2 .wide) (p .2 .narrow)), record-long _ (p .2 .narrow) (s .standing), l .size, c .before .before .before .before .before .before .before .before .before .before .before .before .before .before .before .before .before .before .before .before .before .before .before .before .before .before .before .before .before .before .before .before .before .before .before .before .before .before .before .before .before .good .1 .1 .1 .1 .1 .1 .1 .1 .1 .0 .0)
 
 add-records : tie.Need-add-records Inv-loop μ-loop
 add-records c = turn-counted _ _ _ (c .before .before .before .before .before .before .before .before .before .before .before .before .before .before .before .before .before .before .before .before .before .before .before .before .loop .inv .2) (c .before .before .before .before .before .before .before .before .before .before .before .before .before .before .before .before .before .before .before .before .before .before .before .before .before .before .before .before .before .before .before .before .before .before .before .before .before .before .before .before .before .pre .0 .small)
@@ -122,9 +122,9 @@ returns c =
     let a = c .before .before .before .before .before .before .before .before .before .before .before .before .before .before .before .before .before .before .args in
     let l = c .before .loop in
     let z : left (a .n) (l .work) ≡ 0 = omega (arith, l .inv .1) in
-    let w = written-all _ _ _ _ _ _ _ _ _ _ _ (l .inv .5) (exact-end (a .width) (a .n) (cell (a .n) (l .work)) z) in
-    let e = c .before .before .before .before .before .before .before .before .start .ensures .plan (a .width) in
-    (w .0 ∙ ap length e, w .1 ∙ ap (λ (p : List Record). laid (a .plan .now) (a .at) (bytes (a .edition) (a .n) (map (stretch (a .unit)) p))) e)
+    let w = written-all _ _ _ _ _ _ _ _ _ _ _ (l .inv .5) (exact-end (a .e .width) (a .n) (cell (a .n) (l .work)) z) in
+    let e = c .before .before .before .before .before .before .before .before .start .ensures .plan (a .e .width) in
+    (w .0 ∙ ap length e, w .1 ∙ ap (λ (p : List Record). laid (a .plan .now) (a .at) (bytes (a .e .byte) (a .n) (map (stretch (a .unit)) p))) e)
 
 pub lay-off-spec : {M : Type 1} → statement M
 lay-off-spec =

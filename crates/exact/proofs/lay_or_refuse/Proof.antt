@@ -9,7 +9,7 @@ use Rattle.exact.proofs.lay_or_refuse.Statement.{statement}
 use Rattle.exact.proofs.lay_or_refuse.Tie as tie
 
 copy-requires : tie.Need-copy-requires
-copy-requires c κs = let p = c .before .before .before .before .pre in omega (arith, asked _ 0 _ _ _ (c .before .before .before .before .args .plan .now) (p .1) (p .0) .size)
+copy-requires c κs = let p = c .before .before .before .before .pre in omega (arith, asked _ (p .1) _ _ _ (p .0) .size)
 
 add-short-of : tie.Need-add-short-of
 add-short-of c = search needs
@@ -18,31 +18,37 @@ div-short-of : tie.Need-div-short-of
 div-short-of c = search needs
 
 short-of-requires : tie.Need-short-of-requires
-short-of-requires c κs = let p = c .before .before .before .before .before .before .before .before .pre in copied-cells _ _ _ _ _ (p .1) (asked _ 0 _ _ _ (c .before .before .before .before .before .before .before .before .args .plan .now) (p .1) (p .0)) _ (c .before .before .before .copy .ensures)
+short-of-requires c κs =
+    let p = c .before .before .before .before .before .before .before .before .before .pre in
+    copied-cells _ (p .1) _ _ _ _ (asked _ (p .1) _ _ _ (p .0)) _ (c .before .before .before .before .copy .ensures)
 
 same-length : tie.Need-same-length
 same-length c = search needs
 
 returns : tie.Need-returns
 returns c =
-    let p = c .before .before .before .before .before .before .before .before .before .before .before .before .pre in
-    refuses-room _ _ _ _ _ _ (p .1) (p .0) _ _ (c .before .before .before .before .before .before .before .copy .ensures) _ (c .before .before .before .short-of .ensures) (c .if1 .taken)
+    let p = c .before .before .before .before .before .before .before .before .before .before .before .before .before .pre in
+    refuses-room _ (p .1) _ _ _ (p .0) _ _ _ (c .before .before .before .before .before .before .before .before .copy .ensures) _ (c .before .before .before .short-of .ensures) (c .if1 .taken)
 
 copy-requires-2 : tie.Need-copy-requires-2
-copy-requires-2 c κs = let p = c .before .before .before .before .before .before .before .before .before .before .before .before .before .pre in omega (arith, asked _ 0 _ _ _ (c .before .before .before .before .before .before .before .before .before .before .before .before .before .args .plan .now) (p .1) (p .0) .size, c .before .before .before .before .short-of .kept, c .before .before .before .before .before .before .before .before .copy .kept)
+copy-requires-2 c κs =
+    let p = c .before .before .before .before .before .before .before .before .before .before .before .before .before .before .pre in
+    omega (arith, asked _ (p .1) _ _ _ (p .0) .size, c .before .before .before .before .short-of .kept, c .before .before .before .before .before .before .before .before .before .copy .kept)
 
 lay-requires : tie.Need-lay-requires
 lay-requires c κs =
-    let p = c .before .before .before .before .before .before .before .before .before .before .before .before .before .before .before .before .before .before .pre in
-    let b = c .before .before .before .before .before .before .before .before .before .before .before .before .before .before .before .before .before .before .args .plan .now in
-    let a = asked _ 0 _ _ _ b (p .1) (p .0) in
-    let e = enough _ 0 _ _ _ b (p .1) (p .0) _ _ (c .before .before .before .before .before .before .before .before .before .before .before .before .before .copy .ensures) _ (c .before .before .before .before .before .before .before .before .before .short-of .ensures) (c .before .before .before .before .before .before .if1 .left) in
-    (copied-cells _ _ _ _ _ (p .1) a _ (c .before .before .before .before .copy2 .ensures), place _ _ _ _ _ (p .1) a _ (c .before .before .before .before .copy2 .ensures) b e)
+    let s = c .before .before .before .before .before .before .before .before .before .before .before .before .before .before .before .before .before .before .before in
+    let p = s .pre in
+    let a = asked _ (p .1) _ _ _ (p .0) in
+    let k = c .before .before .before .before .copy2 .ensures in
+    let e = enough _ (p .1) _ _ _ (p .0) (s .args .plan .now) _ _ (c .before .before .before .before .before .before .before .before .before .before .before .before .before .before .copy .ensures) _ (c .before .before .before .before .before .before .before .before .before .short-of .ensures) (c .before .before .before .before .before .before .if1 .left) in
+    (copied-cells _ (p .1) _ _ _ _ a _ k, place _ (p .1) _ _ _ _ a _ k (s .args .plan .now) e)
 
 empty-slots-requires : tie.Need-empty-slots-requires
 empty-slots-requires c κs =
-    let s = c .before .before .before .before .before .before .before .before .before .before .before .before .before .before .before .before .before .before .before .before .before .before .before in
-    (short _ 0 _ _ _ (s .args .plan .now) (s .pre .1) (s .pre .0), le-of-eq (sym (asked _ 0 _ _ _ (s .args .plan .now) (s .pre .1) (s .pre .0) .longest-is)), omega (arith, asked _ 0 _ _ _ (s .args .plan .now) (s .pre .1) (s .pre .0) .small))
+    let p = c .before .before .before .before .before .before .before .before .before .before .before .before .before .before .before .before .before .before .before .before .before .before .before .before .pre in
+    let a = asked _ (p .1) _ _ _ (p .0) in
+    (short _ (p .1) _ _ _ (p .0), le-of-eq (sym (a .longest-is)), omega (arith, a .small))
 
 same-length-2 : tie.Need-same-length-2
 same-length-2 c = search needs
@@ -52,9 +58,10 @@ same-length-3 c = search needs
 
 returns-2 : tie.Need-returns-2
 returns-2 c =
-    let p = c .before .before .before .before .before .before .before .before .before .before .before .before .before .before .before .before .before .before .before .before .before .before .before .before .pre in
+    let p = c .before .before .before .before .before .before .before .before .before .before .before .before .before .before .before .before .before .before .before .before .before .before .before .before .before .pre in
     let l = c .before .before .before .before .before .lay .ensures in
-    writes-plan _ _ _ _ _ _ (p .1) (p .0) _ _ (c .before .before .before .before .before .before .before .before .before .before .before .before .before .before .before .before .before .before .before .copy .ensures) _ (c .before .before .before .before .before .before .before .before .before .before .before .before .before .before .before .short-of .ensures) (c .before .before .before .before .before .before .before .before .before .before .before .before .if1 .left) _ _ (c .before .before .before .before .before .before .before .before .before .before .copy2 .ensures) _ (l .0) _ (l .1) _ (c .empty-slots .ensures)
+    writes-plan _ (p .1) _ _ _ (p .0) _ _ _ (c .before .before .before .before .before .before .before .before .before .before .before .before .before .before .before .before .before .before .before .before .copy .ensures) _ (c .before .before .before .before .before .before .before .before .before .before .before .before .before .before .before .short-of .ensures) (c .before .before .before .before .before .before .before .before .before .before .before .before .if1 .left)
+    _ _ (c .before .before .before .before .before .before .before .before .before .before .copy2 .ensures) _ (l .0) _ (l .1) _ (c .empty-slots .ensures)
 
 pub lay-or-refuse-spec : {M : Type 1} → statement M
 lay-or-refuse-spec =

@@ -1,76 +1,58 @@
--- A demand that is refused by itself changes nothing; the rest is decided beside a place for as many quotients.
-use mathlib.Core.Path.{_≡_, sym, _∙_}
-use mathlib.Core.List.{List}
-use Prim.Native.Nat.{ℕ, _≤_}
+-- The first edition keeps to the bounds of every edition, and new arrays have room for 64 ports, with 64 records for the first part.
+use mathlib.Core.Path.{sym, ap}
+use Prim.Native.Nat.{ℕ, _/_, _≤_}
 use native.Mathlib.Omega.{arith}
-use native.Mathlib.Nat.{mul-le-mul}
-use lib.ListN.{length, take, replicate, length-replicate}
-use lib.Seq.{length-take-le}
-use Rattle.demand.specs.Check.{checkDemand}
-use Rattle.demand.specs.declared.Checked.the-variants.{Fine}
-use Rattle.demand.proofs.Check.{fine-asked}
-use Rattle.grating.proofs.Answer.{faulty-answer}
+use lib.ListN.{replicate, length-replicate}
+use Rattle.switch.specs.declared.Edition.{Edition}
+use Rattle.switch.proofs.Editions.{first-bounded}
+use Rattle.switch.proofs.Result.{gives-as}
+use Rattle.records.specs.Bytes.{whole}
+use Rattle.grating.specs.Grating.{gratingPlanned}
 use borrow.Author.Needs.{needs}
 use Rattle.grating.proofs.grating_doubled.Statement.{statement}
 use Rattle.grating.proofs.grating_doubled.Tie as tie
 
--- a demand of this edition has at most 4,096 cells
-few-cells : (N T : ℕ) (d : List ℕ) → checkDemand 64 N d ≡ Fine T → length d ≤ 4096
-few-cells N T d e = let a = fine-asked 64 N T d e in omega (arith, a .size, mul-le-mul (a .few) (a .few))
+-- room for 64 records
+first-room : 64 ≤ whole 64 (replicate {A = ℕ} 4352 0)
+first-room = omega (arith, ap (λ (n : ℕ). n / 68) (length-replicate {A = ℕ} 4352 0))
 
--- the front of a table of zeros
-part : (all k : ℕ) → k ≤ all → k ≡ length {A = ℕ} (take k (replicate all 0))
-part all k l = sym (length-take-le k (replicate all 0) (omega (arith, length-replicate {A = ℕ} all 0)))
+first-edition-requires : tie.Need-first-edition-requires
+first-edition-requires c κs = search needs
 
-check-demand-requires : tie.Need-check-demand-requires
-check-demand-requires c κs = search needs
+slice-aggregate-plan-for : tie.Need-slice-aggregate-plan-for
+slice-aggregate-plan-for c = search needs
 
-enum-known-r : tie.Need-enum-known-r
-enum-known-r c = search needs
+slice-aggregate-plan-for-2 : tie.Need-slice-aggregate-plan-for-2
+slice-aggregate-plan-for-2 c = search needs
 
-enum-known-longest : tie.Need-enum-known-longest
-enum-known-longest c = search needs
+slice-aggregate-plan-for-3 : tie.Need-slice-aggregate-plan-for-3
+slice-aggregate-plan-for-3 c = search needs
 
-array-borrow-prefix-work : tie.Need-array-borrow-prefix-work
-array-borrow-prefix-work c = few-cells _ _ _ (sym (c .before .before .before .check-demand .ensures) ∙ c .before .longest .given .1)
+slice-aggregate-plan-for-4 : tie.Need-slice-aggregate-plan-for-4
+slice-aggregate-plan-for-4 c = search needs
 
-slice-aggregate-plan-fine : tie.Need-slice-aggregate-plan-fine
-slice-aggregate-plan-fine c = part 4096 _ (few-cells _ _ _ (sym (c .before .before .before .before .check-demand .ensures) ∙ c .before .before .longest .given .1))
-
-array-borrow-prefix-holds : tie.Need-array-borrow-prefix-holds
-array-borrow-prefix-holds c = fine-asked 64 _ _ _ (sym (c .before .before .before .before .check-demand .ensures) ∙ c .before .before .longest .given .1) .few
-
-slice-aggregate-plan-fine-2 : tie.Need-slice-aggregate-plan-fine-2
-slice-aggregate-plan-fine-2 c = part 64 _ (fine-asked 64 _ _ _ (sym (c .before .before .before .before .before .check-demand .ensures) ∙ c .before .before .before .longest .given .1) .few)
-
-plan-fine-requires : tie.Need-plan-fine-requires
-plan-fine-requires c κs =
-    let e = sym (c .before .before .before .before .before .before .check-demand .ensures) ∙ c .before .before .before .before .longest .given .1 in
-    (e, sym (part 4096 _ (few-cells _ _ _ e)), sym (part 64 _ (fine-asked 64 _ _ _ e .few)))
-
-returns : tie.Need-returns
-returns c =
-    let a = c .before .before .before .before .before .before .args in
-    faulty-answer 64 0 (a .n) (a .cells .now) (a .plan .now) _ (sym (c .before .before .before .check-demand .ensures) ∙ c .before .r .given .1)
+plan-for-requires : tie.Need-plan-for-requires
+plan-for-requires c κs = rw (c .before .before .before .before .before .first-edition .ensures)
+    (record { bounded = first-bounded; divided = omega arith; copied = omega arith; held = omega arith; parted = first-room })
 
 same-length : tie.Need-same-length
 same-length c = search needs
 
-returns-2 : tie.Need-returns-2
-returns-2 c = search needs
+returns : tie.Need-returns
+returns c =
+    let a = c .before .before .before .before .before .before .before .before .before .before .before .before .before .before .before .args in
+    let q = c .before .before .before .before .before .before .before .before .before .before .before .before .first-edition .ensures in
+    gives-as (ap (λ (e : Edition). gratingPlanned e (a .n) (a .cells .now) (a .plan .now)) (sym q)) (c .before .before .before .before .before .before .plan-for .ensures)
 
 pub grating-doubled-spec : {M : Type 1} → statement M
 grating-doubled-spec =
     tie.close
     (tie.spec
-    check-demand-requires
-    enum-known-r
-    enum-known-longest
-    array-borrow-prefix-work
-    slice-aggregate-plan-fine
-    array-borrow-prefix-holds
-    slice-aggregate-plan-fine-2
-    plan-fine-requires
-    returns
+    first-edition-requires
+    slice-aggregate-plan-for
+    slice-aggregate-plan-for-2
+    slice-aggregate-plan-for-3
+    slice-aggregate-plan-for-4
+    plan-for-requires
     same-length
-    returns-2)
+    returns)

@@ -11,41 +11,53 @@ use Rattle.grating.proofs.lay_parts.Statement.{statement}
 use Rattle.grating.proofs.lay_parts.Tie as tie
 
 measure-requires : tie.Need-measure-requires
-measure-requires c κs = let p = c .before .before .before .pre in (omega (arith, p .1), omega (arith, p .0 .size))
+measure-requires c κs = let p = c .before .before .before .pre in (omega (arith, p .1, p .2), omega (arith, p .0 .size))
 
 add-need : tie.Need-add-need
-add-need c = let p = c .before .before .before .before .before .pre in omega (arith, p .2 .few, p .1, c .before .measure .ensures .few)
+add-need c = let p = c .before .before .before .before .before .pre in omega (arith, p .3 .few, p .1, p .2, c .before .measure .ensures .few)
+
+add-room : tie.Need-add-room
+add-room c = search needs
+
+div-room : tie.Need-div-room
+div-room c = search needs
 
 returns : tie.Need-returns
 returns c =
     let s = c .before .before .before .before .before .before in
-    short-answer 64 0 (s .args .n) _ (s .args .plan .now) _ (made-records (s .pre .2) (c .before .before .measure .ensures)) (c .if1 .taken)
+    short-answer (s .args .e) (s .args .n) _ (s .args .plan .now) _ (made-records (s .pre .3) (c .before .before .measure .ensures)) (c .if1 .taken)
 
 lay-first-requires : tie.Need-lay-first-requires
 lay-first-requires c κs =
     let s = c .before .before .before .before .before .before .before in
-    let f = s .pre .2 in (
+    let f = s .pre .3 in (
       s .pre .1,
-      subst (First 64 (s .args .unit) (s .args .first .now) (s .args .records)) (f .sum-is) f,
+      s .pre .2,
+      subst (First (s .args .e .width) (s .args .unit) (s .args .first .now) (s .args .records)) (f .sum-is) f,
       made-first f (c .before .before .before .measure .ensures) (s .args .plan .now) (omega (arith, c .before .if1 .left)),
     )
 
+add-lay : tie.Need-add-lay
+add-lay c = search needs
+
 mul-lay : tie.Need-mul-lay
-mul-lay c = omega (arith, c .before .before .before .before .before .before .before .before .before .before .before .pre .2 .few)
+mul-lay c =
+    let s = c .before .before .before .before .before .before .before .before .before .before .before in
+    omega (arith, made-first (s .pre .3) (c .before .before .before .before .before .before .before .measure .ensures) (s .args .plan .now) (omega (arith, c .before .before .before .before .before .if1 .left)))
 
 lay-requires : tie.Need-lay-requires
 lay-requires c κs =
     let s = c .before .before .before .before .before .before .before .before .before .before .before in
     let e = c .before .before .before .lay-first .ensures in
-    (s .pre .0, s .pre .1, omega arith, made-second (s .pre .2) (c .before .before .before .before .before .before .before .measure .ensures) (s .args .plan .now) (omega (arith, c .before .before .before .before .before .if1 .left)) 0 e)
+    (s .pre .0, s .pre .1, s .pre .2, made-second (s .pre .3) (c .before .before .before .before .before .before .before .measure .ensures) (s .args .plan .now) (omega (arith, c .before .before .before .before .before .if1 .left)) (s .args .e .byte) e)
 
 mul-done : tie.Need-mul-done
-mul-done c = omega (arith, c .before .before .before .before .before .before .before .before .before .before .before .before .before .before .pre .2 .small)
+mul-done c = omega (arith, c .before .before .before .before .before .before .before .before .before .before .before .before .before .before .pre .3 .small)
 
 add-done : tie.Need-add-done
 add-done c =
     let p = c .before .before .before .before .before .before .before .before .before .before .before .before .before .before .before .pre in
-    omega (arith, p .2 .small, p .1, c .before .before .before .before .before .before .before .before .before .before .before .measure .ensures .small)
+    omega (arith, p .3 .small, p .1, p .2, c .before .before .before .before .before .before .before .before .before .before .before .measure .ensures .small)
 
 done-requires : tie.Need-done-requires
 done-requires c κs = search needs
@@ -56,11 +68,11 @@ same-length c = search needs
 returns-2 : tie.Need-returns-2
 returns-2 c =
     let s = c .before .before .before .before .before .before .before .before .before .before .before .before .before .before .before .before in
-    let f = s .pre .2 in
+    let f = s .pre .3 in
     let m = c .before .before .before .before .before .before .before .before .before .before .before .before .measure .ensures in
-    let fits : s .args .records + c .before .before .before .before .before .before .before .before .before .before .before .before .measure .result .records ≤ whole 64 (s .args .plan .now) = omega (arith, c .before .before .before .before .before .before .before .before .before .before .if1 .left) in
-    let put = c .before .before .before .before .lay .ensures ∙ made-laid f m (s .args .plan .now) fits 0 (c .before .before .before .before .before .before .before .before .lay-first .ensures) in
-    let r = laid-answer 64 0 (s .args .n) _ (s .args .plan .now) (omega (arith, fits, made-records f m)) _ _ _ (made-records f m) (made-total f m) put in
+    let fits : s .args .records + c .before .before .before .before .before .before .before .before .before .before .before .before .measure .result .records ≤ whole (s .args .e .width) (s .args .plan .now) = omega (arith, c .before .before .before .before .before .before .before .before .before .before .if1 .left) in
+    let put = c .before .before .before .before .lay .ensures ∙ made-laid f m (s .args .plan .now) fits (s .args .e .byte) (c .before .before .before .before .before .before .before .before .lay-first .ensures) in
+    let r = laid-answer (s .args .e) (s .args .n) _ (s .args .plan .now) (omega (arith, fits, made-records f m)) _ _ _ (made-records f m) (made-total f m) put in
     record { outcome = c .done .ensures ∙ r .outcome; bytes = r .bytes }
 
 pub lay-parts-spec : {M : Type 1} → statement M
@@ -69,8 +81,11 @@ lay-parts-spec =
     (tie.spec
     measure-requires
     add-need
+    add-room
+    div-room
     returns
     lay-first-requires
+    add-lay
     mul-lay
     lay-requires
     mul-done

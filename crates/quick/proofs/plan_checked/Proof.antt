@@ -49,19 +49,19 @@ returns c =
     let o = v .short-of .ensures in
     let m = shortage-some _ _ (λ z. c .if1 .taken (o .lacks ∙ z)) in
     subst (Gives _ _) (sym (o .same))
-    (gives-room (length (a .out .now)) (a .edition) (a .n) (a .cells .now) (a .plan .now) (a .longest) (s .pre .0 .fine) (s .pre .0 .small) _ (o .lacks ∙ m .1) (omega (arith, m .0, o .lacks, m .1)))
+    (gives-room (a .e) (a .n) (a .cells .now) (a .plan .now) (a .longest) (s .pre .0 .fine) (s .pre .0 .small) _ (o .lacks ∙ m .1) (omega (arith, m .0, o .lacks, m .1)))
 
 -- all fit: the working copy is sized as it was, and what it has still to come is the plan
 sized : (c : tie.After-short-of) → Sized (start c .args .n) (c .short-of .last .1 .1 .1 .1 .1 .0)
 sized c = sized-as _ _ _ (c .short-of .kept .1 .1 .1 .1 .1 .0) (start c .pre .1 .sized)
 
 plan : (c : tie.After-short-of) → c .short-of .result ≡ 0
-    → leftover (length (c .short-of .last .1 .1 .1 .1 .1 .1 .1 .1 .0)) (start c .args .n) 0 (c .short-of .last .1 .1 .1 .1 .1 .0) ≡ quickPlan (length (start c .args .out .now)) (start c .args .n) (start c .args .cells .now)
+    → leftover (length (c .short-of .last .1 .1 .1 .1 .1 .1 .1 .1 .0)) (start c .args .n) 0 (c .short-of .last .1 .1 .1 .1 .1 .0) ≡ quickPlan (start c .args .e .width) (start c .args .n) (start c .args .cells .now)
 plan c z =
-    ap (λ (w : ℕ). leftover w (start c .args .n) 0 (c .short-of .last .1 .1 .1 .1 .1 .0)) (c .short-of .kept .1 .1 .1 .1 .1 .1 .1 .1 .0) ∙ copied-plan _ _ _ _ (sized c) (c .short-of .ensures .copied z)
+    ap (λ (w : ℕ). leftover w (start c .args .n) 0 (c .short-of .last .1 .1 .1 .1 .1 .0)) (c .short-of .kept .1 .1 .1 .1 .1 .1 .1 .1 .0 ∙ start c .pre .2) ∙ copied-plan _ _ _ _ (sized c) (c .short-of .ensures .copied z)
 
 fits : (c : tie.After-short-of) → c .short-of .result ≡ 0
-    → length (quickPlan (length (start c .args .out .now)) (start c .args .n) (start c .args .cells .now)) ≤ whole (length (start c .args .out .now)) (start c .args .plan .now)
+    → length (quickPlan (start c .args .e .width) (start c .args .n) (start c .args .cells .now)) ≤ whole (start c .args .e .width) (start c .args .plan .now)
 fits c z = shortage-none _ _ (sym (c .short-of .ensures .lacks) ∙ z)
 
 fill-slots-requires : tie.Need-fill-slots-requires
@@ -72,10 +72,10 @@ fill-slots-requires c κs =
     let p = s .pre .1 in
     let z = c .before .before .before .before .before .if1 .left in
     let k = v .short-of .kept in (
-      copied-short (length (a .out .now)) _ _ _ (sized v) (v .short-of .ensures .copied z) _ (fine-asked _ _ _ _ (s .pre .0 .fine)),
+      copied-short (a .e .ports) _ _ _ (sized v) (v .short-of .ensures .copied z) _ (fine-asked _ _ _ _ (s .pre .0 .fine)),
       record { sized = sized v; low = k .1 .1 .1 .1 .1 .1 .0 ∙ p .low; high = k .1 .1 .1 .1 .1 .1 .1 .0 ∙ p .high; wide = omega (arith, p .wide, k .1 .1 .1 .1 .1 .1 .1 .1 .0); seats = omega (arith, p .seats, k .1 .1 .1 .1 .1 .1 .1 .1 .0) },
-      λ _. subst (λ (q : List Record). length (bytes (a .edition) (a .n) q) ≤ length (v .short-of .last .1 .1 .1 .1 .0)) (sym (plan v z))
-          (omega (arith, plan-fits (length (a .out .now)) (a .edition) (a .n) (a .cells .now) (a .plan .now) (fits v z), ap length (v .short-of .ensures .same))),
+      λ _. subst (λ (q : List Record). length (bytes (a .e .byte) (a .n) q) ≤ length (v .short-of .last .1 .1 .1 .1 .0)) (sym (plan v z))
+          (omega (arith, plan-fits (a .e .width) (a .e .byte) (a .n) (a .cells .now) (a .plan .now) (fits v z), ap length (v .short-of .ensures .same))),
     )
 
 same-length-6 : tie.Need-same-length-6
@@ -101,9 +101,9 @@ returns-2 c =
     let s = start v in
     let a = s .args in
     let z = c .before .before .before .before .before .before .before .before .before .before .before .before .before .before .before .before .if1 .left in
-    gives-plan (length (a .out .now)) (a .edition) (a .n) (a .cells .now) (a .plan .now) (a .longest) (s .pre .0 .fine) (s .pre .0 .small) _ (f .ensures .0 ∙ ap length (plan v z)) (s .pre .1 .wide) (fits v z) _
-    (f .ensures .1 ∙ ap (λ (q : List ℕ). laid q 0 (bytes (a .edition) (a .n) (leftover (length (v .short-of .last .1 .1 .1 .1 .1 .1 .1 .1 .0)) (a .n) 0 (v .short-of .last .1 .1 .1 .1 .1 .0)))) (v .short-of .ensures .same)
-    ∙ ap (λ (q : List Record). laid (a .plan .now) 0 (bytes (a .edition) (a .n) q)) (plan v z))
+    gives-plan (a .e) (a .n) (a .cells .now) (a .plan .now) (a .longest) (s .pre .0 .fine) (s .pre .0 .small) _ (f .ensures .0 ∙ ap length (plan v z)) (s .pre .0 .bounded) (fits v z) _
+    (f .ensures .1 ∙ ap (λ (q : List ℕ). laid q 0 (bytes (a .e .byte) (a .n) (leftover (length (v .short-of .last .1 .1 .1 .1 .1 .1 .1 .1 .0)) (a .n) 0 (v .short-of .last .1 .1 .1 .1 .1 .0)))) (v .short-of .ensures .same)
+    ∙ ap (λ (q : List Record). laid (a .plan .now) 0 (bytes (a .e .byte) (a .n) q)) (plan v z))
 
 pub plan-checked-spec : {M : Type 1} → statement M
 plan-checked-spec =

@@ -1,39 +1,53 @@
--- The first edition has room for 64 ports.
-use mathlib.Core.Path.{refl}
+-- The first edition keeps to the bounds of every edition, and there is room for 64 ports.
+use mathlib.Core.Path.{refl, sym, ap}
 use native.Mathlib.Omega.{arith}
+use Rattle.switch.specs.declared.Edition.{Edition}
+use Rattle.switch.proofs.Editions.{first-bounded}
+use Rattle.switch.proofs.Result.{gives-as}
+use Rattle.rules.specs.Quick.{quickPlan}
+use Rattle.planner.specs.Planned.{plannedUpTo}
 use borrow.Author.Needs.{needs}
 use Rattle.quick.proofs.quick_plan.Statement.{statement}
 use Rattle.quick.proofs.quick_plan.Tie as tie
 
-slice-aggregate-plan-with : tie.Need-slice-aggregate-plan-with
-slice-aggregate-plan-with c = refl
+first-edition-requires : tie.Need-first-edition-requires
+first-edition-requires c κs = search needs
 
-slice-aggregate-plan-with-2 : tie.Need-slice-aggregate-plan-with-2
-slice-aggregate-plan-with-2 c = refl
+slice-aggregate-plan-for : tie.Need-slice-aggregate-plan-for
+slice-aggregate-plan-for c = refl
 
-slice-aggregate-plan-with-3 : tie.Need-slice-aggregate-plan-with-3
-slice-aggregate-plan-with-3 c = refl
+slice-aggregate-plan-for-2 : tie.Need-slice-aggregate-plan-for-2
+slice-aggregate-plan-for-2 c = refl
 
-slice-aggregate-plan-with-4 : tie.Need-slice-aggregate-plan-with-4
-slice-aggregate-plan-with-4 c = refl
+slice-aggregate-plan-for-3 : tie.Need-slice-aggregate-plan-for-3
+slice-aggregate-plan-for-3 c = refl
 
-plan-with-requires : tie.Need-plan-with-requires
-plan-with-requires c κs = record { few = omega arith; cells = omega arith; low = omega arith; high = omega arith }
+slice-aggregate-plan-for-4 : tie.Need-slice-aggregate-plan-for-4
+slice-aggregate-plan-for-4 c = refl
+
+plan-for-requires : tie.Need-plan-for-requires
+plan-for-requires c κs = rw (c .before .before .before .before .before .first-edition .ensures)
+    (record { bounded = first-bounded; cells = omega arith; low = omega arith; high = omega arith; wide = omega arith })
 
 same-length : tie.Need-same-length
 same-length c = search needs
 
 returns : tie.Need-returns
-returns c = c .before .before .before .before .before .before .plan-with .ensures
+returns c =
+    let a = c .before .before .before .before .before .before .before .before .before .before .before .before .before .before .before .args in
+    let q = c .before .before .before .before .before .before .before .before .before .before .before .before .first-edition .ensures in
+    gives-as (ap (λ (e : Edition). plannedUpTo 1024 e (a .n) (a .cells .now) (quickPlan (e .width) (a .n) (a .cells .now)) (a .plan .now)) (sym q))
+    (c .before .before .before .before .before .before .plan-for .ensures)
 
 pub quick-plan-spec : {M : Type 1} → statement M
 quick-plan-spec =
     tie.close
     (tie.spec
-    slice-aggregate-plan-with
-    slice-aggregate-plan-with-2
-    slice-aggregate-plan-with-3
-    slice-aggregate-plan-with-4
-    plan-with-requires
+    first-edition-requires
+    slice-aggregate-plan-for
+    slice-aggregate-plan-for-2
+    slice-aggregate-plan-for-3
+    slice-aggregate-plan-for-4
+    plan-for-requires
     same-length
     returns)

@@ -1,6 +1,7 @@
 -- Where the room is for 2T - 1 records all fit; else they are counted, and only where all fit is the demand copied in again.
 use mathlib.Core.Path.{_≡_, refl, sym, ap, _∙_, subst}
 use mathlib.Core.Bool.{true≢false}
+use Prim.Native.Nat.{ℕ}
 use native.Mathlib.Omega.{arith}
 use lib.ListN.{length}
 use Rattle.switch.proofs.Demand.{cell-append}
@@ -8,6 +9,7 @@ use Rattle.demand.proofs.Check.{fine-asked}
 use Rattle.records.specs.Bytes.{whole}
 use Rattle.rules.specs.Quick.{quickPlan}
 use Rattle.planner.proofs.Planned.{fits-room, lacks-room}
+use Rattle.slot.specs.Filled.{leftover}
 use Rattle.quick.specs.Lent.{Copied, laidIf}
 use Rattle.quick.proofs.Loading.{copied-short, copied-plan}
 use Rattle.quick.proofs.Planning.{enough}
@@ -21,17 +23,17 @@ add-room c = search needs
 div-room : tie.Need-div-room
 div-room c = search needs
 
-most-records-requires : tie.Need-most-records-requires
-most-records-requires c κs = search needs
+quick-records-requires : tie.Need-quick-records-requires
+quick-records-requires c κs = search needs
 
 returns : tie.Need-returns
 returns c =
     let s = c .before .before .before .before .before .before .before .before in
     let a = s .args in
-    let W = length (a .out .now) in
+    let W = a .e .width in
     record {
       lacks = fits-room (whole W (a .plan .now)) (length (quickPlan W (a .n) (a .cells .now)))
-          (enough W (a .n) (a .longest) (whole W (a .plan .now)) (a .cells .now) (s .pre .1 .wide) (fine-asked _ _ _ _ (s .pre .0 .fine)) (omega (arith, c .before .most-records .ensures, c .if1 .taken)));
+          (enough (a .e) (s .pre .0 .bounded) (a .n) (a .longest) (whole W (a .plan .now)) (a .cells .now) (fine-asked _ _ _ _ (s .pre .0 .fine)) (omega (arith, c .before .quick-records .ensures, c .if1 .taken)));
       same = refl;
       copied = λ _. s .pre .0 .copied;
     }
@@ -60,8 +62,11 @@ same-length-5 c = search needs
 abbrev start : tie.After-fill-slots → tie.Start
 start c = c .before .before .before .before .before .before .before .before .before .before .before .before .before .before
 
-counted : (c : tie.After-fill-slots) → c .fill-slots .result ≡ length (quickPlan (length (start c .args .out .now)) (start c .args .n) (start c .args .cells .now))
-counted c = c .fill-slots .ensures .0 ∙ ap length (copied-plan _ _ _ _ (start c .pre .1 .sized) (start c .pre .0 .copied))
+counted : (c : tie.After-fill-slots) → c .fill-slots .result ≡ length (quickPlan (start c .args .e .width) (start c .args .n) (start c .args .cells .now))
+counted c =
+    let s = start c in
+    c .fill-slots .ensures .0 ∙ ap (λ (w : ℕ). length (leftover w (s .args .n) 0 (s .args .work .now))) (s .pre .2)
+    ∙ ap length (copied-plan _ _ _ _ (s .pre .1 .sized) (s .pre .0 .copied))
 
 unwritten : (c : tie.After-fill-slots) → c .fill-slots .last .1 .1 .0 ≡ start c .args .plan .now
 unfolding laidIf
@@ -108,7 +113,7 @@ short-of-spec =
     (tie.spec
     add-room
     div-room
-    most-records-requires
+    quick-records-requires
     returns
     fill-slots-requires
     same-length

@@ -25,8 +25,8 @@ lay-all-requires c κs =
     let a = c .before .before .before .before .args in
     let p = c .before .before .before .before .pre in
     let w = wide _ (p .2) in
-    let fits = turns-room (turn (a .way) (a .n)) (λ k. getD (a .holds .now) k 0) (a .n) (a .edition) (a .n) (a .width) (a .from) (a .plan .now) (p .3) in
-    (p .0, omega (arith, p .1, w), subst (λ (W : ℕ). a .from + length (bytes (a .edition) (a .n) (second (a .way) W (a .n) (a .holds .now))) ≤ length (a .plan .now)) (sym w) fits)
+    let fits = turns-room (turn (a .way) (a .n)) (λ k. getD (a .holds .now) k 0) (a .n) (a .e .byte) (a .n) (a .e .width) (a .from) (a .plan .now) (p .3) in
+    (p .0, omega (arith, p .1, w), subst (λ (W : ℕ). a .from + length (bytes (a .e .byte) (a .n) (second (a .way) W (a .n) (a .holds .now))) ≤ length (a .plan .now)) (sym w) fits)
 
 same-length : tie.Need-same-length
 same-length c = search needs
@@ -36,7 +36,7 @@ returns c =
     let s = c .before .before .before .before .before .before .before .before in
     let a = s .args in
     c .before .before .before .lay-all .ensures
-    ∙ ap (λ (W : ℕ). laid (a .plan .now) (a .from) (bytes (a .edition) (a .n) (second (a .way) W (a .n) (a .holds .now)))) (wide _ (s .pre .2))
+    ∙ ap (λ (W : ℕ). laid (a .plan .now) (a .from) (bytes (a .e .byte) (a .n) (second (a .way) W (a .n) (a .holds .now)))) (wide _ (s .pre .2))
 
 pub lay-spec : {M : Type 1} → statement M
 lay-spec =

@@ -8,8 +8,8 @@ use Rattle.demand.specs.Check.{checkDemand}
 use Rattle.quick.specs.Lent.{Space}
 use Rattle.quick.proofs.Planning.{gives-fault, gives-longest, lends}
 use borrow.Author.Needs.{needs}
-use Rattle.quick.proofs.plan_with.Statement.{statement}
-use Rattle.quick.proofs.plan_with.Tie as tie
+use Rattle.quick.proofs.plan_for.Statement.{statement}
+use Rattle.quick.proofs.plan_for.Tie as tie
 
 copy-checked-requires : tie.Need-copy-checked-requires
 copy-checked-requires c κs = search needs
@@ -27,14 +27,14 @@ same-length c = search needs
 abbrev start : tie.After-checked2 → tie.Start
 start c = c .before .before .before .before .before .before .before .before .before .before .before .before
 
-fine : (c : tie.After-checked2) → checkDemand (length (start c .args .out .now)) (start c .args .n) (start c .args .cells .now) ≡ Fine (c .checked2 .given .0 .0)
+fine : (c : tie.After-checked2) → checkDemand (start c .args .e .ports) (start c .args .n) (start c .args .cells .now) ≡ Fine (c .checked2 .given .0 .0)
 fine c = sym (c .before .before .before .before .copy-checked .ensures .checked) ∙ c .checked2 .given .1
 
 returns : tie.Need-returns
 returns c =
     let f = c .before .before in
     let a = start f .args in
-    gives-longest (length (a .out .now)) (a .edition) (a .n) (a .cells .now) (a .plan .now) (f .checked2 .given .0 .0) (fine f) (c .if1 .taken)
+    gives-longest (a .e) (a .n) (a .cells .now) (a .plan .now) (f .checked2 .given .0 .0) (fine f) (c .if1 .taken)
 
 -- what it lends
 lent : (c : tie.After-checked2) → (start c .args .n ≤ length (start c .args .lows .now)) × (start c .args .n ≤ length (start c .args .highs .now))
@@ -43,8 +43,8 @@ lent c =
     let a = start c .args in
     let p = start c .pre in
     let k = c .before .before .before .before .copy-checked in
-    lends (a .n) (c .checked2 .given .0 .0) (a .cells .now) (k .last .1 .1 .1 .0) (a .lows .now) (a .highs .now) (a .out .now)
-    (record { few = p .few; cells = omega (arith, p .cells, k .kept .1 .1 .1 .0); low = p .low; high = p .high }) (fine c)
+    lends (a .e) (a .n) (c .checked2 .given .0 .0) (a .cells .now) (k .last .1 .1 .1 .0) (a .lows .now) (a .highs .now) (a .out .now)
+    (record { bounded = p .bounded; cells = omega (arith, p .cells, k .kept .1 .1 .1 .0); low = p .low; high = p .high; wide = p .wide }) (fine c)
 
 slice-relend-prefix-plan-checked : tie.Need-slice-relend-prefix-plan-checked
 slice-relend-prefix-plan-checked c = lent (c .before .before .before .before) .0
@@ -61,7 +61,16 @@ slice-aggregate-plan-checked-2 c = sym (lent (c .before .before .before .before 
 plan-checked-requires : tie.Need-plan-checked-requires
 plan-checked-requires c κs =
     let f = c .before .before .before .before .before .before .before in
-    (record { fine = fine f; small = c .before .before .before .before .before .if1 .left; copied = f .before .before .before .before .copy-checked .ensures .copied _ (f .checked2 .given .1) }, lent f .2)
+    let p = start f .pre in (
+      record {
+        bounded = p .bounded;
+        fine = fine f;
+        small = c .before .before .before .before .before .if1 .left;
+        copied = f .before .before .before .before .copy-checked .ensures .copied _ (f .checked2 .given .1);
+      },
+      lent f .2,
+      p .wide,
+    )
 
 same-length-2 : tie.Need-same-length-2
 same-length-2 c = search needs
@@ -70,7 +79,7 @@ returns-2 : tie.Need-returns-2
 returns-2 c =
     let k = c .before in
     let a = c .before .before .before .before .before .before .before .before .before .before .before .before .before .args in
-    gives-fault (length (a .out .now)) (a .edition) (a .n) (a .cells .now) (a .plan .now) (k .checked .given .0 .0) (sym (c .before .before .before .before .before .copy-checked .ensures .checked) ∙ k .checked .given .1)
+    gives-fault (a .e) (a .n) (a .cells .now) (a .plan .now) (k .checked .given .0 .0) (sym (c .before .before .before .before .before .copy-checked .ensures .checked) ∙ k .checked .given .1)
 
 same-length-3 : tie.Need-same-length-3
 same-length-3 c = search needs
@@ -90,8 +99,8 @@ same-length-7 c = search needs
 returns-3 : tie.Need-returns-3
 returns-3 c = search needs
 
-pub plan-with-spec : {M : Type 1} → statement M
-plan-with-spec =
+pub plan-for-spec : {M : Type 1} → statement M
+plan-for-spec =
     tie.close
     (tie.spec
     copy-checked-requires

@@ -1,0 +1,48 @@
+-- The plan by the old rule, which is the one that stood before, in the second edition.
+use mathlib.Core.Path.{sym, ap}
+use native.Mathlib.Omega.{arith}
+use Rattle.switch.specs.declared.Edition.{Edition}
+use Rattle.switch.proofs.Editions.{second-bounded}
+use Rattle.switch.proofs.Result.{gives-as}
+use Rattle.rules.specs.Doubled.{doubledPlan}
+use Rattle.planner.specs.Planned.{planned}
+use Rattle.turns.specs.declared.Rule.the-variants.{Every}
+use Rattle.turns.specs.declared.Turning.the-variants.{Forward}
+use Rattle.turns.specs.Second.{doubledRule}
+use borrow.Author.Needs.{needs}
+use Rattle.doubled.proofs.doubled_plan_every_rotation_second.Statement.{statement}
+use Rattle.doubled.proofs.doubled_plan_every_rotation_second.Tie as tie
+
+second-edition-requires : tie.Need-second-edition-requires
+second-edition-requires c κs = search needs
+
+slice-aggregate-plan-for : tie.Need-slice-aggregate-plan-for
+slice-aggregate-plan-for c = search needs
+
+slice-aggregate-plan-for-2 : tie.Need-slice-aggregate-plan-for-2
+slice-aggregate-plan-for-2 c = search needs
+
+plan-for-requires : tie.Need-plan-for-requires
+plan-for-requires c κs = rw (c .before .before .before .second-edition .ensures) (second-bounded, omega arith, omega arith)
+
+same-length : tie.Need-same-length
+same-length c = search needs
+
+returns : tie.Need-returns
+unfolding doubledPlan
+returns c =
+    let a = c .before .before .before .before .before .before .before .before .before .before .before .args in
+    let q = c .before .before .before .before .before .before .before .before .second-edition .ensures in
+    gives-as (ap (λ (e : Edition). planned e (a .n) (a .cells .now) (doubledRule Every Forward (e .width) (a .n) (a .cells .now)) (a .plan .now)) (sym q))
+    (c .before .before .before .before .plan-for .ensures)
+
+pub doubled-plan-every-rotation-second-spec : {M : Type 1} → statement M
+doubled-plan-every-rotation-second-spec =
+    tie.close
+    (tie.spec
+    second-edition-requires
+    slice-aggregate-plan-for
+    slice-aggregate-plan-for-2
+    plan-for-requires
+    same-length
+    returns)

@@ -1,0 +1,55 @@
+-- A demand that is refused by itself changes nothing; the rest is decided on a working copy.
+use mathlib.Core.Path.{refl, sym, _∙_}
+use native.Mathlib.Omega.{arith}
+use native.Mathlib.Nat.{mul-le-mul}
+use Rattle.demand.proofs.Check.{fine-asked}
+use Rattle.rules.specs.Exact.{exactPlan}
+use Rattle.switch.proofs.Result.{gives}
+use Rattle.planner.proofs.Planned.{planned-faulty}
+use borrow.Author.Needs.{needs}
+use Rattle.exact.proofs.plan_for.Statement.{statement}
+use Rattle.exact.proofs.plan_for.Tie as tie
+
+check-demand-requires : tie.Need-check-demand-requires
+check-demand-requires c κs = search needs
+
+enum-known-r : tie.Need-enum-known-r
+enum-known-r c = search needs
+
+enum-known-longest : tie.Need-enum-known-longest
+enum-known-longest c = search needs
+
+lay-or-refuse-requires : tie.Need-lay-or-refuse-requires
+lay-or-refuse-requires c κs =
+    let p = c .before .before .before .before .before .before .before .before .before .pre in
+    let e = sym (c .before .before .before .before .before .check-demand .ensures) ∙ c .before .before .before .longest .given .1 in
+    let a = fine-asked _ _ _ _ e in
+    (e, p .0, omega (arith, mul-le-mul (a .few) (a .few), p .1))
+
+returns : tie.Need-returns
+returns c =
+    let a = c .before .before .before .before .before .before .before .args in
+    let q = planned-faulty (a .e) (a .n) (a .cells .now) (exactPlan (a .e .width) (a .n) (a .cells .now)) (a .plan .now) _ (sym (c .before .before .before .check-demand .ensures) ∙ c .before .r .given .1) in
+    gives q refl refl
+
+same-length : tie.Need-same-length
+same-length c = search needs
+
+same-length-2 : tie.Need-same-length-2
+same-length-2 c = search needs
+
+returns-2 : tie.Need-returns-2
+returns-2 c = search needs
+
+pub plan-for-spec : {M : Type 1} → statement M
+plan-for-spec =
+    tie.close
+    (tie.spec
+    check-demand-requires
+    enum-known-r
+    enum-known-longest
+    lay-or-refuse-requires
+    returns
+    same-length
+    same-length-2
+    returns-2)
