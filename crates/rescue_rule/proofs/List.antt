@@ -1,8 +1,11 @@
 -- The list names every dropped record and no other, in order, each with a reason from 1 to 6; a torn tail comes last.
 use mathlib.Core.Path.{_≡_, refl, sym, ap, _∙_}
 use mathlib.Core.Bool.{Bool, true, not}
+use mathlib.Core.Logic.{dite}
 use mathlib.Core.List.{List, [], _∷_, _++_, append-nil}
-use Prim.Native.Nat.{ℕ, _+_, _*_, _/_, _%_, _<_}
+use Prim.Native.Nat.{ℕ, _+_, _*_, _/_, _%_, _<_, _≤_}
+use native.Mathlib.Nat.{div-add-mod', mul-le-mul-left}
+use native.Mathlib.Decide.{ℕ-discrete}
 use native.Mathlib.Omega.{arith}
 use lib.ListN.{length, getD}
 use borrow.Author.Tests.{eq-eqb, ne-eqb}
@@ -12,6 +15,31 @@ use Rattle.rescue_rule.specs.Rescue.{fine, Entry, entryOf, droppedTo, to
 use Rattle.rescue_rule.proofs.Reason.{none-fine}
 use Rattle.rescue_rule.proofs.Those.{getD-front, those-place, those-before, Comes, those-comes}
 use mathlib.Core.Bool.{true≢false}
+
+-- ---- the tail
+
+module _ (W : ℕ) (plan : List ℕ) where
+  pub torn-none : length plan % (W + 4) ≡ 0 → length (tornTail W plan) ≡ 0
+  unfolding tornTail
+  torn-none z = rw (eq-eqb (length plan % (W + 4)) 0 z)
+
+  pub torn-one : (length plan % (W + 4) ≡ 0 → ⊥) → length (tornTail W plan) ≡ 1
+  unfolding tornTail
+  torn-one nz = rw (ne-eqb (length plan % (W + 4)) 0 nz)
+
+  -- and back
+  pub torn-even : length (tornTail W plan) ≡ 0 → length plan % (W + 4) ≡ 0
+  torn-even q = dite (ℕ-discrete (length plan % (W + 4)) 0) (λ z. z) (λ nz. absurd (omega (arith, torn-one nz)))
+
+  -- there are no more records, a torn one counted, than bytes
+  pub records-few : whole W plan + length (tornTail W plan) ≤ length plan
+  records-few =
+      let l : 1 ≤ W + 4 = omega arith in
+      let x = div-add-mod' (length plan) (W + 4) in
+      let y = mul-le-mul-left (whole W plan) l in
+      dite (ℕ-discrete (length plan % (W + 4)) 0) (λ z. omega (arith, x, y, torn-none z)) (λ nz. omega (arith, x, y, nz, torn-one nz))
+
+-- ---- all that is dropped
 
 module _ (W e N : ℕ) (plan : List ℕ) where
   -- not well formed

@@ -1,0 +1,63 @@
+-- The entries of the whole records, and then that of a tail.
+use mathlib.Core.Path.{sym, ap, _∙_}
+use native.Mathlib.Omega.{arith}
+use Rattle.records.specs.Bytes.{laid}
+use Rattle.dropping.proofs.Listing.{wholes-fit, tail-none, tail-room, tail-laid}
+use borrow.Author.Needs.{needs}
+use Rattle.dropping.proofs.list_dropped.Statement.{statement}
+use Rattle.dropping.proofs.list_dropped.Tie as tie
+
+add-records : tie.Need-add-records
+add-records c = search needs
+
+div-records : tie.Need-div-records
+div-records c = search needs
+
+list-whole-requires : tie.Need-list-whole-requires
+list-whole-requires c κs =
+    let s = c .before .before .before .before in
+    (s .pre .0, wholes-fit _ (s .args .e .byte) _ _ (s .args .list .now) (s .pre .2))
+
+torn-requires : tie.Need-torn-requires
+torn-requires c κs = search needs
+
+same-length : tie.Need-same-length
+same-length c = search needs
+
+returns : tie.Need-returns
+returns c =
+    let s = c .before .before .before .before .before .before .before .before .before in
+    c .before .before .before .before .list-whole .ensures .1 ∙ ap (laid _ 0) (sym (tail-none _ (s .args .e .byte) _ _ (sym (c .before .torn .ensures) ∙ c .if1 .taken)))
+
+put-entry-requires : tie.Need-put-entry-requires
+put-entry-requires c κs =
+    let s = c .before .before .before .before .before .before .before .before .before .before in
+    let told = c .before .before .before .before .before .list-whole .ensures in
+    let tail = c .before .before .torn .ensures in (
+      omega (arith, s .pre .1, tail, c .before .if1 .left),
+      tail-room _ (s .args .e .byte) _ _ (λ z. c .before .if1 .left (tail ∙ z)) _ _ _ (s .pre .2) (told .1) (told .0),
+    )
+
+same-length-2 : tie.Need-same-length-2
+same-length-2 c = search needs
+
+returns-2 : tie.Need-returns-2
+returns-2 c =
+    let s = c .before .before .before .before .before .before .before .before .before .before .before .before .before in
+    let told = c .before .before .before .before .before .before .before .before .list-whole .ensures in
+    let tail = c .before .before .before .before .before .torn .ensures in
+    tail-laid _ (s .args .e .byte) _ _ (λ z. c .before .before .before .before .if1 .left (tail ∙ z)) _ _ _ (s .pre .2) (told .1) (told .0) _ (c .before .before .put-entry .ensures)
+
+pub list-dropped-spec : {M : Type 1} → statement M
+list-dropped-spec =
+    tie.close
+    (tie.spec
+    add-records
+    div-records
+    list-whole-requires
+    torn-requires
+    same-length
+    returns
+    put-entry-requires
+    same-length-2
+    returns-2)

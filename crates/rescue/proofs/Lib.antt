@@ -1,0 +1,6 @@
+pub mod Keep
+pub mod Uncovered
+pub mod Laying
+pub mod Whole
+pub mod Order
+pub mod Taking

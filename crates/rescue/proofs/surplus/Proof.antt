@@ -1,0 +1,82 @@
+-- Up to k the slots granted beyond what is asked are summed, each below 2^32, so that 16,384 of them cannot wrap.
+use mathlib.Core.Path.{_≡_, refl, sym, ap, _∙_}
+use Prim.Native.Nat.{ℕ, _*_, _-_, _≤_}
+use native.Mathlib.Nat.{mul-le-mul}
+use native.Mathlib.Omega.{arith}
+use lib.ListN.{length, getD}
+use Rattle.counting.specs.Sum.{sum}
+use Rattle.counting.proofs.Sum.{sum-zero, sum-next}
+use Rattle.checker.proofs.Cover.{beyond-cells}
+use borrow.Author.Needs.{needs}
+use Rattle.rescue.proofs.surplus.Statement.{statement}
+use Rattle.rescue.proofs.surplus.Tie as tie
+
+abbrev Inv-loop : tie.InvT-loop
+Inv-loop n cells grants empty₀ k₀ k-end empty k = (k-end ≡ length cells) × (k ≤ length cells) × (empty ≡ sum k (λ x. getD grants x 0 - getD cells x 0)) × (empty ≤ k * 4294967295)
+
+abbrev μ-loop : tie.MeasureT-loop
+μ-loop n cells grants empty₀ k₀ k-end empty k = length cells - k
+
+loop-holds : tie.Need-loop-holds Inv-loop μ-loop
+loop-holds c = (refl, omega arith, sym (sum-zero _), omega arith)
+
+mul-less : tie.Need-mul-less Inv-loop μ-loop
+mul-less c = search needs
+
+shared-slice-read-less : tie.Need-shared-slice-read-less Inv-loop μ-loop
+shared-slice-read-less c = search needs
+
+mul-less-2 : tie.Need-mul-less-2 Inv-loop μ-loop
+mul-less-2 c = search needs
+
+shared-slice-read-less-2 : tie.Need-shared-slice-read-less-2 Inv-loop μ-loop
+shared-slice-read-less-2 c = search needs
+
+less-requires : tie.Need-less-requires Inv-loop μ-loop
+less-requires c κs = search needs
+
+cast-empty : tie.Need-cast-empty Inv-loop μ-loop
+cast-empty c = search needs
+
+add-empty : tie.Need-add-empty Inv-loop μ-loop
+add-empty c =
+    let p = c .before .before .before .before .before .before .before .pre in
+    omega (arith, c .before .before .before .before .loop .inv .3, c .less .ensures, mul-le-mul (p .0) (p .0))
+
+add-k : tie.Need-add-k Inv-loop μ-loop
+add-k c = search needs
+
+loop-less : tie.Need-loop-less Inv-loop μ-loop
+loop-less c = search needs
+
+loop-again : tie.Need-loop-again Inv-loop μ-loop
+loop-again c =
+    let a = c .before .before .before .before .before .before .before .args in
+    let l = c .before .before .before .before .loop in
+    (l .inv .0, omega arith, omega (arith, l .inv .2, c .less .ensures, sum-next (l .k) (λ x. getD (a .grants .now) x 0 - getD (a .cells .now) x 0)), omega (arith, l .inv .3))
+
+returns : tie.Need-returns Inv-loop μ-loop
+returns c =
+    let a = c .before .before .before .before .args in
+    let l = c .before .loop in
+    let e : l .k ≡ a .n * a .n = omega (arith, c .before .before .before .before .pre .1) in
+    (l .inv .2 ∙ ap (λ (m : ℕ). sum m (λ x. getD (a .grants .now) x 0 - getD (a .cells .now) x 0)) e ∙ beyond-cells (a .n) (a .cells .now) (a .grants .now), omega (arith, l .inv .3, ap (λ (m : ℕ). m * 4294967295) e))
+
+pub surplus-spec : {M : Type 1} → statement M
+surplus-spec =
+    tie.close
+    (tie.spec
+    Inv-loop
+    μ-loop
+    loop-holds
+    mul-less
+    shared-slice-read-less
+    mul-less-2
+    shared-slice-read-less-2
+    less-requires
+    cast-empty
+    add-empty
+    add-k
+    loop-less
+    loop-again
+    returns)
