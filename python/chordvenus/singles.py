@@ -25,6 +25,7 @@ INFINITY = 0x7F80_0000
 
 _DECIMAL = re.compile(r"([+-]?)(?:([0-9]+)(?:\.([0-9]*))?|\.([0-9]+))(?:[eE]([+-]?[0-9]+))?")
 _WORD = re.compile(r"([+-]?)(inf(?:inity)?|nan)", re.IGNORECASE)
+_LARGEST = 2.0**128 - 2.0**104  # the value of LARGEST
 _SPAN = 400  # powers of ten beyond this are far outside of all binary32 numbers
 
 
@@ -85,8 +86,13 @@ def bits_of_all(numbers: Sequence[Any]) -> "array[int]":
         return array("I", [bits_of(number) for number in numbers])
     bits = array("I", singles.tobytes())
     for k, near in enumerate(singles):
-        if near != numbers[k]:
-            bits[k] = bits_of(numbers[k])
+        number = numbers[k]
+        if near == number:
+            continue
+        if isinstance(number, float) and 0 < number and near < _LARGEST:
+            bits[k] += near < number  # the nearest is one of the two that the number stands between
+        else:
+            bits[k] = bits_of(number)
     return bits
 
 

@@ -47,7 +47,7 @@ def ports(rng, ref):
     """Mostly few ports, so that many cases are tried; now and then none, too many, or the largest switch's neighbours."""
     if rng.random() < 0.01:
         return rng.choice([0, ref.PORTS + 1])
-    return rng.choice([1, 2, 2, 2, 3, 3, 3, 4])
+    return rng.choice([1, 2, 2, 2, 3, 3, 3, 3, 4])
 
 
 def demand(rng, ref, most=65_535):
@@ -80,14 +80,14 @@ def plan(rng, ref, n, damaged=0.3):
         return b""
     settings = [outputs(rng, n) for _ in range(2)]
     holds = (1, 2, 7, 40_000, 65_535)
-    records = [bytearray(ref.record_bytes(rng.choice(holds), n, rng.choice(settings))) for _ in range(rng.randint(0, 5))]
+    records = [bytearray(ref.record_bytes(rng.choice(holds), n, rng.choice(settings))) for _ in range(rng.randint(0, 4))]
     if records and rng.random() < damaged:
         damage(rng, n, rng.choice(records))
     data = b"".join(records)
     if rng.random() < damaged / 6:
         data += bytes(rng.randint(1, ref.RECORD - 1))
-    if rng.random() < damaged / 300:
-        data = ref.record_bytes(1, n, [255] * n) * (ref.RECORDS + rng.randint(0, 1))
+    if rng.random() < damaged / 1_000:
+        data = ref.record_bytes(1, n, [255] * n) * (ref.RECORDS + 1)
     return data
 
 

@@ -157,8 +157,8 @@ class Compared(unittest.TestCase):
             if method == "quick" and max(cells, default=0) > 200 and max(cells) <= 1_024:
                 cells = [min(cell, 200) for cell in cells]
             if k % 4:
-                room = bytes(ref.RECORD * 2_100)
-                answer, buffer = getattr(ref, written)(n, cells, room)
+                room = 2 * ref.longest_line(n, cells) if method == "quick" and cells else 16
+                answer, buffer = getattr(ref, written)(n, cells, bytes(ref.RECORD * min(room, 2_100)))
                 got, refused = tried(cv.plan, made(n, cells), method, edition=edition(ref))
                 self.same(refused, numbers(answer) if answer.code else {}, n, cells)
                 if not answer.code:
@@ -567,7 +567,24 @@ class Compared(unittest.TestCase):
 
 
 class Larger(unittest.TestCase):
-    """Each planner on a few demands of larger switches, both editions, the largest included."""
+    """Each planner on a few demands of larger switches, both editions, and plans of as many records as are read."""
+
+    def test_most_records(self):
+        for ref in (FIRST, SECOND):
+            if not lib.has(prefix(ref) + "length"):
+                self.skipTest(f"the library has no {prefix(ref)}length yet")
+            whole = ref.record_bytes(2, 3, [2, 255, 0]) * ref.RECORDS
+            plan = cv.Plan.from_bytes(whole, 3, edition(ref))
+            self.assertEqual((plan.records, plan.total, cv.length(plan, 5)), (ref.RECORDS, 2 * ref.RECORDS, 2 * ref.RECORDS + 5))
+            self.assertEqual(list(cv.join(plan)), self.joined(2 * ref.RECORDS))
+            with self.assertRaises(cv.TooManyRecords) as caught:
+                cv.Plan.from_bytes(whole + whole[: ref.RECORD], 3, edition(ref))
+            self.assertEqual(caught.exception.place, ref.RECORDS)
+
+    @staticmethod
+    def joined(total):
+        holds = [65_535] * (total // 65_535) + ([total % 65_535] if total % 65_535 else [])
+        return [(hold, (2, None, 0)) for hold in holds]
 
     def test_larger(self):
         rng = random.Random(23)

@@ -3,14 +3,17 @@ import doctest
 import importlib
 import inspect
 import io
+import os
 import pkgutil
 import re
+import subprocess
 import unittest
 
 import cases  # noqa: F401  puts the module on the path
 
 import chordvenus
 from chordvenus import _library as lib
+from chordvenus import tables
 
 PUBLIC = {name: getattr(chordvenus, name) for name in chordvenus.__all__}
 WANTS = {  # the examples that take a call which an older library does not have
@@ -79,6 +82,25 @@ class Examples(unittest.TestCase):
             self.assertTrue(pieces, page)
             for piece in pieces:
                 exec(compile(piece, page, "exec"), {"print": lambda *words: None})
+
+    def test_shown(self):
+        """What the page shows of the command is what it prints."""
+        text = (cases.ROOT / "docs" / "PYTHON.md").read_text(encoding="utf-8")
+        shown = re.findall(r"^\$ (.*)\n((?:(?!\$ |```).*\n)*)", text, re.MULTILINE)
+        self.assertGreaterEqual(len(shown), 2)
+        folder = os.path.join(cases.ROOT, "python", "bin")
+        path = {**os.environ, "PATH": os.pathsep.join([folder, os.environ["PATH"]])}
+        for words, due in shown:
+            if "compare" in words and not lib.has("cv_grating_quiet"):
+                continue
+            ran = subprocess.run(["bash", "-c", words], cwd=cases.ROOT, env=path, stdout=subprocess.PIPE, stderr=subprocess.STDOUT, text=True)
+            self.assertEqual(ran.stdout, due, words)
+
+    def test_readme_table(self):
+        """The README's plan is what its first command prints."""
+        text = (cases.ROOT / "README.md").read_text(encoding="utf-8")
+        self.assertIn(f"```\n{tables.plan_table(chordvenus.plan(chordvenus.read_wishes(str(cases.ROOT / 'examples' / 'batch.txt'))))}```", text)
+        self.assertIn(f"```\n{tables.lines(chordvenus.plan(chordvenus.read_wishes(str(cases.ROOT / 'examples' / 'batch.txt'))))}```", text)
 
 
 if __name__ == "__main__":

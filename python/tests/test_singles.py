@@ -65,7 +65,8 @@ class Singles(unittest.TestCase):
 
     def test_many_at_once(self):
         rng = random.Random(33)
-        numbers = [rng.choice([rng.random() * 100, rng.randint(0, 70_000), 0.1, 2.5, 1e40, -1e-50, 0]) for _ in range(2_000)]
+        edges = [3.4028234663852886e38, 3.40282350e38, 3.4028235677973366e38, 3.5e38, 1e-46, 7e-46, 1.4e-45, float("inf"), -0.1, -2.0]
+        numbers = [rng.choice([rng.random() * 100, rng.randint(0, 70_000), 2.0 ** rng.uniform(-152, 128), 0.1, 2.5, 1e40, -1e-50, 0]) for _ in range(3_000)] + edges
         self.assertEqual(list(singles.bits_of_all(numbers)), [singles.bits_of(number) for number in numbers])
         self.assertEqual(list(singles.bits_of_all(["0.1", Fraction(1, 3)])), [singles.bits_of("0.1"), singles.bits_of(Fraction(1, 3))])
 
