@@ -133,7 +133,7 @@ module _ (N : ℕ) (d : List ℕ) (L : ℕ) (buf : List ℕ) where
       -- code 5
       pub gives-room : (r : ℕ) → r ≡ length (quietPlan 64 N L d) → whole 64 buf < r → Gives answer (Refused (Room r)) buf
       gives-room r count h =
-          gives (decided ∙ no-room 64 0 N T (emptySlots N (cell N d) (quietPlan 64 N L d)) (quietPlan 64 N L d) buf (omega (arith, count)))
+          gives (decided ∙ no-room firstEdition N T (emptySlots N (cell N d) (quietPlan 64 N L d)) (quietPlan 64 N L d) buf (omega (arith, count)))
           (ap {B = Outcome} (λ (k : ℕ). Refused (Room k)) count) refl
 
       -- the plan, and no slot empty
@@ -141,9 +141,9 @@ module _ (N : ℕ) (d : List ℕ) (L : ℕ) (buf : List ℕ) where
           → (after : List ℕ) → after ≡ laid buf 0 (bytes 0 N (quietPlan 64 N L d)) → Gives answer (Done (planCounts r T t)) after
       gives-plan r t fits count held after b =
           let k = fine-asked 64 N T d fine in
-          gives (decided ∙ room 64 0 N T (emptySlots N (cell N d) (quietPlan 64 N L d)) (quietPlan 64 N L d) buf fits)
-          (written-outcome 0 N T (emptySlots N (cell N d) (quietPlan 64 N L d)) r t 0 (quietPlan 64 N L d) buf count held (sym (quiet-empty-slots 64 N (k .few) (omega (arith, k .few)) L limit d)))
-          (b ∙ written-bytes 0 N T (emptySlots N (cell N d) (quietPlan 64 N L d)) (quietPlan 64 N L d) buf)
+          gives (decided ∙ room firstEdition N T (emptySlots N (cell N d) (quietPlan 64 N L d)) (quietPlan 64 N L d) buf fits)
+          (written-outcome firstEdition N T (emptySlots N (cell N d) (quietPlan 64 N L d)) r t 0 (quietPlan 64 N L d) buf count held (sym (quiet-empty-slots 64 N (k .few) (omega (arith, k .few)) L limit d)))
+          (b ∙ written-bytes firstEdition N T (emptySlots N (cell N d) (quietPlan 64 N L d)) (quietPlan 64 N L d) buf)
 
 -- ---- what is lent
 

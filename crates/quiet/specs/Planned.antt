@@ -14,7 +14,7 @@ use Rattle.quiet_rule.specs.Quiet.{quietPlan}
 
 -- the plan p of a demand d, where the room decides
 abbrev pub decides : Edition → ℕ → List ℕ → ℕ → List Record → List ℕ → Result
-decides E N d T p buf = roomFor (E .width) (E .byte) N T (emptySlots N (cell N d) p) p buf
+decides E N d T p buf = roomFor E N T (emptySlots N (cell N d) p) p buf
 
 -- a planner's refusals 1, 2, 3 and 5, and between 3 and 5 code 17: a limit of 0
 unfoldable pub quietPlanned : Edition → ℕ → List ℕ → ℕ → List ℕ → Result

@@ -336,7 +336,7 @@ fn lay_rescued(
 {
     let size = e.width + HEAD;
     lay_kept(n, damaged, e, damaged.len() / size, plan);
-    exact::lay(work, n, left, 1, e.width, e.byte, plan, kept * size)
+    exact::lay(e, work, n, left, 1, plan, kept * size)
 }
 
 // Lays the kept records over a plan from its start on.
