@@ -121,6 +121,8 @@ enum {
 #define CV2_STACK_DOUBLED_ROOM 256
 #define CV2_STACK_QUICK_ROOM 256
 #define CV_STACK_GRATING_DOUBLED 61440
+#define CV_STACK_GRATING_QUIET 20480
+#define CV_STACK_GRATING_LEAST 256
 #define CV_STACK_GRATING_REPORT 1024
 #define CV_STACK_CHECK 20480
 #define CV_STACK_LENGTH 256
@@ -151,7 +153,8 @@ enum {
     CV_NAMED = 12,      /* the wish names a pair that a record before it named; its record */
     CV_UNCOVERED = 13,  /* the plan does not cover the demand; the first cell granted too little */
     CV_NOT_IN_FORCE = 14, /* tonight's plan is over, and the standby plan has no records; 0 */
-    CV_FIRST_OVER = 15  /* more first records than the plan has; the records it has */
+    CV_FIRST_OVER = 15, /* more first records than the plan has; the records it has */
+    CV_LIMIT = 17       /* at most 0 inputs may share a wavelength; 0 */
 };
 
 /* cv_answer.side */
@@ -236,6 +239,7 @@ static inline const char *cv_words(uint64_t code)
     case CV_UNCOVERED: return "The plan does not cover the demand.";
     case CV_NOT_IN_FORCE: return "Tonight's plan is over, and the standby plan has no records.";
     case CV_FIRST_OVER: return "There are more first records than the plan has.";
+    case CV_LIMIT: return "At most 0 inputs may share a wavelength.";
     default: return "There is no such code.";
     }
 }
@@ -338,6 +342,31 @@ CV_NODISCARD cv_answer cv2_quick_room(uint64_t n, uint64_t longest);
  * Done:   records, total.
  */
 CV_NODISCARD cv_answer cv_grating_doubled(uint64_t n, const uint32_t *cells, size_t cells_len, uint8_t *plan, size_t plan_len);
+
+/*
+ * The quiet plan for the grating fabric (§24): no setting has more than `limit` inputs on one
+ * wavelength. While a cell is not 0, the inputs in order each take the lowest free output with slots
+ * left whose wavelength fewer than `limit` inputs use in this setting, or stay idle; the setting is
+ * held for the smallest cell that it joins, and that is taken off. Every pair is granted exactly its
+ * cell. There are at most as many records as cells that are not 0. Total is less than three times
+ * that of the shortest plan that covers the demand within the limit, and at most 2T - 1 + (W - 1) / limit
+ * rounded down, W being the most slots asked on one wavelength. A plan buffer for as many records as
+ * there are cells that are not 0 saves a second run.
+ * Codes:  1, 2, 3, 17, 5.
+ * Writes: the plan's records, at the start of plan; no later byte. The demand is only read.
+ * Done:   records, longest, total; empty is 0.
+ */
+CV_NODISCARD cv_answer cv_grating_quiet(uint64_t n, const uint32_t *cells, size_t cells_len, uint64_t limit, uint8_t *plan, size_t plan_len);
+
+/*
+ * The least total that any plan can have that covers the demand and has no more than `limit` inputs of
+ * a setting on one wavelength (§24): the larger of T and W / limit rounded up, W being the most slots
+ * asked on one wavelength.
+ * Codes:  1, 2, 3, 17.
+ * Writes: nothing.
+ * Done:   longest, total.
+ */
+CV_NODISCARD cv_answer cv_grating_least(uint64_t n, const uint32_t *cells, size_t cells_len, uint64_t limit);
 
 /*
  * What the records of a plan from anywhere do on the grating fabric (§13.3): for each the largest

@@ -46,6 +46,8 @@ static void wide_exact_room(void) { answer = cv2_exact_room(2 * N, 65535); }
 static void wide_doubled_room(void) { answer = cv2_doubled_room(2 * N, 65535); }
 static void wide_quick_room(void) { answer = cv2_quick_room(2 * N, CV_MOST_QUICK); }
 static void grating(void) { answer = cv_grating_doubled(N, cells, N * N, made, room); }
+static void quiet(void) { answer = cv_grating_quiet(N, cells, N * N, 1, made, room); }
+static void least(void) { answer = cv_grating_least(N, cells, N * N, 1); }
 static void report(void) { answer = cv_grating_report(N, plan, ROOM, made, room); }
 static void check(void) { answer = cv_check(N, cells, N * N, plan, ROOM); }
 static void length(void) { answer = cv_length(N, plan, ROOM, 65535); }
@@ -146,6 +148,8 @@ int main(void)
         {"cv2_quick_room", wide_quick_room, CV2_STACK_QUICK_ROOM},
         {"cv_grating_doubled", grating, CV_STACK_GRATING_DOUBLED},
         {"cv_quick", quick, CV_STACK_QUICK},       {"cv_check", check, CV_STACK_CHECK},
+        {"cv_grating_quiet", quiet, CV_STACK_GRATING_QUIET},
+        {"cv_grating_least", least, CV_STACK_GRATING_LEAST},
         {"cv_grating_report", report, CV_STACK_GRATING_REPORT},
         {"cv_length", length, CV_STACK_LENGTH},    {"cv_join", join, CV_STACK_JOIN},
         {"cv_write", write_one, CV_STACK_WRITE},   {"cv_open", open_plan, CV_STACK_OPEN},

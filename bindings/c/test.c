@@ -439,6 +439,59 @@ static void quick_alone(void)
     PLAN_REFUSED(cv_quick, 2, 4, 0, .code = CV_LINE, .side = CV_INPUT); /* before 4 */
 }
 
+/* The quiet plan within fixed limits, called as the other planners are. */
+#define QUIET(name, limit) \
+    static cv_answer name(uint64_t n, const uint32_t *from, size_t count, uint8_t *to, size_t room) \
+    { \
+        return cv_grating_quiet(n, from, count, limit, to, room); \
+    }
+QUIET(quiet_0, 0)
+QUIET(quiet_1, 1)
+QUIET(quiet_2, 2)
+QUIET(quiet_3, 3)
+QUIET(quiet_any, UINT64_MAX)
+
+static cv_answer least_within(uint64_t n, size_t count, uint64_t limit)
+{
+    return cv_grating_least(n, lend_cells(cells, count), count, limit);
+}
+
+static void quiet_plans(void)
+{
+    const char *three = "3 1 0 / 0 2 2 / 1 0 2";
+    PLANS(quiet_1, 3, three, "2:0 2 -;1:0 - -;1:1 - 2;1:- 1 0;1:- 1 -;1:- - 2", .longest = 4, .total = 7);
+    PLANS(quiet_2, 3, three, "2:0 1 -;1:0 2 -;1:1 2 -;1:- - 0;2:- - 2", .longest = 4, .total = 7);
+    PLANS(quiet_3, 3, three, "2:0 1 2;1:0 2 -;1:1 2 0", .longest = 4, .total = 4);
+    PLANS(quiet_any, 3, three, "2:0 1 2;1:0 2 -;1:1 2 0", .longest = 4, .total = 4);
+    PLANS(quiet_1, 1, "65535", "65535:0", .longest = 65535, .total = 65535);
+    PLANS(quiet_1, 2, "0 0 / 0 0", "", .longest = 0);
+    PLANS(quiet_1, 2, "7 0 / 0 7", "7:0 -;7:- 1", .longest = 7, .total = 14);
+    read_cells(three);
+    ANSWERS(least_within(3, 9, 1), .longest = 4, .total = 7);
+    ANSWERS(least_within(3, 9, 2), .longest = 4, .total = 4);
+    ANSWERS(least_within(3, 9, UINT64_MAX), .longest = 4, .total = 4);
+    read_cells("0 0 / 0 0");
+    ANSWERS(least_within(2, 4, UINT64_MAX), .longest = 0);
+}
+
+/* Code 17 comes after what the demand is refused for, and before 5. */
+static void limit_refusals(void)
+{
+    planner_refusals(quiet_0);
+    read_cells("1 2 / 3 4");
+    PLAN_REFUSED(quiet_0, 2, 4, 0, .code = CV_LIMIT);
+    PLAN_REFUSED(quiet_0, 2, 4, 4 * CV_RECORD_SIZE, .code = CV_LIMIT);
+    for (int k = 0; k < NO_PORTS; k++)
+        ANSWERS(least_within(no_ports[k], 4, 0), .code = CV_PORTS);
+    ANSWERS(least_within(2, 3, 0), .code = CV_CELLS, .place = 4);
+    ANSWERS(least_within(2, 4, 0), .code = CV_LIMIT);
+    read_cells("0 0 / 0 65536");
+    ANSWERS(least_within(2, 4, 0), .code = CV_LINE, .side = CV_INPUT, .place = 1);
+    ANSWERS(least_within(2, 4, 1), .code = CV_LINE, .side = CV_INPUT, .place = 1);
+    read_cells("65535 0 / 1 0");
+    ANSWERS(least_within(2, 4, 1), .code = CV_LINE, .side = CV_OUTPUT, .place = 0);
+}
+
 /* ---- plans that are read ---- */
 
 /* A call that reads a plan, in one form for all: plan's first so many bytes, and room for a result. */
@@ -949,7 +1002,7 @@ static void carry_over_refusals(void)
 
 int main(void)
 {
-    planner *const planners[] = {cv_exact, cv_doubled, cv_doubled_every_rotation, cv_quick, cv_grating_doubled};
+    planner *const planners[] = {cv_exact, cv_doubled, cv_doubled_every_rotation, cv_quick, cv_grating_doubled, quiet_any};
     lay_out();
     CHECK(cv_version() == CV_VERSION);
     one_wish();
@@ -962,6 +1015,8 @@ int main(void)
         largest_switch(planners[k]);
     }
     quick_alone();
+    quiet_plans();
+    limit_refusals();
     reading_refusals(checked, 1);
     reading_refusals(measured, 1);
     reading_refusals(joined, 1);

@@ -45,13 +45,15 @@ pub enum Code {
     NotInForce = 14,
     /// More first records are asked for than the plan has. The place is how many it has.
     FirstOver = 15,
+    /// At most 0 inputs may share a wavelength. The place is 0.
+    Limit = 17,
     /// A number that is none of the others: no call of this version answers one.
     Unknown = u64::MAX,
 }
 
 impl Code {
     /// All codes that a call answers, by number.
-    pub const ALL: [Code; 16] = [
+    pub const ALL: [Code; 17] = [
         Code::Done,
         Code::Ports,
         Code::Cells,
@@ -68,6 +70,7 @@ impl Code {
         Code::Uncovered,
         Code::NotInForce,
         Code::FirstOver,
+        Code::Limit,
     ];
 
     /// The code with this number.
@@ -94,6 +97,7 @@ impl Code {
             Code::Uncovered => "The plan does not cover the demand.",
             Code::NotInForce => "Tonight's plan is over, and the standby plan has no records.",
             Code::FirstOver => "There are more first records than the plan has.",
+            Code::Limit => "At most 0 inputs may share a wavelength.",
             Code::Unknown => "There is no such code.",
         }
     }
@@ -220,6 +224,7 @@ impl fmt::Display for Refused {
             Code::Uncovered => write!(f, "cell {place} is not covered"),
             Code::NotInForce => write!(f, "tonight's plan is over, and there is no standby plan"),
             Code::FirstOver => write!(f, "the plan has only {place} records"),
+            Code::Limit => write!(f, "at most 0 inputs may share a wavelength"),
             Code::Done | Code::Unknown => write!(f, "place {place}"),
         }
     }

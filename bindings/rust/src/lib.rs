@@ -219,6 +219,30 @@ pub fn grating_doubled(n: u64, cells: &[u32], plan: &mut [u8]) -> Answer {
     unsafe { sys::cv_grating_doubled(n, cells.as_ptr(), cells.len(), plan.as_mut_ptr(), plan.len()) }
 }
 
+/// The quiet plan for the grating fabric: no setting has more than `limit` inputs on one wavelength. While
+/// a cell is not 0, the inputs in order each take the lowest free output with slots left whose wavelength
+/// fewer than `limit` inputs use in this setting, or stay idle; the setting is held for the smallest cell
+/// that it joins. Every pair is granted exactly its cell. At most as many records as cells that are not 0,
+/// and a total of less than three times that of any plan that covers the demand within the limit. With
+/// less room than a record for each cell that is not 0 the records are counted first.
+///
+/// Codes: 1, 2, 3, 17, 5. Writes: the plan's records, at the start of `plan`. Done: `records`, `longest`,
+/// `total`; `empty` is 0.
+#[must_use]
+pub fn grating_quiet(n: u64, cells: &[u32], limit: u64, plan: &mut [u8]) -> Answer {
+    unsafe { sys::cv_grating_quiet(n, cells.as_ptr(), cells.len(), limit, plan.as_mut_ptr(), plan.len()) }
+}
+
+/// The least total that any plan can have that covers the demand and has no more than `limit` inputs of a
+/// setting on one wavelength: the larger of T and, rounded up, the most slots asked on one wavelength over
+/// `limit`.
+///
+/// Codes: 1, 2, 3, 17. Done: `longest`, `total`.
+#[must_use]
+pub fn grating_least(n: u64, cells: &[u32], limit: u64) -> Answer {
+    unsafe { sys::cv_grating_least(n, cells.as_ptr(), cells.len(), limit) }
+}
+
 /// What the records of a plan from anywhere do on the grating fabric: for each the largest number of inputs
 /// on one wavelength, of those that are not idle; 0 where all are.
 ///

@@ -57,6 +57,14 @@ pub fn grating_doubled(n: u64, cells: &[u32]) -> Result<Planned, Refused> {
     planned(crate::doubled_room(n, 0), |plan| crate::grating_doubled(n, cells, plan))
 }
 
+/// The quiet plan, as [`crate::grating_quiet`] writes it: each record empties a cell, so there are no more of
+/// them than cells that are not 0.
+pub fn grating_quiet(n: u64, cells: &[u32], limit: u64) -> Result<Planned, Refused> {
+    let asked = cells.iter().filter(|&&cell| cell != 0).count();
+    let room = Answer { records: asked as u64, ..Answer::default() };
+    planned(room, |plan| crate::grating_quiet(n, cells, limit, plan))
+}
+
 /// For each record the most inputs that share a wavelength, as [`crate::grating_report`] writes them.
 pub fn grating_report(n: u64, plan: &[u8]) -> Result<Vec<u8>, Refused> {
     let mut report = vec![0; plan.len() / RECORD_SIZE];

@@ -44,6 +44,12 @@ pub const SECOND_QUICK_ROOM: usize = 256;
 /// Of [`crate::grating_doubled`].
 pub const GRATING_DOUBLED: usize = 61_440;
 
+/// Of [`crate::grating_quiet`].
+pub const GRATING_QUIET: usize = 20_480;
+
+/// Of [`crate::grating_least`].
+pub const GRATING_LEAST: usize = 256;
+
 /// Of [`crate::grating_report`].
 pub const GRATING_REPORT: usize = 1_024;
 
@@ -72,7 +78,7 @@ pub const IN_FORCE: usize = 1_024;
 pub const CARRY_OVER: usize = 20_480;
 
 /// All of them, by name.
-pub const ALL: [(&str, usize); 23] = [
+pub const ALL: [(&str, usize); 25] = [
     ("VERSION", VERSION),
     ("WISH", WISH),
     ("WISHES", WISHES),
@@ -87,6 +93,8 @@ pub const ALL: [(&str, usize); 23] = [
     ("SECOND_DOUBLED_ROOM", SECOND_DOUBLED_ROOM),
     ("SECOND_QUICK_ROOM", SECOND_QUICK_ROOM),
     ("GRATING_DOUBLED", GRATING_DOUBLED),
+    ("GRATING_QUIET", GRATING_QUIET),
+    ("GRATING_LEAST", GRATING_LEAST),
     ("GRATING_REPORT", GRATING_REPORT),
     ("CHECK", CHECK),
     ("LENGTH", LENGTH),

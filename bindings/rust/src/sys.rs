@@ -137,6 +137,19 @@ extern "C" {
         plan: *mut u8,
         plan_len: usize,
     ) -> Answer;
+    /// What [`crate::grating_quiet`] calls.
+    #[must_use]
+    pub fn cv_grating_quiet(
+        n: u64,
+        cells: *const u32,
+        cells_len: usize,
+        limit: u64,
+        plan: *mut u8,
+        plan_len: usize,
+    ) -> Answer;
+    /// What [`crate::grating_least`] calls.
+    #[must_use]
+    pub fn cv_grating_least(n: u64, cells: *const u32, cells_len: usize, limit: u64) -> Answer;
     /// What [`crate::grating_report`] calls.
     #[must_use]
     pub fn cv_grating_report(

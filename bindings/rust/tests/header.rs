@@ -114,7 +114,9 @@ fn calls_that_make_their_memory_refuse_as_the_others_do() {
         assert_eq!(refused(cv::owned::doubled(n, &cells)), cv::doubled(n, &cells, &mut []));
         assert_eq!(refused(cv::owned::quick(n, &cells)), cv::quick(n, &cells, &mut []));
         assert_eq!(refused(cv::owned::grating_doubled(n, &cells)), cv::grating_doubled(n, &cells, &mut []));
+        assert_eq!(refused(cv::owned::grating_quiet(n, &cells, 0)), cv::grating_quiet(n, &cells, 0, &mut []));
     }
+    assert_eq!(refused(cv::owned::grating_quiet(2, &[1, 0, 0, 0], 0)).code(), Code::Limit);
     assert_eq!(refused(cv::owned::quick(2, &[1_025, 0, 0, 0])).code(), Code::Longest);
     assert_eq!(refused(cv::owned::join(2, &[0; 67])).code(), Code::Torn);
     assert_eq!(cv::owned::exact(2, &[0; 4]).expect("nothing is asked").bytes, []);

@@ -21,6 +21,8 @@ ghost use Rattle.length.specs.Length.{planLength};
 ghost use Rattle.joining.specs.Join.{joining};
 ghost use Rattle.wavelengths.specs.Report.{reported};
 ghost use Rattle.grating.specs.Grating.{gratingPlanned};
+ghost use Rattle.quiet.specs.Planned.{quietPlanned};
+ghost use Rattle.least.specs.Least.{leastOf};
 ghost use Rattle.room.specs.declared.Planner.the-variants.{Exact, Doubled, Quick};
 ghost use Rattle.room.specs.Room.{roomed};
 ghost use Rattle.lookup.specs.Lookup.{spotOf, foundOf};
@@ -229,6 +231,27 @@ pub extern "C" fn cv_grating_doubled(n: usize, cells: &[u32], plan: &mut [u8]) -
     ensures { λ r. ⌜ Crosses (gratingPlanned firstEdition n (now (cells .entry)) (now (plan .entry))) r (now (plan .exit)) ⌝ }
 {
     flatten(grating::grating_doubled(n, cells, plan))
+}
+
+// The quiet plan for the grating fabric: no wavelength on more inputs of a setting than the limit.
+#[no_mangle]
+pub extern "C" fn cv_grating_quiet(
+    n: usize,
+    cells: &[u32],
+    limit: u64,
+    plan: &mut [u8],
+) -> CvAnswer
+    ensures { λ r. ⌜ Crosses (quietPlanned firstEdition n (now (cells .entry)) limit (now (plan .entry))) r (now (plan .exit)) ⌝ }
+{
+    flatten(quiet::quiet_plan(n, cells, limit, plan))
+}
+
+// The least total that a plan within the limit can have.
+#[no_mangle]
+pub extern "C" fn cv_grating_least(n: usize, cells: &[u32], limit: u64) -> CvAnswer
+    ensures { λ r. ⌜ r ≡ flat (leastOf firstEdition n (now (cells .entry)) limit) ⌝ }
+{
+    flatten(least::least_within(n, cells, limit))
 }
 
 // What the records of a plan do on the grating fabric.

@@ -13,6 +13,7 @@ mod label;
 mod more_plans;
 mod peel;
 mod plan;
+mod quiet;
 mod room;
 pub mod slow;
 mod wishes;
@@ -25,6 +26,7 @@ pub use more_plans::{
     doubled, doubled_every_rotation, doubled_every_rotation_second, doubled_second, quick, quick_second,
 };
 pub use plan::{check, length, open, step_at, write, Reader, Record, Step};
+pub use quiet::{grating_least, grating_quiet};
 pub use room::{doubled_room, exact_room, quick_room};
 pub use wishes::{wish, wishes};
 
@@ -55,7 +57,7 @@ pub enum Side {
     Output(usize),
 }
 
-/// Why a call was refused, with its place where it has one, in the order of the codes 1 to 15.
+/// Why a call was refused, with its place where it has one, in the order of the codes 1 to 15, and 17.
 #[derive(Clone, Copy, Debug, PartialEq, Eq)]
 pub enum Refusal {
     Ports,
@@ -75,6 +77,8 @@ pub enum Refusal {
     Uncovered(usize),
     NotInForce,
     FirstOver(usize),
+    /// Code 17: a wavelength limit of 0.
+    Limit,
 }
 
 /// What a successful call counts; what does not apply is 0.
@@ -119,6 +123,7 @@ impl From<Outcome> for Numbers {
             Err(Refusal::Uncovered(cell)) => (13, cell, 0),
             Err(Refusal::NotInForce) => (14, 0, 0),
             Err(Refusal::FirstOver(records)) => (15, records, 0),
+            Err(Refusal::Limit) => (17, 0, 0),
         };
         Numbers { code, place: place as u64, side, counts: Counts::default() }
     }

@@ -116,6 +116,32 @@ pub fn quick(demand: &Demand) -> Vec<Record> {
     plan
 }
 
+/// The quiet plan for the grating fabric within a wavelength limit of at least 1.
+pub fn quiet(demand: &Demand, limit: u64) -> Vec<Record> {
+    let n = demand.len();
+    let mut left = demand.clone();
+    let mut plan = Vec::new();
+    while left.iter().flatten().any(|&cell| cell != 0) {
+        let mut outputs = [IDLE; MOST_PORTS];
+        for i in 0..n {
+            let uses = |w: usize| (0..i).filter(|&k| usize::from(outputs[k]) == (k + w) % n).count() as u64;
+            let may =
+                |j: usize| left[i][j] != 0 && !outputs.contains(&(j as u8)) && uses((n + j - i) % n) < limit;
+            if let Some(j) = (0..n).find(|&j| may(j)) {
+                outputs[i] = j as u8;
+            }
+        }
+        let joined: Vec<(usize, usize)> =
+            (0..n).filter(|&i| outputs[i] != IDLE).map(|i| (i, usize::from(outputs[i]))).collect();
+        let hold = joined.iter().map(|&(i, j)| left[i][j]).min().expect("a cell is not zero");
+        for (i, j) in joined {
+            left[i][j] -= hold;
+        }
+        plan.push(Record { hold: hold as u16, outputs });
+    }
+    plan
+}
+
 /// A plan with its equal settings joined (§12.2): in order of first appearance, holds summed, in
 /// records of 65,535 and one for the remainder where there is one.
 pub fn join(plan: &[Record]) -> Vec<Record> {
