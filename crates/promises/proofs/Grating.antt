@@ -57,6 +57,7 @@ use Rattle.promises.proofs.Fair.{fair-fine, fine-fair, faulty-fault, no
 use Rattle.promises.specs.Grating.{GratingGiven}
 use Rattle.promises.proofs.Outcomes.{never, same-counts, same-refusal}
 use Rattle.promises.proofs.Laid.{plan-front, plan-reads, plan-behind}
+use Rattle.promises.proofs.Reported.{report-length, written-report}
 
 -- ---- its parts
 
@@ -87,10 +88,6 @@ unfolding gratingReport
 spread-report N none k l = absurd (not-suc-le-zero l)
 spread-report N (more {r = r} s t) zero l = spread-number N r s
 spread-report N (more s t) (suc k) l = spread-report N t k (omega arith)
-
-report-length : (N : ℕ) (p : List Record) → length (gratingReport N p) ≡ length p
-unfolding gratingReport
-report-length N p = length-map p (mostShared N)
 
 report-append : (N : ℕ) (p q : List Record) → gratingReport N (p ++ q) ≡ gratingReport N p ++ gratingReport N q
 unfolding gratingReport
@@ -205,20 +202,11 @@ module _ (N : ℕ) (d buf : List ℕ) (r : Outcome) (after : List ℕ) (met : Gr
     reported-less : (report : List ℕ) → length plan ≤ length report → (o : Outcome) (said : List ℕ)
         → GratingReport N (take (length plan * 68) after) report o said
         → (k : ℕ) → length (firstPart 64 N d) ≤ k → k < length plan → getD said k 0 ≤ allowed N
-    reported-less report fits o said e k from to = subst (λ (x : ℕ). x ≤ allowed N) (sym at) (plan-report 64 N (asked .some) (asked .few) d enough k from to)
-      where
-        passed : checking firstEdition N (bytes 0 N plan) ≡ Done counts
-        passed = bytes-pass firstEdition first-bounded N (asked .some) (asked .few) few sound
-
-        same : gratingReport N (planOf 64 (bytes 0 N plan)) ≡ gratingReport N plan
-        same = ap (gratingReport N) (planOf-bytes 0 N 64 (each-width 64 N sound))
-
-        at : getD said k 0 ≡ getD (gratingReport N plan) k 0
-        at =
-            ap (λ (l : List ℕ). getD l k 0) (e .bytes) ∙ ap (λ (l : List ℕ). getD (reported firstEdition N l report .bytes) k 0) front
-            ∙ ap (λ (w : Result). getD (w .bytes) k 0) (sym (report-done firstEdition N (bytes 0 N plan) report (sym passed) fits))
-            ∙ laid-at report (gratingReport N (planOf 64 (bytes 0 N plan))) k (omega (arith, ap length same, report-length N plan))
-            ∙ ap (λ (l : List ℕ). getD l k 0) same
+    reported-less report fits o said e k from to = omega (
+      arith,
+      plan-report 64 N (asked .some) (asked .few) d enough k from to,
+      written-report N (asked .some) (asked .few) few sound buf after lays report fits o said e k to,
+    )
 
     given : GratingGiven N d buf r after
     given = record {

@@ -18,6 +18,8 @@ pub mod Exact
 pub mod Doubled
 pub mod Quick
 pub mod Second
+pub mod Reported
+pub mod Quiet
 pub mod Checked
 pub mod Wrong
 pub mod Edge

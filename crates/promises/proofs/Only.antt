@@ -73,6 +73,12 @@ quick-second-one-result N d buf = gives-one-result _
 pub grating-doubled-one-result : (N : ℕ) (d buf : List ℕ) → OneResult (call.GratingDoubled N d buf)
 grating-doubled-one-result N d buf = gives-one-result _
 
+pub quiet-one-result : (N : ℕ) (d : List ℕ) (L : ℕ) (buf : List ℕ) → OneResult (call.QuietPlan N d L buf)
+quiet-one-result N d L buf = gives-one-result _
+
+pub least-one-answer : (N : ℕ) (d : List ℕ) (L : ℕ) → OneAnswer (call.LeastWithin N d L)
+least-one-answer N d L = one _
+
 pub write-one-result : (E : Edition) (hold N : ℕ) (outputs buf : List ℕ) → OneResult (call.WriteRecord E hold N outputs buf)
 write-one-result E hold N outputs buf = gives-one-result _
 
@@ -171,6 +177,12 @@ cv-room-one-answer E planner N T = one _
 
 pub cv-grating-doubled-one-result : (N : ℕ) (d buf : List ℕ) → OneResult (call.CvGratingDoubled N d buf)
 cv-grating-doubled-one-result N d buf = crosses-one-result _
+
+pub cv-grating-quiet-one-result : (N : ℕ) (d : List ℕ) (L : ℕ) (buf : List ℕ) → OneResult (call.CvGratingQuiet N d L buf)
+cv-grating-quiet-one-result N d L buf = crosses-one-result _
+
+pub cv-grating-least-one-answer : (N : ℕ) (d : List ℕ) (L : ℕ) → OneAnswer (call.CvGratingLeast N d L)
+cv-grating-least-one-answer N d L = one _
 
 pub cv-grating-report-one-result : (N : ℕ) (plan buf : List ℕ) → OneResult (call.CvGratingReport N plan buf)
 cv-grating-report-one-result N plan buf = crosses-one-result _

@@ -35,6 +35,8 @@ use Rattle.length.specs.Length.{planLength}
 use Rattle.joining.specs.Join.{joining}
 use Rattle.wavelengths.specs.Report.{reported}
 use Rattle.grating.specs.Grating.{gratingPlanned}
+use Rattle.quiet.specs.Planned.{quietPlanned}
+use Rattle.least.specs.Least.{leastOf}
 use Rattle.listing.specs.Listing.{listingOf}
 use Rattle.chordvenus.specs.declared.CvAnswer.{CvAnswer}
 use Rattle.chordvenus.specs.declared.CvStep.{CvStep}
@@ -96,6 +98,14 @@ QuickPlanSecond N d buf = Gives (plannedUpTo 1024 secondEdition N d (quickPlan 1
 -- grating::grating_doubled(n, cells, plan)
 abbrev pub GratingDoubled : ℕ → List ℕ → List ℕ → Outcome → List ℕ → Type 0
 GratingDoubled N d buf = Gives (gratingPlanned firstEdition N d buf)
+
+-- quiet::quiet_plan(n, cells, limit, plan)
+abbrev pub QuietPlan : ℕ → List ℕ → ℕ → List ℕ → Outcome → List ℕ → Type 0
+QuietPlan N d L buf = Gives (quietPlanned firstEdition N d L buf)
+
+-- least::least_within(n, cells, limit)
+abbrev pub LeastWithin : ℕ → List ℕ → ℕ → Outcome → Type 0
+LeastWithin N d L r = r ≡ leastOf firstEdition N d L
 
 -- ---- plans
 
@@ -212,6 +222,14 @@ CvRoomFor E planner N T r = r ≡ flat (roomed E planner N T)
 -- cv_grating_doubled(n, cells, plan)
 abbrev pub CvGratingDoubled : ℕ → List ℕ → List ℕ → CvAnswer → List ℕ → Type 0
 CvGratingDoubled N d buf = Crosses (gratingPlanned firstEdition N d buf)
+
+-- cv_grating_quiet(n, cells, limit, plan)
+abbrev pub CvGratingQuiet : ℕ → List ℕ → ℕ → List ℕ → CvAnswer → List ℕ → Type 0
+CvGratingQuiet N d L buf = Crosses (quietPlanned firstEdition N d L buf)
+
+-- cv_grating_least(n, cells, limit)
+abbrev pub CvGratingLeast : ℕ → List ℕ → ℕ → CvAnswer → Type 0
+CvGratingLeast N d L r = r ≡ flat (leastOf firstEdition N d L)
 
 -- cv_grating_report(n, plan, report)
 abbrev pub CvGratingReport : ℕ → List ℕ → List ℕ → CvAnswer → List ℕ → Type 0

@@ -14,6 +14,7 @@ pub mod Planner
 pub mod Exact
 pub mod Doubled
 pub mod Quick
+pub mod Quiet
 pub mod Checked
 pub mod Wrong
 pub mod Larger
