@@ -616,6 +616,49 @@ def grating_doubled(n, cells, buffer):
     return answer._replace(longest=0, empty=0), buffer
 
 
+# ---- The quiet plan for the grating fabric
+
+
+def quiet_list(n, cells, limit):
+    """While a cell is not zero: inputs in order, each the lowest free output with slots left whose wavelength fewer than `limit`
+    inputs use so far, else idle; held for the smallest cell among the joined pairs."""
+    left, plan = list(cells), []
+    while any(left):
+        outputs = []
+        for i in range(n):
+            used = [(j - k) % n for k, j in enumerate(outputs) if j != IDLE]
+            may = (j for j in range(n) if left[i * n + j] and j not in outputs and used.count((j - i) % n) < limit)
+            outputs.append(next(may, IDLE))
+        joined = [i * n + j for i, j in enumerate(outputs) if j != IDLE]
+        hold = min(left[pair] for pair in joined)
+        for pair in joined:
+            left[pair] -= hold
+        plan.append((hold, outputs))
+    return plan
+
+
+def refused_limit(n, cells, limit):
+    """Codes 1, 2, 3, then 17 where the limit is 0."""
+    return refused_demand(n, cells) or (Answer(17) if limit == 0 else None)
+
+
+def grating_quiet(n, cells, limit, buffer):
+    refused = refused_limit(n, cells, limit)
+    return (refused, buffer) if refused else planned(n, cells, quiet_list(n, cells, limit), buffer)
+
+
+def bands(n, cells):
+    """The slots asked on each wavelength."""
+    return [sum(cells[i * n + (i + w) % n] for i in range(n)) for w in range(n)]
+
+
+def grating_least(n, cells, limit):
+    """The least total of any plan that covers the demand within the limit, and T."""
+    refused = refused_limit(n, cells, limit)
+    longest = 0 if refused else longest_line(n, cells)
+    return refused or Answer(longest=longest, total=max(longest, -(-max(bands(n, cells)) // limit)))
+
+
 # ---- The lister
 
 
@@ -818,6 +861,22 @@ def grating_laws(n, cells):
     same("all idle", most_shared(n, [IDLE] * n), 0)
 
 
+def quiet_laws(n, cells, limit):
+    """What §24 promises of one demand and one limit."""
+    longest, plan, least = longest_line(n, cells), quiet_list(n, cells, limit), grating_least(n, cells, limit)
+    same("quiet grants", grants(n, plan), list(cells))
+    same("quiet records", len(plan) <= sum(cell > 0 for cell in cells), True)
+    same("quiet limit", all(most_shared(n, outputs) <= limit for _, outputs in plan), True)
+    same("least", least.total <= total_hold(plan), True)
+    if longest:
+        most = 2 * longest - 1 + (max(bands(n, cells)) - 1) // limit
+        same("quiet total", total_hold(plan) <= most and total_hold(plan) < 3 * least.total, True)
+    answer, written = grating_quiet(n, cells, limit, bytes([170] * (RECORD * len(plan) + 9)))
+    same("the checker", check_plan(n, cells, written[: len(plan) * RECORD]), answer)
+    same("no room", grating_quiet(n, cells, limit, b"")[0], Answer(5, len(plan)) if plan else answer)
+    same("no limit", grating_quiet(n, cells, 0, b"")[0], Answer(17))
+
+
 def random_demand(rng, n, most, share):
     return [rng.randint(0, most) if rng.random() < share else 0 for _ in range(n * n)]
 
@@ -831,6 +890,7 @@ def selftest():
         cells = random_demand(rng, n, rng.choice([1, 2, 5, 40]), rng.choice([0.2, 0.5, 1.0]))
         laws(n, cells)
         grating_laws(n, cells)
+        quiet_laws(n, cells, rng.choice([1, 1, 2, 3, n, n + 1, 2**64 - 1]))
     for n in (12, 16):
         cells = random_demand(rng, n, 9, 0.6)
         laws(n, cells)

@@ -13,6 +13,8 @@ laid. Tapes may be put one after the other, and so may the lines that they give.
 | j | join | N | whole records of room | bytes of room more | the plan |
 | r | open, and steps | N | how many steps | 0 | the plan |
 | w | write one record | N | hold | bytes of room | 64 outputs |
+| u | quiet | N | whole records of room | bytes of room more | the limit in eight bytes, low byte first, then cells |
+| y | the least total within a limit | N | 0 | 0 | the same |
 | f | report the wavelengths | N | bytes of room | 0 | the plan |
 | b | one wish each | 0 | 0 | 0 | words of 32 bits |
 | s | a wish list | N | cells lent, each holding 7 before | 0 | the list |
@@ -22,7 +24,7 @@ laid. Tapes may be put one after the other, and so may the lines that they give.
 | m | the room beforehand | 0 | 0 | exact, doubled, quick; 3 to 5 those of the second edition | N and T, 8 bytes each |
 
 A case's line is its name and what the call answered; planners, joining and the writer add a checksum of the lent buffer, which is filled
-with the byte 170 before the call. A plan that g wrote is reported in the lines after it. b gives a line for each word, s and c a second line
+with the byte 170 before the call. A plan that g or u wrote is reported in the lines after it. b gives a line for each word, s and c a second line
 with the lent cells. i adds what the answer is about, the part's numbers and a checksum of it.
 """
 BLANK = 170
@@ -41,6 +43,11 @@ def lay(*parts):
 def lay_cells(cells):
     """Steps that lay cells, runs of a repeated row of cells written once."""
     return lay(*[(b"".join(cell.to_bytes(4, "little") for cell in run), times) for run, times in runs(cells)])
+
+
+def lay_limit(limit, cells):
+    """Steps that lay a limit, and then cells."""
+    return lay((limit.to_bytes(8, "little"), 1)) + lay_cells(cells)
 
 
 def runs(items):

@@ -15,13 +15,14 @@ import grating_vectors
 import join_vectors
 import lister_vectors
 import plan_vectors
+import quiet_vectors
 import record_vectors
 import reference as ref
 import room_vectors
 import wish_list
 import wish_vectors
 
-MAKERS = [record_vectors, check_vectors, join_vectors, plan_vectors, grating_vectors, wish_vectors, lister_vectors, room_vectors, console_vectors]
+MAKERS = [record_vectors, check_vectors, join_vectors, plan_vectors, grating_vectors, quiet_vectors, wish_vectors, lister_vectors, room_vectors, console_vectors]
 
 
 def files():
