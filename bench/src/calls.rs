@@ -14,7 +14,7 @@ use chordvenus as proved;
 use reference as proved;
 
 /// The calls in the order of the header, with what one timed run does.
-pub const CALLS: [(&str, &str); 16] = [
+pub const CALLS: [(&str, &str); 18] = [
     ("wish", "one call for each pair with slots"),
     ("wishes", "a list of the pairs with slots"),
     ("exact", "one plan"),
@@ -22,6 +22,8 @@ pub const CALLS: [(&str, &str); 16] = [
     ("doubled_every_rotation", "one plan"),
     ("quick", "one plan, cells scaled so that T is at most 1,024"),
     ("grating_doubled", "one plan"),
+    ("grating_quiet", "one plan within 2"),
+    ("grating_least", "one demand within 2"),
     ("grating_report", "the exact plan"),
     ("check", "the exact plan against its demand"),
     ("length", "the exact plan"),
@@ -32,6 +34,9 @@ pub const CALLS: [(&str, &str); 16] = [
     ("in_force", "two plans of 8,192 records, the last slot before standby repeats"),
     ("carry_over", "the exact plan stopped half way"),
 ];
+
+/// The wavelength limit of the timed quiet plans.
+const QUIET: u64 = 2;
 
 /// Ends a timed call whose answer nothing reads.
 fn run<T>(answer: T) {
@@ -134,6 +139,11 @@ pub fn pair<'a>(call: &str, demand: &'a Demand) -> Pair<'a> {
         "doubled_every_rotation" => planner!(doubled_every_rotation, n, cells.clone()),
         "quick" => planner!(quick, n, demand.quick_cells()),
         "grating_doubled" => planner!(grating_doubled, n, cells.clone()),
+        "grating_quiet" => both!(library => {
+            let mut plan = vec![0; ROOM * RECORD_SIZE];
+            move || run(library::grating_quiet(n, black_box(cells), QUIET, &mut plan))
+        }),
+        "grating_least" => both!(library => move || run(library::grating_least(n, black_box(cells), QUIET))),
         "grating_report" => both!(library => {
             let mut report = vec![0; demand.records()];
             move || run(library::grating_report(n, black_box(plan), &mut report))
