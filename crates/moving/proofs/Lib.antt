@@ -1,0 +1,5 @@
+pub mod Moved
+pub mod Bytes
+pub mod Answer
+pub mod Back
+pub mod Laying
