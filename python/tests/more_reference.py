@@ -2,66 +2,8 @@
 
 Answers are numbers by the names of cv_answer, those that are 0 left out; a refusal changes nothing.
 """
-import itertools
-
-
-def in_force(ref, n, tonight, standby, slot):
-    """§23.1 to §23.3: (answer, which plan, number of the record)."""
-    if n == 0 or n > ref.PORTS:
-        return {"code": 1}, 0, 0
-    judged = []
-    for about, plan in ((1, tonight), (2, standby)):
-        refused, records = ref.read_plan(n, plan)
-        if refused:
-            return {"code": refused.code, "place": refused.place, "about": about}, 0, 0
-        judged.append(records)
-    first = sum(hold for hold, _ in judged[0])
-    second = sum(hold for hold, _ in judged[1])
-    if slot < first:
-        return {}, 1, held_at(judged[0], slot)
-    if second == 0:
-        return {"code": 14}, 0, 0
-    return {}, 2, held_at(judged[1], (slot - first) % second)
-
-
-def held_at(records, slot):
-    ends = itertools.accumulate(hold for hold, _ in records)
-    return next(k for k, end in enumerate(ends) if slot < end)
-
-
-def carry_over(ref, n, asked, plan, first, wished, cells):
-    """§23.4 to §23.7: the answer, and the lent cells afterwards."""
-    if n == 0 or n > ref.PORTS:
-        return {"code": 1}, cells
-    if any(len(lent) != n * n for lent in (asked, wished, cells)):
-        return {"code": 2, "place": n * n}, cells
-    refused, records = ref.read_plan(n, plan)
-    if refused:
-        return {"code": refused.code, "place": refused.place, "about": 3}, cells
-    if first > len(records):
-        return {"code": 15, "place": len(records)}, cells
-    granted = ref.grants(n, records[:first])
-    new = [max(a - g, 0) + w for a, g, w in zip(asked, granted, wished)]
-    for about, lines in ((4, asked), (5, wished), (6, new)):
-        refused = ref.refused_demand(n, lines)
-        if refused:
-            return {"code": 3, "place": refused.place, "side": side(refused.side), "about": about}, cells
-    return {}, new
-
-
 def side(word):
     return {"": 0, "input": 1, "output": 2}[word]
-
-
-def room(ref, method, n, longest):
-    """§20."""
-    if n == 0 or n > ref.PORTS:
-        return {"code": 1}
-    if longest > ref.LINE:
-        return {"code": 3}
-    if method == "quick":
-        return {"code": 4} if longest > ref.QUICK else {"records": max(0, 2 * longest - 1)}
-    return {"records": 2 * n if method == "doubled" else min(longest, n * n - 2 * n + 2)}
 
 
 # ---- The quiet plan

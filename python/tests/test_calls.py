@@ -63,7 +63,7 @@ PLANNERS = {
 
 
 class Compared(unittest.TestCase):
-    """One test for each call and edition; what the library does not have yet is skipped by name."""
+    """What the comparisons share; a call that the library does not have yet is skipped by name."""
 
     def compare(self, name, one, seed, count=CASES):
         """Runs `one` on so many seeds, with the number of the case."""
@@ -78,11 +78,14 @@ class Compared(unittest.TestCase):
             codes[code] = codes.get(code, 0) + 1
         took = time.monotonic() - began
         print(f"{name}: {count:,} cases, by code {dict(sorted(codes.items()))} ({took:.1f} s)", flush=True)
-        self.codes = codes
 
     def same(self, got, wanted, *what):
         if got != wanted:
             self.fail(f"{got!r} where the reference has {wanted!r}, for {what!r}")
+
+
+class Demands(Compared):
+    """Wishes, and every planner."""
 
     # ---- Wishes
 
@@ -258,7 +261,7 @@ class Compared(unittest.TestCase):
             n = rng.choice([0, 1, 2, 63, 64, 65, 127, 128, 129, 2**64 - 1, rng.randint(1, 128)])
             longest = rng.choice([0, 1, 1_024, 1_025, 65_535, 65_536, 2**64 - 1, rng.randint(0, 70_000)])
             method = rng.choice(["exact", "doubled", "quick"])
-            answer = numbers(more.room(ref, method, n, longest))
+            answer = numbers(ref.sufficient(method, ref.PORTS, n, longest))
             got, told = tried(cv.room, n, longest, method, edition=edition(ref))
             self.same((got, told), (None, answer) if answer.get("code") else (answer.get("records", 0), {}), n, longest, method)
             return answer.get("code", 0)
@@ -271,7 +274,11 @@ class Compared(unittest.TestCase):
     def test_room_second(self):
         self.rooms(SECOND)
 
-    # ---- Plans from anywhere
+
+class Plans(Compared):
+    """Plans from anywhere, schedules, and the console."""
+
+    # ---- Reading a plan
 
     def checks(self, ref):
         def one(rng, k):
@@ -524,8 +531,8 @@ class Compared(unittest.TestCase):
             n = cases.ports(rng, FIRST)
             tonight, standby = cases.plan(rng, FIRST, n), cases.plan(rng, FIRST, n)
             slot = rng.choice([0, 1, 2, rng.randint(0, 99_999), rng.getrandbits(63), 2**64 - 1])
-            answer, which, record = more.in_force(FIRST, n, tonight, standby, slot)
-            answer = numbers(answer)
+            due = FIRST.in_force(n, tonight, standby, slot)
+            answer, which, record = numbers({**numbers(due.answer), "about": due.about}), due.plan, due.start // FIRST.RECORD
             if k % 4:
                 got, told = tried(cv.in_force, tonight, standby, slot, ports=n)
                 self.same(told, answer, n, tonight, standby, slot)
@@ -547,9 +554,9 @@ class Compared(unittest.TestCase):
                 wished[rng.randrange(len(wished))] = rng.choice([65_530, 65_536])
             data, first = cases.plan(rng, FIRST, n), rng.choice([0, 0, 1, 1, 2, 3, 2**64 - 1])
             if k % 4:
-                answer, new = more.carry_over(FIRST, n, asked, data, first, wished, [0] * (n * n))
+                answer, new = self.carried(n, asked, data, first, wished, [0] * (n * n))
                 got, told = tried(cv.carry_over, made(n, asked), data, first, made(n, wished))
-                self.same(told, numbers(answer), n, asked, data, first, wished)
+                self.same(told, answer, n, asked, data, first, wished)
                 if not answer:
                     self.same(got, made(n, new), n, asked, data, first, wished)
             else:
@@ -557,13 +564,18 @@ class Compared(unittest.TestCase):
                 for cells in lent:
                     if rng.random() < 0.03:
                         cells.append(0)
-                answer, new = more.carry_over(FIRST, n, lent[0].tolist(), data, first, lent[1].tolist(), lent[2].tolist())
+                answer, new = self.carried(n, lent[0].tolist(), data, first, lent[1].tolist(), lent[2].tolist())
                 held = [lib.lent(cells, c_uint32) for cells in lent]
                 got = lib.call("cv_carry_over")(n, held[0], len(held[0]), data, len(data), first, held[1], len(held[1]), held[2], len(held[2]))
-                self.same((of_struct(got), lent[2].tolist()), (numbers(answer), new), n, asked, data, first, wished)
+                self.same((of_struct(got), lent[2].tolist()), (answer, new), n, asked, data, first, wished)
             return answer.get("code", 0)
 
         self.compare("cv_carry_over", one, 22)
+
+    @staticmethod
+    def carried(*given):
+        answer, about, cells = FIRST.carry_over(*given)
+        return numbers({**numbers(answer), "about": about}), cells
 
 
 class Larger(unittest.TestCase):
