@@ -49,8 +49,8 @@ module _ (E : Edition) (N : ℕ) (plan buf : List ℕ) where
     pub joining-short : whole (E .width) buf < length result → refuses (Room (length result)) buf ≡ joining E N plan buf
     joining-short l = sym (no-room E N 0 0 result buf l) ∙ joining-room
 
-    pub joining-done : length result ≤ whole (E .width) buf → writes (E .byte) N 0 0 result buf ≡ joining E N plan buf
-    joining-done l = sym (room (E .width) (E .byte) N 0 0 result buf l) ∙ joining-room
+    pub joining-done : length result ≤ whole (E .width) buf → writes E N 0 0 result buf ≡ joining E N plan buf
+    joining-done l = sym (room E N 0 0 result buf l) ∙ joining-room
 
 module _ (E : Edition) (N : ℕ) (plan buf : List ℕ) where
   pub answers-refused : {r : Refusal} → Refused r ≡ checking E N plan → Gives (joining E N plan buf) (Refused r) buf

@@ -93,10 +93,10 @@ module _ (E : Edition) (bounds : Bounded E) (N : ℕ) (plan : List ℕ) (byte : 
           same : {x y : Counts} → Done x ≡ Done y → x ≡ y
           same z = cc
 
-          counts : writes (E .byte) N 0 0 again buf .outcome ≡ Done (planCounts (length again) 0 (total again))
+          counts : writes E N 0 0 again buf .outcome ≡ Done (planCounts (length again) 0 (total again))
           counts = unfold writes in refl
 
-          written : writes (E .byte) N 0 0 again buf .bytes ≡ laid buf 0 (bytes (E .byte) N again)
+          written : writes E N 0 0 again buf .bytes ≡ laid buf 0 (bytes (E .byte) N again)
           written = unfold writes in refl
 
           laid-first : (s : List ℕ) (k : ℕ) → length s ≡ k → take k (laid buf 0 s) ≡ s
