@@ -60,7 +60,7 @@ pub const CHECK: usize = 20_480;
 pub const LENGTH: usize = 256;
 
 /// Of [`crate::join`].
-pub const JOIN: usize = 167_936;
+pub const JOIN: usize = 86_016;
 
 /// Of [`crate::write`].
 pub const WRITE: usize = 256;
