@@ -57,19 +57,19 @@ pub const GRATING_REPORT: usize = 1_024;
 pub const CHECK: usize = 20_480;
 
 /// Of [`crate::length`].
-pub const LENGTH: usize = 256;
+pub const LENGTH: usize = 1_024;
 
 /// Of [`crate::join`].
-pub const JOIN: usize = 86_016;
+pub const JOIN: usize = 90_112;
 
 /// Of [`crate::write`].
-pub const WRITE: usize = 256;
+pub const WRITE: usize = 1_024;
 
 /// Of [`crate::open`].
 pub const OPEN: usize = 256;
 
 /// Of [`crate::step_at`].
-pub const STEP_AT: usize = 256;
+pub const STEP_AT: usize = 1_024;
 
 /// Of [`crate::in_force`].
 pub const IN_FORCE: usize = 1_024;
