@@ -35,7 +35,7 @@ def whole(value: Any, bits: int, what: str) -> int:
     """A whole number of at most so many bits, or words that say what is amiss: ctypes would cut it down without a word."""
     if isinstance(value, bool) or not hasattr(value, "__index__"):
         raise TypeError(f"{what} is a whole number, not {value!r}")
-    number = value.__index__()
+    number = int(value.__index__())
     if not 0 <= number < 1 << bits:
         raise ValueError(f"{what} is 0 to {(1 << bits) - 1:,}, not {number:,}")
     return number

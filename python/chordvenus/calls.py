@@ -99,12 +99,12 @@ def plan(wishes: Wishes, method: str = "exact", *, limit: Optional[int] = None, 
     memory = bytearray(_records(asked, method, kind) * kind.size)
     wanted = () if limit is None else (_limit(limit),)
     called = lib.call(kind.prefix + _CALLED[method])
-    answer = called(asked.ports, *asked.lent(), *wanted, lib.lent(memory), len(memory))
+    answer = called(asked.ports, *asked._lent(), *wanted, lib.lent(memory), len(memory))
     if answer.code:
         raise _refused_demand(answer, asked, kind.number)
     data = bytes(memoryview(memory)[: answer.records * kind.size])
     if method == "grating":  # its call answers neither T nor empty slots; the checker does
-        answer = lib.call("cv_check")(asked.ports, *asked.lent(), data, len(data))
+        answer = lib.call("cv_check")(asked.ports, *asked._lent(), data, len(data))
     return Plan(asked.ports, kind.number, data, answer.total, asked, answer.longest, answer.empty)
 
 
@@ -114,7 +114,7 @@ def _records(asked: Demand, method: str, kind: lib.Edition) -> int:
         return 0
     if method in _ROOMS:
         most = lib.MOST_QUICK if method == "quick" else lib.MOST_LINE
-        return lib.call(kind.prefix + _ROOMS[method])(asked.ports, min(asked.longest, most)).records
+        return int(lib.call(kind.prefix + _ROOMS[method])(asked.ports, min(asked.longest, most)).records)
     return 2 * asked.ports if method == "grating" else asked.ports**2
 
 
@@ -139,7 +139,7 @@ def room(ports: int, longest: int, method: str = "exact", *, edition: AnyEdition
         raise refusals.LineTooLong(f"a longest line of {longest:,} is more than the 65,535 slots that a line has")
     if answer.code == 4:
         raise _too_long_for_quick(longest)
-    return answer.records
+    return int(answer.records)
 
 
 def least(wishes: Wishes, limit: int) -> int:
@@ -149,10 +149,10 @@ def least(wishes: Wishes, limit: int) -> int:
     (6, 3)
     """
     asked = demand(wishes)
-    answer = lib.call("cv_grating_least")(asked.ports, *asked.lent(), _limit(limit))
+    answer = lib.call("cv_grating_least")(asked.ports, *asked._lent(), _limit(limit))
     if answer.code:
         raise _refused_demand(answer, asked, lib.FIRST.number)
-    return answer.total
+    return int(answer.total)
 
 
 # ---- Plans from anywhere
@@ -171,7 +171,7 @@ def check(wishes: Wishes, of: AnyPlan, *, edition: AnyEdition = None) -> Counts:
     """
     asked = demand(wishes)
     data, kind = _bytes_of(of, asked.ports, edition)
-    answer = lib.call(kind.prefix + "check")(asked.ports, *asked.lent(), data, len(data))
+    answer = lib.call(kind.prefix + "check")(asked.ports, *asked._lent(), data, len(data))
     if answer.code in (1, 2, 3):
         raise _refused_demand(answer, asked, kind.number)
     if answer.code == 13:
@@ -192,7 +192,7 @@ def length(of: AnyPlan, switching: int, ports: Optional[int] = None, edition: An
     answer = lib.call(kind.prefix + "length")(n, data, len(data), arrays.whole(switching, 16, "the switching time"))
     if answer.code:
         raise refused_plan(answer, n, kind, data)
-    return answer.length
+    return int(answer.length)
 
 
 def join(of: AnyPlan, ports: Optional[int] = None, edition: AnyEdition = None) -> Plan:
@@ -267,7 +267,7 @@ def rescue(wishes: Wishes, damaged: AnyPlan) -> Rescued:
     memory = bytearray((min(records, lib.FIRST.records) + _records(asked, "exact", lib.FIRST)) * size)
     listed = bytearray(records * entry)
     called = lib.call("cv_rescue")
-    answer = called(asked.ports, *asked.lent(), data, len(data), lib.lent(memory), len(memory), lib.lent(listed), len(listed))
+    answer = called(asked.ports, *asked._lent(), data, len(data), lib.lent(memory), len(memory), lib.lent(listed), len(listed))
     if answer.code == 10:
         raise refusals.TooManyRecords(f"the plan has, or would have, more than {answer.place:,} records", answer.place)
     if answer.code:
@@ -324,7 +324,7 @@ def carry_over(asked: Wishes, of: AnyPlan, first: int, wished: Wishes) -> Demand
     slots = array("I", bytes(4 * n * n))
     count = arrays.whole(first, 64, "the number of first records")
     called = lib.call("cv_carry_over")
-    answer = called(n, *old.lent(), data, len(data), count, *new.lent(), lib.lent(slots, c_uint32), len(slots))
+    answer = called(n, *old._lent(), data, len(data), count, *new._lent(), lib.lent(slots, c_uint32), len(slots))
     if answer.code == 0:
         return Demand(n, slots, old.names)
     about = refusals.ABOUT[answer.about]

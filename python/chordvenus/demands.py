@@ -20,11 +20,19 @@ class Ports(NamedTuple):
     outputs: Optional[Tuple[str, ...]] = None
 
     def input(self, number: int) -> str:
-        """What input `number` is called."""
+        """What input `number` is called.
+
+        >>> demand([("maser", 0, 3)]).names.input(0)
+        'maser'
+        """
         return _called(self.inputs, number)
 
     def output(self, number: int) -> str:
-        """What output `number` is called."""
+        """What output `number` is called.
+
+        >>> demand([("maser", 0, 3)]).names.output(0)
+        '0'
+        """
         return _called(self.outputs, number)
 
 
@@ -68,7 +76,11 @@ class Demand:
         return sum(self._slots)
 
     def rows(self) -> List[List[int]]:
-        """The cells as a list for each input."""
+        """The cells as a list for each input.
+
+        >>> cells([[3, 0], [1, 0]]).rows()
+        [[3, 0], [1, 0]]
+        """
         return [self._slots[i * self.ports : (i + 1) * self.ports].tolist() for i in range(self.ports)]
 
     def line(self, side: str, number: int) -> int:
@@ -104,7 +116,7 @@ class Demand:
         cells = self.cells
         return cells if dtype is None else cells.astype(dtype)
 
-    def lent(self) -> Tuple[Any, int]:
+    def _lent(self) -> Tuple[Any, int]:
         """The cells as a call is lent them."""
         return lib.lent(self._slots, c_uint32), len(self._slots)
 
@@ -174,7 +186,7 @@ def wish(slots: Any) -> int:
     answer = lib.call("cv_wish")(bits_of(slots))
     if answer.code:
         raise refusals.BY_CODE[answer.code](f"the wish {slots} {FAULTS[answer.code]}")
-    return answer.total
+    return int(answer.total)
 
 
 def of_wish_list(data: bytes, ports: Optional[int] = None, edition: Union[int, str, None] = None) -> Demand:
@@ -203,7 +215,7 @@ def _is_square(wishes: Any) -> bool:
 def _rows(rows: Any) -> List[List[Any]]:
     if hasattr(rows, "tolist") and len(getattr(rows, "shape", ())) != 2:
         raise ValueError("an array of wishes has two dimensions: a row for each input")
-    lines = rows.tolist() if hasattr(rows, "tolist") else [list(line) for line in rows]
+    lines: List[List[Any]] = rows.tolist() if hasattr(rows, "tolist") else [list(line) for line in rows]
     for i, line in enumerate(lines):
         if len(line) != len(lines):
             hint = "; triples are tuples, not lists" if len(line) == 3 else ""
@@ -282,7 +294,7 @@ def ports_number(given: Any) -> int:
     """An N as the calls take it. One that no 64 bits hold is code 1 as well, and must not wrap around to a small one."""
     if isinstance(given, bool) or not hasattr(given, "__index__"):
         raise TypeError(f"the number of ports is a whole number, not {given!r}")
-    n = given.__index__()
+    n = int(given.__index__())
     return n if 0 <= n < 2**64 else 2**64 - 1
 
 

@@ -314,7 +314,7 @@ def _tint(colour: str) -> str:
 def luminance(colour: str) -> float:
     """How light a colour is, from 0 to 1, as a print in black and white shows it (WCAG's relative luminance)."""
     parts = [int(colour[k : k + 2], 16) / 255 for k in (1, 3, 5)]
-    linear = [part / 12.92 if part <= 0.04045 else ((part + 0.055) / 1.055) ** 2.4 for part in parts]
+    linear: List[float] = [part / 12.92 if part <= 0.04045 else ((part + 0.055) / 1.055) ** 2.4 for part in parts]
     return 0.2126 * linear[0] + 0.7152 * linear[1] + 0.0722 * linear[2]
 
 

@@ -93,7 +93,12 @@ class Plan:
 
     @classmethod
     def load(cls, file: File, ports: Optional[int] = None, edition: Union[int, str, None] = None) -> "Plan":
-        """A plan from a file of records, by its name or open for reading bytes. See `from_bytes`."""
+        """A plan from a file of records, by its name or open for reading bytes. See `from_bytes`.
+
+        >>> import io
+        >>> Plan.load(io.BytesIO(plan([[0, 3], [2, 0]]).data))
+        Plan of 2 ports, 1 records, total hold 3
+        """
         return cls.from_bytes(read_bytes(file), ports, edition)
 
     def save(self, file: File) -> None:
@@ -118,7 +123,11 @@ class Plan:
         return arrays.grid(array("B", rows), n)
 
     def svg(self, **how: Any) -> str:
-        """A picture of the plan. See `chordvenus.picture`."""
+        """A picture of the plan. See `chordvenus.picture`.
+
+        >>> plan([[0, 3], [2, 0]]).svg().endswith("</svg>\\n")
+        True
+        """
         from .pictures import picture
 
         return picture(self, **how)

@@ -76,11 +76,23 @@ class Schedule:
 
     @classmethod
     def load(cls, file: File, ports: int) -> "Schedule":
-        """A schedule from a file of task records, by its name or open for reading bytes."""
+        """A schedule from a file of task records, by its name or open for reading bytes. See `from_bytes`.
+
+        >>> import io
+        >>> Schedule.load(io.BytesIO(shop([[0, 3], [2, 0]], 1).data), 2).total
+        4
+        """
         return cls.from_bytes(read_bytes(file), ports)
 
     def save(self, file: File) -> None:
-        """Writes the task records, and nothing else, to a file."""
+        """Writes the task records, and nothing else, to a file.
+
+        >>> import io
+        >>> s, file = shop([[0, 3], [2, 0]], 1), io.BytesIO()
+        >>> s.save(file)
+        >>> Schedule.from_bytes(file.getvalue(), 2) == s
+        True
+        """
         write_bytes(file, self.data)
 
     @property
@@ -88,7 +100,11 @@ class Schedule:
         return arrays.grid(array("I", [number for task in self for number in task]), 4)
 
     def svg(self, **how: Any) -> str:
-        """A picture of the schedule. See `chordvenus.picture`."""
+        """A picture of the schedule. See `chordvenus.picture`.
+
+        >>> shop([[0, 3], [2, 0]], 1).svg().endswith("</svg>\\n")
+        True
+        """
         from .pictures import picture
 
         return picture(self, **how)
@@ -126,7 +142,7 @@ def shop(wishes: Wishes, switching: int) -> Schedule:
     """
     asked, d = demand(wishes), arrays.whole(switching, 16, "the switching time")
     memory = bytearray(lib.TASK_SIZE * asked.ports**2)
-    answer = lib.call("cv_shop")(asked.ports, *asked.lent(), d, lib.lent(memory), len(memory))
+    answer = lib.call("cv_shop")(asked.ports, *asked._lent(), d, lib.lent(memory), len(memory))
     if answer.code:
         raise _refused_demand(answer, asked, lib.FIRST.number)
     return Schedule(asked.ports, bytes(memory[: answer.records * lib.TASK_SIZE]), answer.total, d, asked)

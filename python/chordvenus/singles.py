@@ -38,7 +38,8 @@ class Single(NamedTuple):
 
 def value_of(bits: int) -> float:
     """The number that the bits of a binary32 stand for."""
-    return struct.unpack("<f", struct.pack("<I", bits))[0]
+    value: float = struct.unpack("<f", struct.pack("<I", bits))[0]
+    return value
 
 
 def is_number(text: str) -> bool:

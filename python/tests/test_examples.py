@@ -21,8 +21,6 @@ WANTS = {  # the examples that take a call which an older library does not have
     "move": "cv_to_second",
     "rescue": "cv_rescue",
     "shop": "cv_shop",
-    "Schedule": "cv_shop",
-    "from_bytes": "cv_shop",
 }
 
 
@@ -35,8 +33,8 @@ def modules():
 
 def left_out(test):
     """The call that an example needs and the library does not have, or None."""
-    wanted = WANTS.get(test.name.rsplit(".", 1)[-1])
-    if wanted is None or (test.name.endswith("Plan.from_bytes")) or lib.has(wanted):
+    wanted = "cv_shop" if ".Schedule" in test.name else WANTS.get(test.name.rsplit(".", 1)[-1])
+    if wanted is None or lib.has(wanted):
         return None
     return wanted
 
@@ -66,6 +64,10 @@ class Examples(unittest.TestCase):
                 self.assertIn("return", thing.__annotations__, f"{name} does not say what it gives")
             elif inspect.isclass(thing):
                 self.assertTrue(thing.__doc__, f"{name} has no docstring")
+                for part, method in vars(thing).items():
+                    method = getattr(method, "__func__", method)
+                    if not part.startswith("_") and inspect.isfunction(method):
+                        self.assertIn(">>>", method.__doc__ or "", f"{name}.{part} has no example")
 
     def test_every_function_is_hinted(self):
         for module in modules():

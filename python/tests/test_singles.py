@@ -1,6 +1,5 @@
 """Numbers to binary32: up to the next and never down, against the definition by exact fractions over the whole grid."""
 import random
-import struct
 import unittest
 from decimal import Decimal
 from fractions import Fraction
