@@ -77,7 +77,7 @@ module _ (N : ℕ) (d : List ℕ) (L : ℕ) (buf : List ℕ) where
   by-limit : Bool → Result
   by-limit b = afterCheck (checkDemand 64 N d) (λ T. unless b (refuses Limit buf) (decides firstEdition N d T (quietPlan 64 N L d) buf)) buf
 
-  as-planned : 0 < L → quietPlanned firstEdition N d L buf ≡ planned 64 0 N d (quietPlan 64 N L d) buf
+  as-planned : 0 < L → quietPlanned firstEdition N d L buf ≡ planned firstEdition N d (quietPlan 64 N L d) buf
   unfolding quietPlanned planned by-limit
   as-planned l = ap by-limit (lt-ltb 0 L l)
 
@@ -114,8 +114,8 @@ module _ (N : ℕ) (d : List ℕ) (L : ℕ) (buf : List ℕ) where
 
     -- where it is written, the report is the plan's
     module _ (l : 0 < L) (t : Taken firstEdition 65535 N d (quietPlan 64 N L d) buf) where
-      written : quietPlanned firstEdition N d L buf ≡ writes 0 N (longest N (cell N d)) (emptySlots N (cell N d) (quietPlan 64 N L d)) (quietPlan 64 N L d) buf
-      written = as-planned l ∙ planned-done 64 0 N d (quietPlan 64 N L d) buf (longest N (cell N d)) (sym (fair-fine firstEdition N d (omega arith) (t .fair))) (t .room)
+      written : quietPlanned firstEdition N d L buf ≡ writes firstEdition N (longest N (cell N d)) (emptySlots N (cell N d) (quietPlan 64 N L d)) (quietPlan 64 N L d) buf
+      written = as-planned l ∙ planned-done firstEdition N d (quietPlan 64 N L d) buf (longest N (cell N d)) (sym (fair-fine firstEdition N d (omega arith) (t .fair))) (t .room)
 
       is : r ≡ Done (demandCounts (length (quietPlan 64 N L d)) (longest N (cell N d)) (total (quietPlan 64 N L d)) (emptySlots N (cell N d) (quietPlan 64 N L d)))
       is = met .outcome ∙ ap (λ (x : Result). x .outcome) written ∙ (unfold writes in refl)
