@@ -30,6 +30,8 @@ static void doubled(void) { answer = cv_doubled(N, cells, N * N, none, 8 * CV_RE
 static void every(void) { answer = cv_doubled_every_rotation(N, cells, N * N, none, 8 * CV_RECORD_SIZE); }
 static void quick(void) { answer = cv_quick(N, cells, N * N, none, 8 * CV_RECORD_SIZE); }
 static void grating(void) { answer = cv_grating_doubled(N, cells, N * N, none, 8 * CV_RECORD_SIZE); }
+static void quiet(void) { answer = cv_grating_quiet(N, cells, N * N, 1, none, 8 * CV_RECORD_SIZE); }
+static void least(void) { answer = cv_grating_least(N, (const uint32_t *)(void *)none, N * N, 1); }
 static void report(void) { answer = cv_grating_report(N, plan, sizeof plan, none, 2); }
 static void check(void) { answer = cv_check(N, cells, N * N, none, CV_RECORD_SIZE); }
 static void length(void) { answer = cv_length(N, none, CV_RECORD_SIZE, 1); }
@@ -62,6 +64,7 @@ int main(void)
         {"cv_wishes", (uintptr_t)cv_wishes, wishes}, {"cv_exact", (uintptr_t)cv_exact, exact},
         {"cv_doubled", (uintptr_t)cv_doubled, doubled}, {"cv_doubled_every_rotation", (uintptr_t)cv_doubled_every_rotation, every},
         {"cv_quick", (uintptr_t)cv_quick, quick}, {"cv_grating_doubled", (uintptr_t)cv_grating_doubled, grating},
+        {"cv_grating_quiet", (uintptr_t)cv_grating_quiet, quiet}, {"cv_grating_least", (uintptr_t)cv_grating_least, least},
         {"cv_grating_report", (uintptr_t)cv_grating_report, report}, {"cv_check", (uintptr_t)cv_check, check},
         {"cv_length", (uintptr_t)cv_length, length}, {"cv_join", (uintptr_t)cv_join, join},
         {"cv_write", (uintptr_t)cv_write, write_one}, {"cv_step_at", (uintptr_t)cv_step_at, step_at},

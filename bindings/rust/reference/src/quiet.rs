@@ -2,12 +2,12 @@
 //! that such a plan can have.
 
 use crate::exact::Writer;
-use crate::{demand, Counts, Outcome, Refusal, IDLE, MOST_PORTS};
+use crate::{demand, Counts, Outcome, Refusal, BYTE, IDLE, MOST_PORTS};
 
 /// The quiet plan: no setting has more than `limit` inputs on one wavelength.
 pub fn grating_quiet(n: u64, cells: &[u32], limit: u64, plan: &mut [u8]) -> Outcome {
     let (n, longest) = within(n, cells, limit)?;
-    let mut written = Writer::default();
+    let mut written = Writer::new(BYTE);
     let mut left = Left::new(n, cells);
     while let Some((hold, outputs)) = left.setting(limit) {
         written.push(hold as u16, n, &outputs);
