@@ -114,13 +114,14 @@ _loaded: Dict[str, Any] = {}
 
 def candidates() -> List[str]:
     """Where the library is looked for, in turn: what CHORDVENUS_LIBRARY names and nothing else, or else beside the module,
-    in the folder of the build that the module stands in, and where the system keeps its libraries."""
+    where the repository's is made, where ./install puts it, and where the system keeps its libraries."""
     named = os.environ.get("CHORDVENUS_LIBRARY")
     if named:
         return [named]
     here = pathlib.Path(__file__).resolve().parent
-    built = here.parent.parent / "target"
-    places = [here / "libchordvenus.so", built / "staticlib" / "libchordvenus.so"]
+    made = here.parent.parent / "target" / "staticlib" / "libchordvenus.so"
+    installed = here.parent.parent.parent.parent / "lib" / f"libchordvenus.so.{VERSION}"  # of a module below PREFIX/share/chordvenus/python
+    places = [here / "libchordvenus.so", made] + ([installed] if here.parent.parent.name == "chordvenus" else [])
     return [str(place) for place in places if place.exists()] + [f"libchordvenus.so.{VERSION}", "libchordvenus.so"]
 
 
