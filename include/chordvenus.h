@@ -87,6 +87,7 @@ enum {
     CV_MOST_PORTS = 64,       /* the largest N */
     CV_RECORD_SIZE = 68,      /* bytes of a plan record */
     CV_WISH_SIZE = 8,         /* bytes of a wish record */
+    CV_TASK_SIZE = 12,        /* bytes of a task record */
     CV_IDLE = 255,            /* the output of an idle input */
     CV_MOST_LINE = 65535,     /* the largest line sum, and the largest wish */
     CV_MOST_QUICK = 1024,     /* the largest T of the quick cover */
@@ -101,6 +102,9 @@ enum {
 #define CV_EXACT_ROOM(n) (((n) * (n) - 2 * (n) + 2) * CV_RECORD_SIZE)
 #define CV_DOUBLED_ROOM(n) (2 * (n) * CV_RECORD_SIZE)
 #define CV_QUICK_ROOM(longest) (((longest) == 0 ? 0 : 2 * (longest) - 1) * CV_RECORD_SIZE)
+
+/* Bytes that hold the tasks of every demand of n ports. */
+#define CV_SHOP_ROOM(n) ((n) * (n) * CV_TASK_SIZE)
 
 /*
  * Bytes of stack that each call may use at any N, with all that it calls: more than the archive's
@@ -132,6 +136,8 @@ enum {
 #define CV_STACK_STEP_AT 1024
 #define CV_STACK_IN_FORCE 1024
 #define CV_STACK_CARRY_OVER 20480
+#define CV_STACK_SHOP 2048
+#define CV_STACK_TASKS 1024
 
 /* cv_answer.code (§9.7): when it is given, and what cv_answer.place then is. */
 enum {
@@ -149,7 +155,7 @@ enum {
     CV_TORN = 9,        /* bytes are left over after the last whole record; whole records */
     CV_RECORDS = 10,    /* a plan that is read has more than 8,192 records; 8,192 */
     CV_MALFORMED = 11,  /* a record is not well formed, or a wish has a port that is not below N or a
-                           third or fourth byte other than 0; its number */
+                           third or fourth byte other than 0; its number. Of tasks: cv_tasks says */
     CV_NAMED = 12,      /* the wish names a pair that a record before it named; its record */
     CV_UNCOVERED = 13,  /* the plan does not cover the demand; the first cell granted too little */
     CV_NOT_IN_FORCE = 14, /* tonight's plan is over, and the standby plan has no records; 0 */
@@ -171,9 +177,9 @@ typedef struct {
     uint64_t code;     /* CV_DONE or the refusal */
     uint64_t place;    /* where, as the code says */
     uint64_t side;     /* code 3 of a demand: CV_INPUT or CV_OUTPUT; else CV_NO_SIDE */
-    uint64_t records;  /* records of the plan or of the wish list, or that suffice for a plan */
+    uint64_t records;  /* records of the plan or of the wish list, or that suffice for a plan; tasks */
     uint64_t longest;  /* T of the demand */
-    uint64_t total;    /* total hold of the plan */
+    uint64_t total;    /* total hold of the plan; of tasks the latest end */
     uint64_t length;   /* length of the plan */
     uint64_t empty;    /* empty slots of the plan */
     uint64_t added;    /* records added to a plan: 0 in every call of this version */
@@ -468,6 +474,33 @@ static inline const uint8_t *cv_part_bytes(cv_part part, const uint8_t *tonight,
  * Done:   every count is 0.
  */
 CV_NODISCARD cv_answer cv_carry_over(uint64_t n, const uint32_t *asked, size_t asked_len, const uint8_t *plan, size_t plan_len, uint64_t first, const uint32_t *wished, size_t wished_len, uint32_t *cells, size_t cells_len);
+
+/* ---- chordvenus-shop: tasks, for a switch whose ports move on their own ---- */
+
+/*
+ * The open-shop plan (§21): every pair with slots is a task that takes d and its slots, d being the
+ * switching time. At time 0 and at each finish, after all that end then are over, the idle outputs
+ * from the lowest up each start a task with the lowest idle input that has one left for them. A task
+ * record is CV_TASK_SIZE bytes: input, output, a zero byte and another, the start in four bytes and the
+ * end in four, low byte first; they stand in order of start, and of output where starts are equal. A
+ * port is in one task at a time, and each task is over within the task times of its input and of its
+ * output, its own counted once. One record for each pair with slots: CV_SHOP_ROOM(n) suffices.
+ * Codes:  1, 2, 3, 5.
+ * Writes: the task records, at the start of tasks; no later byte. The demand is only read.
+ * Done:   records is the number of tasks, total the latest end, or 0.
+ */
+CV_NODISCARD cv_answer cv_shop(uint64_t n, const uint32_t *cells, size_t cells_len, uint16_t d, uint8_t *tasks, size_t tasks_len);
+
+/*
+ * Reads tasks from anywhere, any number of them (§21.7). A task holds its ports from its start on and
+ * is over at its end. Gaps are fine, and so is a pair that runs again later.
+ * Codes:  1, 9, then 11 for the first record with a port that is not below N, with a third or fourth
+ *         byte other than 0, with no time between start and end, that does not follow the record
+ *         before it by start and then output, or that overlaps one before it on its input or its output.
+ * Writes: nothing.
+ * Done:   records is the number of tasks, total the latest end, or 0.
+ */
+CV_NODISCARD cv_answer cv_tasks(uint64_t n, const uint8_t *tasks, size_t tasks_len);
 
 #ifdef __cplusplus
 }

@@ -659,6 +659,79 @@ def grating_least(n, cells, limit):
     return refused or Answer(longest=longest, total=max(longest, -(-max(bands(n, cells)) // limit)))
 
 
+# ---- The open shop
+
+TASK = 12  # bytes of a task record: input, output, two zero bytes, start, end
+
+
+class Task(NamedTuple):
+    """A pair at work from its start on; at its end it is over."""
+
+    input: int
+    output: int
+    start: int
+    end: int
+
+
+def shop_list(n, cells, d):
+    """The tasks of §21.2, moment by moment."""
+    waiting = {(i, j) for i in range(n) for j in range(n) if cells[i * n + j]}
+    done, running, t = [], [], 0
+    while True:
+        for j in sorted(set(range(n)) - {task.output for task in running}):
+            idle = set(range(n)) - {task.input for task in running}
+            ready = [i for i in sorted(idle) if (i, j) in waiting]
+            if ready:
+                running.append(Task(ready[0], j, t, t + d + cells[ready[0] * n + j]))
+                waiting.remove((ready[0], j))
+        if not running:
+            return sorted(done, key=lambda task: (task.start, task.output))
+        t = min(task.end for task in running)
+        done += [task for task in running if task.end == t]
+        running = [task for task in running if task.end != t]
+
+
+def task_bytes(task, spare=(0, 0)):
+    return bytes([task.input, task.output, *spare]) + task.start.to_bytes(4, "little") + task.end.to_bytes(4, "little")
+
+
+def counted_tasks(tasks):
+    return Answer(records=len(tasks), total=max((task.end for task in tasks), default=0))
+
+
+def shop_plan(n, cells, d, buffer):
+    refusal = refused_demand(n, cells)
+    if refusal:
+        return refusal, buffer
+    tasks = shop_list(n, cells, d)
+    if len(buffer) // TASK < len(tasks):
+        return Answer(5, len(tasks)), buffer
+    written = b"".join(task_bytes(task) for task in tasks)
+    return counted_tasks(tasks), written + buffer[len(written) :]
+
+
+def overlap(a, b):
+    return (a.input == b.input or a.output == b.output) and a.start < b.end and b.start < a.end
+
+
+def read_tasks(n, data):
+    """The reader of §21.7: every record against every one before it."""
+    if n == 0 or n > PORTS:
+        return Answer(1)
+    if len(data) % TASK:
+        return Answer(9, len(data) // TASK)
+    tasks = []
+    for k in range(len(data) // TASK):
+        record = data[k * TASK : (k + 1) * TASK]
+        task = Task(record[0], record[1], int.from_bytes(record[4:8], "little"), int.from_bytes(record[8:], "little"))
+        fair = task.input < n and task.output < n and record[2:4] == bytes(2) and task.start < task.end
+        rises = not tasks or (tasks[-1].start, tasks[-1].output) < (task.start, task.output)
+        if not fair or not rises or any(overlap(earlier, task) for earlier in tasks):
+            return Answer(11, k)
+        tasks.append(task)
+    return counted_tasks(tasks)
+
+
 # ---- The lister
 
 
@@ -877,6 +950,22 @@ def quiet_laws(n, cells, limit):
     same("no limit", grating_quiet(n, cells, 0, b"")[0], Answer(17))
 
 
+def shop_laws(n, cells, d):
+    """What §21 promises of one demand."""
+    tasks = shop_list(n, cells, d)
+    asked = {(i, j): d + cells[i * n + j] for i in range(n) for j in range(n) if cells[i * n + j]}
+    same("a task for each pair", sorted((task.input, task.output, task.end - task.start) for task in tasks), sorted((i, j, time) for (i, j), time in asked.items()))
+    ins = [sum(time for (i, _), time in asked.items() if i == k) for k in range(n)]
+    outs = [sum(time for (_, j), time in asked.items() if j == k) for k in range(n)]
+    same("each end", all(task.end <= ins[task.input] + outs[task.output] - (task.end - task.start) for task in tasks), True)
+    same("under twice the least", max((task.end for task in tasks), default=0) <= max(0, 2 * max(ins + outs) - 1), True)
+    room = bytes([170] * (TASK * len(tasks) + 5))
+    answer, written = shop_plan(n, cells, d, room)
+    same("the tasks' tail", written[-5:], room[-5:])
+    same("the tasks' reader", read_tasks(n, written[:-5]), answer)
+    same("too little room for tasks", shop_plan(n, cells, d, room[: TASK * len(tasks) - 1])[0], Answer(5, len(tasks))) if tasks else None
+
+
 def random_demand(rng, n, most, share):
     return [rng.randint(0, most) if rng.random() < share else 0 for _ in range(n * n)]
 
@@ -891,10 +980,12 @@ def selftest():
         laws(n, cells)
         grating_laws(n, cells)
         quiet_laws(n, cells, rng.choice([1, 1, 2, 3, n, n + 1, 2**64 - 1]))
+        shop_laws(n, cells, rng.choice([0, 1, 3, LINE]))
     for n in (12, 16):
         cells = random_demand(rng, n, 9, 0.6)
         laws(n, cells)
         grating_laws(n, cells)
+        shop_laws(n, cells, 2)
     for _ in range(400):
         join_laws(rng, rng.choice([1, 2, 3, 5, 8, 64]))
         console_laws(rng, rng.choice([1, 2, 3, 5, 8, 64]))

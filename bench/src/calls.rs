@@ -4,7 +4,7 @@ use crate::demands::{Demand, ROOM};
 use crate::same;
 use crate::timing::Pair;
 use cases::Rng;
-use reference::{MOST_RECORDS, RECORD_SIZE};
+use reference::{MOST_RECORDS, RECORD_SIZE, TASK_SIZE};
 use std::hint::black_box;
 
 #[cfg(feature = "proved")]
@@ -33,6 +33,8 @@ pub const CALLS: [(&str, &str); 18] = [
     ("step_at", "one call for each record of the exact plan"),
     ("in_force", "two plans of 8,192 records, the last slot before standby repeats"),
     ("carry_over", "the exact plan stopped half way"),
+    ("shop", "one schedule, d = 5; Rust by the same method"),
+    ("tasks", "that schedule"),
 ];
 
 /// The wavelength limit of the timed quiet plans.
@@ -96,6 +98,18 @@ fn carry_over<'a>(demand: &'a Demand) -> Pair<'a> {
     })
 }
 
+/// Reading the schedule of a demand.
+fn tasks<'a>(demand: &'a Demand) -> Pair<'a> {
+    let n = demand.n as u64;
+    let mut tasks = vec![0; demand.n * demand.n * TASK_SIZE];
+    let counts = reference::shop(n, &demand.cells, 5, &mut tasks).expect("a sound demand");
+    tasks.truncate(counts.records as usize * TASK_SIZE);
+    both!(library => {
+        let tasks = tasks.clone();
+        move || run(library::tasks(n, black_box(&tasks)))
+    })
+}
+
 /// Joining 8,192 records, of which so many have a setting that none before them has.
 pub fn join_settings<'a>(n: usize, settings: usize) -> Pair<'a> {
     let mut rng = Rng::new(1);
@@ -153,6 +167,11 @@ pub fn pair<'a>(call: &str, demand: &'a Demand) -> Pair<'a> {
         "join" => join(n, longest(plan)),
         "in_force" => in_force(n, longest(plan)),
         "carry_over" => carry_over(demand),
+        "shop" => both!(library => {
+            let mut tasks = vec![0; demand.n * demand.n * TASK_SIZE];
+            move || run(library::shop(n, black_box(cells), 5, &mut tasks))
+        }),
+        "tasks" => tasks(demand),
         "open" => both!(library => move || run(library::open(n, black_box(plan)))),
         "step_at" => both!(library => move || {
             for at in 0..demand.records() as u64 {

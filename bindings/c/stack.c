@@ -15,10 +15,11 @@
 #include <sys/mman.h>
 
 enum { N = CV_MOST_PORTS, RECORDS = CV_MOST_RECORDS, ROOM = RECORDS * CV_RECORD_SIZE };
+enum { TASKS = CV_SHOP_ROOM(N) };
 enum { FENCE = 64 * 1024, LARGEST = 512 * 1024, PAINT = 0x5a };
 
 static uint32_t cells[N * N], renewed[N * N];
-static uint8_t plan[ROOM], made[ROOM], list[N * N * CV_WISH_SIZE];
+static uint8_t plan[ROOM], made[ROOM], list[N * N * CV_WISH_SIZE], tasked[CV_SHOP_ROOM(N)];
 static size_t room;
 static cv_answer answer;
 static cv_step step;
@@ -56,6 +57,8 @@ static void write_one(void) { answer = cv_write(65535, N, plan + 4, made, room);
 static void open_plan(void) { answer = cv_open(N, plan, ROOM); }
 static void step_at(void) { step = cv_step_at(N, plan, ROOM, RECORDS - 1); }
 static void in_force(void) { part = cv_in_force(N, plan, ROOM, plan, ROOM, UINT64_MAX); }
+static void shop(void) { answer = cv_shop(N, cells, N * N, 65535, made, room); }
+static void tasks(void) { answer = cv_tasks(N, tasked, TASKS); }
 static void carry_over(void) { answer = cv_carry_over(N, cells, N * N, plan, ROOM, RECORDS, cells, N * N, renewed, N * N); }
 
 /* Takes the thread's stack but for the bytes that are to be left, and calls the function there. */
@@ -115,6 +118,8 @@ static void fill_lists(void)
 {
     for (int k = 0; k < N * N; k++)
         memcpy(list + k * CV_WISH_SIZE, (uint8_t[]){(uint8_t)(k / N), (uint8_t)(k % N), 0, 0, 0, 0, 0x80, 0x3f}, CV_WISH_SIZE);
+    for (int k = 0; k < N * N; k++)
+        memcpy(tasked + k * CV_TASK_SIZE, (uint8_t[]){(uint8_t)(k % N), (uint8_t)(k / N), 0, 0, (uint8_t)k, (uint8_t)(k >> 8), 0, 0, (uint8_t)(k + 1), (uint8_t)((k + 1) >> 8), 0, 0}, CV_TASK_SIZE);
     for (int k = 0; k < RECORDS; k++) {
         uint8_t *record = plan + k * CV_RECORD_SIZE;
         memcpy(record, (uint8_t[]){0xff, 0xff, N, 0}, 4);
@@ -155,6 +160,7 @@ int main(void)
         {"cv_write", write_one, CV_STACK_WRITE},   {"cv_open", open_plan, CV_STACK_OPEN},
         {"cv_step_at", step_at, CV_STACK_STEP_AT}, {"cv_in_force", in_force, CV_STACK_IN_FORCE},
         {"cv_carry_over", carry_over, CV_STACK_CARRY_OVER},
+        {"cv_shop", shop, CV_STACK_SHOP},         {"cv_tasks", tasks, CV_STACK_TASKS},
         {"cv_wishes", wishes, CV_STACK_WISHES},
     };
     uint8_t *fence = mmap(NULL, FENCE + LARGEST, PROT_READ | PROT_WRITE, MAP_PRIVATE | MAP_ANONYMOUS, -1, 0);

@@ -1000,6 +1000,114 @@ static void carry_over_refusals(void)
     NOT_CARRIED(2, 4, 4, (CV_MOST_RECORDS + 1) * CV_RECORD_SIZE, 0, 4, .code = CV_RECORDS, .place = 8192, .about = CV_PLAN);
 }
 
+/* ---- tasks ---- */
+
+/* One record as it is read. */
+typedef struct { uint8_t input, output; uint32_t start, end; } task;
+
+static uint8_t scheduled[64 * CV_TASK_SIZE];
+
+static void put_word(uint8_t *at, uint32_t word)
+{
+    for (int k = 0; k < 4; k++)
+        at[k] = (uint8_t)(word >> 8 * k);
+}
+
+/* Lays tasks one after the other, and tells how many bytes they take. */
+static size_t lay_tasks(const task *tasks, size_t count)
+{
+    for (size_t k = 0; k < count; k++) {
+        uint8_t *record = scheduled + k * CV_TASK_SIZE;
+        memcpy(record, (uint8_t[]){tasks[k].input, tasks[k].output, 0, 0}, 4);
+        put_word(record + 4, tasks[k].start);
+        put_word(record + 8, tasks[k].end);
+    }
+    return count * CV_TASK_SIZE;
+}
+
+static void shops(int line, uint64_t n, const char *demand, uint16_t d, uint64_t last, const task *tasks, size_t count)
+{
+    size_t asked = read_cells(demand), bytes = lay_tasks(tasks, count);
+    const uint32_t *from = lend_cells(cells, asked);
+    uint8_t *into = lend(RESULT, bytes + 5);
+    cv_answer wanted = {.code = CV_DONE, .records = count, .total = last};
+    answered(cv_shop(n, from, asked, d, into, bytes + 5), wanted, "a schedule", line);
+    told(memcmp(into, scheduled, bytes) == 0, "its tasks", line);
+    told(untouched(RESULT, bytes), "no other byte", line);
+    answered(cv_tasks(n, lend_bytes(PLAN, scheduled, bytes), bytes), wanted, "the schedule read", line);
+    if (count == 0)
+        return;
+    wanted = (cv_answer){.code = CV_ROOM, .place = count};
+    into = lend(RESULT, bytes - 1);
+    answered(cv_shop(n, from, asked, d, into, bytes - 1), wanted, "a byte too few", line);
+    told(untouched(RESULT, 0), "a refused schedule writes nothing", line);
+}
+#define SHOPS(n, demand, d, last, ...) \
+    shops(__LINE__, n, demand, d, last, (const task[]){__VA_ARGS__}, sizeof (const task[]){__VA_ARGS__} / sizeof(task))
+
+static void all_shops(void)
+{
+    SHOPS(2, "1 2 / 3 1", 1, 6, {0, 0, 0, 2}, {1, 1, 0, 2}, {1, 0, 2, 6}, {0, 1, 2, 5});
+    SHOPS(2, "1 0 / 3 0", 0, 4, {0, 0, 0, 1}, {1, 0, 1, 4});
+    SHOPS(2, "4 4 / 4 4", 65535, 131078, {0, 0, 0, 65539}, {1, 1, 0, 65539}, {1, 0, 65539, 131078}, {0, 1, 65539, 131078});
+    SHOPS(1, "65535", 65535, 131070, {0, 0, 0, 131070});
+    SHOPS(3, "0 0 2 / 0 0 1 / 1 0 0", 0, 3, {2, 0, 0, 1}, {0, 2, 0, 2}, {1, 2, 2, 3});
+    read_cells("0 0 / 0 0");
+    ANSWERS(cv_shop(2, lend_cells(cells, 4), 4, 9, NULL, 0), .code = CV_DONE);
+}
+
+static void shop_refusals(void)
+{
+    read_cells("1 2 / 3 1");
+    const uint32_t *from = lend_cells(cells, 4);
+    uint8_t *into = lend(RESULT, 48);
+    for (int k = 0; k < NO_PORTS; k++)
+        REFUSES(cv_shop(no_ports[k], from, 3, 1, into, 0), CV_PORTS, 0);
+    REFUSES(cv_shop(2, from, 3, 1, into, 0), CV_CELLS, 4);
+    REFUSES(cv_shop(2, from, 4, 1, into, 47), CV_ROOM, 4);
+    REFUSES(cv_shop(2, from, 4, 1, NULL, 0), CV_ROOM, 4);
+    read_cells("65535 1 / 1 65535");
+    ANSWERS(cv_shop(2, lend_cells(cells, 4), 4, 0, into, 0), .code = CV_LINE, .place = 0, .side = CV_INPUT);
+    read_cells("65535 0 / 1 0");
+    ANSWERS(cv_shop(2, lend_cells(cells, 4), 4, 0, into, 0), .code = CV_LINE, .place = 0, .side = CV_OUTPUT);
+    told(untouched(RESULT, 0), "a refused schedule writes nothing", __LINE__);
+}
+
+static cv_answer read_tasks(uint64_t n, size_t bytes) { return cv_tasks(n, lend_bytes(PLAN, scheduled, bytes), bytes); }
+
+static void task_reading(void)
+{
+    const task sound[] = {{0, 0, 0, 4}, {1, 1, 0, 9}, {2, 2, 3, 5}, {2, 0, 5, 6}, {0, 2, 6, 7}};
+    const task bad[] = {
+        {3, 0, 5, 6}, {2, 3, 5, 6}, {2, 0, 5, 5}, {2, 0, 5, 4}, {2, 0, 2, 3}, /* ports, times, start */
+        {0, 1, 3, 4}, {0, 2, 3, 4},                                           /* outputs fall, or stay */
+        {2, 0, 4, 6}, {2, 1, 8, 9}, {1, 0, 8, 9},                             /* overlaps on either side */
+    };
+    size_t all = lay_tasks(sound, 5);
+    ANSWERS(read_tasks(3, all), .code = CV_DONE, .records = 5, .total = 9);
+    ANSWERS(read_tasks(64, all), .code = CV_DONE, .records = 5, .total = 9);
+    ANSWERS(cv_tasks(3, NULL, 0), .code = CV_DONE);
+    REFUSES(read_tasks(2, all), CV_MALFORMED, 2);
+    for (int k = 0; k < NO_PORTS; k++)
+        REFUSES(read_tasks(no_ports[k], all - 1), CV_PORTS, 0);
+    REFUSES(read_tasks(3, all - 1), CV_TORN, 4);
+    REFUSES(read_tasks(3, 11), CV_TORN, 0);
+    for (int spare = 2; spare < 4; spare++) {
+        lay_tasks(sound, 5);
+        scheduled[3 * CV_TASK_SIZE + spare] = 1;
+        REFUSES(read_tasks(3, all), CV_MALFORMED, 3);
+    }
+    for (size_t k = 0; k < sizeof bad / sizeof *bad; k++) {
+        task spoiled[5];
+        memcpy(spoiled, sound, sizeof spoiled);
+        spoiled[3] = bad[k];
+        lay_tasks(spoiled, 5);
+        REFUSES(read_tasks(3, all), CV_MALFORMED, 3);
+    }
+    const task twice[] = {{0, 0, 0, 4}, {0, 0, 4, 5}, {0, 0, UINT32_MAX - 1, UINT32_MAX}}; /* one pair, at times apart */
+    ANSWERS(read_tasks(1, lay_tasks(twice, 3)), .code = CV_DONE, .records = 3, .total = UINT32_MAX);
+}
+
 int main(void)
 {
     planner *const planners[] = {cv_exact, cv_doubled, cv_doubled_every_rotation, cv_quick, cv_grating_doubled, quiet_any};
@@ -1035,6 +1143,9 @@ int main(void)
     lookup_refusals();
     carry_overs();
     carry_over_refusals();
+    all_shops();
+    shop_refusals();
+    task_reading();
     printf("%d passed, %d failed\n", passed, failed);
     return failed != 0;
 }

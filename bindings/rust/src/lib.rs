@@ -66,6 +66,9 @@ pub const MOST_PORTS: usize = 64;
 pub const RECORD_SIZE: usize = 68;
 /// Bytes of a wish record.
 pub const WISH_SIZE: usize = 8;
+
+/// Bytes of a task record.
+pub const TASK_SIZE: usize = 12;
 /// The output of an idle input.
 pub const IDLE: u8 = 255;
 /// The largest sum of a line, and the largest wish.
@@ -374,5 +377,58 @@ pub fn carry_over(
             cells.as_mut_ptr(),
             cells.len(),
         )
+    }
+}
+
+/// The open-shop plan, for a switch whose ports move on their own: every pair with slots is a task that takes
+/// `d`, the switching time, and its slots. At time 0 and at each finish, after all that end then are over, the
+/// idle outputs from the lowest up each start a task with the lowest idle input that has one left for them.
+/// The records, of [`TASK_SIZE`] bytes, stand in order of start, and of output where starts are equal;
+/// [`Task::read`] reads one. N * N of them always suffice.
+///
+/// Codes: 1, 2, 3, 5. Writes: the task records, at the start of `tasks`. Done: `records` is the number of
+/// tasks, `total` the latest end, or 0.
+///
+/// ```
+/// let mut tasks = [0; 4 * chordvenus::TASK_SIZE];
+/// let answer = chordvenus::shop(2, &[1, 2, 3, 1], 1, &mut tasks).done()?;
+/// assert_eq!((answer.records, answer.total), (4, 6));
+/// assert_eq!(chordvenus::tasks(2, &tasks), answer);
+/// # Ok::<(), chordvenus::Refused>(())
+/// ```
+#[must_use]
+pub fn shop(n: u64, cells: &[u32], d: u16, tasks: &mut [u8]) -> Answer {
+    unsafe { sys::cv_shop(n, cells.as_ptr(), cells.len(), d, tasks.as_mut_ptr(), tasks.len()) }
+}
+
+/// Reads tasks from anywhere, any number of them. A task holds its ports from its start on and is over at its
+/// end. Gaps are fine, and so is a pair that runs again later.
+///
+/// Codes: 1, 9, then 11 for the first record that breaks a rule of its own, does not follow the record before
+/// it by start and then output, or overlaps one before it on its input or its output. Done: `records` is the
+/// number of tasks, `total` the latest end, or 0.
+#[must_use]
+pub fn tasks(n: u64, tasks: &[u8]) -> Answer {
+    unsafe { sys::cv_tasks(n, tasks.as_ptr(), tasks.len()) }
+}
+
+/// A task: a pair at work from its start on; at its end it is over.
+#[derive(Clone, Copy, Debug, PartialEq, Eq)]
+pub struct Task {
+    /// The input's number.
+    pub input: u8,
+    /// The output's number.
+    pub output: u8,
+    /// When it starts.
+    pub start: u32,
+    /// When it is over.
+    pub end: u32,
+}
+
+impl Task {
+    /// The task of a record, as [`shop`] writes it.
+    pub fn read(record: &[u8; TASK_SIZE]) -> Task {
+        let word = |at: usize| u32::from_le_bytes([record[at], record[at + 1], record[at + 2], record[at + 3]]);
+        Task { input: record[0], output: record[1], start: word(4), end: word(8) }
     }
 }

@@ -14,12 +14,12 @@
 use alloc::vec;
 use alloc::vec::Vec;
 
-use crate::{Answer, Refused, MOST_LINE, MOST_QUICK, RECORD_SIZE};
+use crate::{Answer, Refused, MOST_LINE, MOST_QUICK, RECORD_SIZE, TASK_SIZE};
 
-/// A plan that a call made, and its counts.
+/// A plan that a call made, or tasks, and their counts.
 #[derive(Clone, Debug, PartialEq, Eq)]
 pub struct Planned {
-    /// The plan's records and nothing else.
+    /// The records and nothing else.
     pub bytes: Vec<u8>,
     /// What the call answered; its code is 0.
     pub answer: Answer,
@@ -89,6 +89,13 @@ pub fn carry_over(
     let mut cells = vec![0; cells_of(n)];
     crate::carry_over(n, asked, plan, first, wished, &mut cells).done()?;
     Ok(cells)
+}
+
+/// The tasks of the open-shop plan, as [`crate::shop`] writes them.
+pub fn shop(n: u64, cells: &[u32], d: u16) -> Result<Planned, Refused> {
+    let mut bytes = vec![0; cells.iter().filter(|&&cell| cell != 0).count() * TASK_SIZE];
+    let answer = crate::shop(n, cells, d, &mut bytes).done()?;
+    Ok(Planned { bytes, answer })
 }
 
 /// Runs a planner on a `Vec` of that room. Where the room is refused the planner is asked all the same, with

@@ -77,6 +77,12 @@ pub const IN_FORCE: usize = 1_024;
 /// Of [`crate::carry_over`].
 pub const CARRY_OVER: usize = 20_480;
 
+/// Of [`crate::shop`].
+pub const SHOP: usize = 2_048;
+
+/// Of [`crate::tasks`].
+pub const TASKS: usize = 1_024;
+
 /// All of them, by name.
 pub const ALL: [(&str, usize); 25] = [
     ("VERSION", VERSION),
@@ -104,4 +110,6 @@ pub const ALL: [(&str, usize); 25] = [
     ("STEP_AT", STEP_AT),
     ("IN_FORCE", IN_FORCE),
     ("CARRY_OVER", CARRY_OVER),
+    ("SHOP", SHOP),
+    ("TASKS", TASKS),
 ];

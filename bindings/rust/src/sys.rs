@@ -201,4 +201,17 @@ extern "C" {
         cells: *mut u32,
         cells_len: usize,
     ) -> Answer;
+    /// What [`crate::shop`] calls.
+    #[must_use]
+    pub fn cv_shop(
+        n: u64,
+        cells: *const u32,
+        cells_len: usize,
+        d: u16,
+        tasks: *mut u8,
+        tasks_len: usize,
+    ) -> Answer;
+    /// What [`crate::tasks`] calls.
+    #[must_use]
+    pub fn cv_tasks(n: u64, tasks: *const u8, tasks_len: usize) -> Answer;
 }

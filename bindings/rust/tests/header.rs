@@ -53,6 +53,7 @@ fn in_crate() -> BTreeMap<String, u64> {
             ("MOST_PORTS", cv::MOST_PORTS as u64),
             ("RECORD_SIZE", cv::RECORD_SIZE as u64),
             ("WISH_SIZE", cv::WISH_SIZE as u64),
+            ("TASK_SIZE", cv::TASK_SIZE as u64),
             ("IDLE", u64::from(cv::IDLE)),
             ("MOST_LINE", cv::MOST_LINE),
             ("MOST_QUICK", cv::MOST_QUICK),

@@ -26,6 +26,8 @@ ghost use Rattle.least.specs.Least.{leastOf};
 ghost use Rattle.room.specs.declared.Planner.the-variants.{Exact, Doubled, Quick};
 ghost use Rattle.room.specs.Room.{roomed};
 ghost use Rattle.lookup.specs.Lookup.{spotOf, foundOf};
+ghost use Rattle.shop.specs.Shopped.{shopped};
+ghost use Rattle.tasks.specs.Read.{reading};
 ghost use Rattle.chordvenus.specs.Flat.{version, flat, flatAbout, kindOf, flatStep, flatWish, flatPart, flatCarried, Crosses, CarriesFlat};
 
 // The version of the structs and functions below. A struct that is returned by value cannot grow: whoever adds a field makes it one more.
@@ -347,6 +349,22 @@ pub extern "C" fn cv_carry_over(
     ensures { λ r. ⌜ CarriesFlat firstEdition n (now (asked .entry)) (now (plan .entry)) first (now (wished .entry)) (now (cells .entry)) r (now (cells .exit)) ⌝ }
 {
     flatten_carried(carry::carry_over(n, asked, plan, first, wished, cells))
+}
+
+// The open-shop plan of a demand where switching takes d.
+#[no_mangle]
+pub extern "C" fn cv_shop(n: usize, cells: &[u32], d: u16, tasks: &mut [u8]) -> CvAnswer
+    ensures { λ r. ⌜ Crosses (shopped n d (now (cells .entry)) (now (tasks .entry))) r (now (tasks .exit)) ⌝ }
+{
+    flatten(shop::shop_plan(n, cells, d, tasks))
+}
+
+// A schedule of tasks, read.
+#[no_mangle]
+pub extern "C" fn cv_tasks(n: usize, tasks: &[u8]) -> CvAnswer
+    ensures { λ r. ⌜ r ≡ flat (reading n (now (tasks .entry))) ⌝ }
+{
+    flatten(tasks::read_tasks(n, tasks))
 }
 
 // A step's kind.

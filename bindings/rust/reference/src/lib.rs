@@ -15,6 +15,7 @@ mod peel;
 mod plan;
 mod quiet;
 mod room;
+mod shop;
 pub mod slow;
 mod wishes;
 
@@ -28,6 +29,7 @@ pub use more_plans::{
 pub use plan::{check, length, open, step_at, write, Reader, Record, Step};
 pub use quiet::{grating_least, grating_quiet};
 pub use room::{doubled_room, exact_room, quick_room};
+pub use shop::{shop, tasks};
 pub use wishes::{wish, wishes};
 
 /// The largest N, and that of the second edition.
@@ -41,6 +43,8 @@ pub const BYTE: u8 = 0;
 pub const BYTE_SECOND: u8 = 2;
 /// Bytes of a wish record: input, output, two zero bytes, a binary32.
 pub const WISH_SIZE: usize = 8;
+/// Bytes of a task record: input, output, two zero bytes, start, end.
+pub const TASK_SIZE: usize = 12;
 /// The output of an idle input.
 pub const IDLE: u8 = 255;
 /// The largest line sum and the largest wish, so that every hold fits 16 bits.

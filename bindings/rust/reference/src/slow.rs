@@ -258,3 +258,40 @@ fn record(hold: u64, setting: &[usize]) -> Record {
     }
     Record { hold: hold as u16, outputs }
 }
+
+/// A task by its input, its output, its start and its end.
+pub type Task = (usize, usize, u64, u64);
+
+/// The open shop (§21.2), moment by moment.
+pub fn shop(demand: &Demand, d: u64) -> Vec<Task> {
+    let n = demand.len();
+    let (mut rest, mut tasks, mut now) = (demand.clone(), Vec::<Task>::new(), 0);
+    loop {
+        for j in 0..n {
+            if tasks.iter().any(|task| task.1 == j && task.3 > now) {
+                continue;
+            }
+            let idle = |i: &usize| tasks.iter().all(|task| task.0 != *i || task.3 <= now);
+            let ready = (0..n).filter(|&i| rest[i][j] != 0).find(idle);
+            if let Some(i) = ready {
+                tasks.push((i, j, now, now + d + rest[i][j]));
+                rest[i][j] = 0;
+            }
+        }
+        match tasks.iter().map(|task| task.3).filter(|&end| end > now).min() {
+            Some(finish) => now = finish,
+            None => return tasks,
+        }
+    }
+}
+
+/// The first task that the reader of §21.7 refuses, every one held against all before it.
+pub fn first_bad(n: usize, tasks: &[Task]) -> Option<usize> {
+    let shared = |a: &Task, b: &Task| a.0 == b.0 || a.1 == b.1;
+    tasks.iter().enumerate().position(|(k, task)| {
+        let fair = task.0 < n && task.1 < n && task.2 < task.3;
+        let rises = k == 0 || (tasks[k - 1].2, tasks[k - 1].1) < (task.2, task.1);
+        let clear = tasks[..k].iter().all(|other| !shared(task, other) || task.3 <= other.2 || other.3 <= task.2);
+        !(fair && rises && clear)
+    })
+}
