@@ -478,9 +478,9 @@ CV_NODISCARD cv_answer cv_carry_over(uint64_t n, const uint32_t *asked, size_t a
 /* ---- chordvenus-shop: tasks, for a switch whose ports move on their own ---- */
 
 /*
- * The open-shop plan (§21): every pair with slots is a task that takes d and its slots, d being the
- * switching time. At time 0 and at each finish, after all that end then are over, the idle outputs
- * from the lowest up each start a task with the lowest idle input that has one left for them. A task
+ * The open-shop plan (§21): every pair with slots is a task that takes d, for switching, and its
+ * slots. Tasks start at time 0 and whenever others have ended: the idle outputs, from the lowest up,
+ * each start one with the lowest idle input that has one left for them. A task
  * record is CV_TASK_SIZE bytes: input, output, a zero byte and another, the start in four bytes and the
  * end in four, low byte first; they stand in order of start, and of output where starts are equal. A
  * port is in one task at a time, and each task is over within the task times of its input and of its

@@ -381,8 +381,8 @@ pub fn carry_over(
 }
 
 /// The open-shop plan, for a switch whose ports move on their own: every pair with slots is a task that takes
-/// `d`, the switching time, and its slots. At time 0 and at each finish, after all that end then are over, the
-/// idle outputs from the lowest up each start a task with the lowest idle input that has one left for them.
+/// `d`, for switching, and its slots. Tasks start at time 0 and whenever others have ended: the idle outputs,
+/// from the lowest up, each start one with the lowest idle input that has one left for them.
 /// The records, of [`TASK_SIZE`] bytes, stand in order of start, and of output where starts are equal;
 /// [`Task::read`] reads one. N * N of them always suffice.
 ///
@@ -428,7 +428,8 @@ pub struct Task {
 impl Task {
     /// The task of a record, as [`shop`] writes it.
     pub fn read(record: &[u8; TASK_SIZE]) -> Task {
-        let word = |at: usize| u32::from_le_bytes([record[at], record[at + 1], record[at + 2], record[at + 3]]);
+        let word =
+            |at: usize| u32::from_le_bytes([record[at], record[at + 1], record[at + 2], record[at + 3]]);
         Task { input: record[0], output: record[1], start: word(4), end: word(8) }
     }
 }

@@ -45,7 +45,7 @@ fn plain(task: &Task) -> slow::Task {
     (task.input.into(), task.output.into(), task.start.into(), task.end.into())
 }
 
-/// What §21.4 says: each end is at most its input's and its output's task times less its own.
+/// What §21.4 says: each task is over within the task times of its two ports, its own counted once.
 fn within_its_ports(n: usize, cells: &[u32], d: u16, tasks: &[Task]) {
     let time = |cell: u32| if cell == 0 { 0 } else { u64::from(d) + u64::from(cell) };
     for task in tasks {
@@ -153,7 +153,10 @@ fn tasks() {
         let n = if rng.one_in(16) { cases::wild_ports(&mut rng, ports) } else { ports as u64 };
         let answer = chordvenus::tasks(n, &bytes);
         assert_eq!(answer, expected(reference::tasks(n, &bytes)), "case {case}: N = {n}, {bytes:?}");
-        if tear == 0 && answer.code != 1 && bytes.chunks(TASK_SIZE).all(|record| record[2] == 0 && record[3] == 0) {
+        if tear == 0
+            && answer.code != 1
+            && bytes.chunks(TASK_SIZE).all(|record| record[2] == 0 && record[3] == 0)
+        {
             let said: Vec<slow::Task> = read_all(&bytes).iter().map(plain).collect();
             let bad = slow::first_bad(n as usize, &said).map(|k| k as u64);
             assert_eq!((answer.code == 11).then_some(answer.place), bad, "case {case}: N = {n}, {bytes:?}");

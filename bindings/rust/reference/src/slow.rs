@@ -291,7 +291,8 @@ pub fn first_bad(n: usize, tasks: &[Task]) -> Option<usize> {
     tasks.iter().enumerate().position(|(k, task)| {
         let fair = task.0 < n && task.1 < n && task.2 < task.3;
         let rises = k == 0 || (tasks[k - 1].2, tasks[k - 1].1) < (task.2, task.1);
-        let clear = tasks[..k].iter().all(|other| !shared(task, other) || task.3 <= other.2 || other.3 <= task.2);
+        let clear =
+            tasks[..k].iter().all(|other| !shared(task, other) || task.3 <= other.2 || other.3 <= task.2);
         !(fair && rises && clear)
     })
 }
