@@ -11,13 +11,16 @@ ghost use mathlib.Core.Path.{_≡_};
 ghost use Prim.Native.Nat.{_*_, _≤_};
 ghost use lib.ListN.{length};
 ghost use Rattle.switch.specs.Demand.{cell};
-ghost use Rattle.switch.specs.Editions.{firstEdition, Bounded};
+ghost use Rattle.switch.specs.Editions.{firstEdition, secondEdition, Bounded};
 ghost use Rattle.plans.specs.Reading.{reading};
 ghost use Rattle.grants.specs.Grants.{Blank};
 ghost use Rattle.checker.specs.Check.{meeting, covering, checkPlan};
 
 // The pairs of a switch of 64 ports.
 const PAIRS: usize = 4096;
+
+// Those of a switch of 128 ports.
+const WIDE_PAIRS: usize = 16384;
 
 // How a plan's grants meet a demand.
 pub enum Meeting {
@@ -33,6 +36,14 @@ pub fn check_plan(n: usize, cells: &[u32], plan: &[u8]) -> Outcome
 {
     let mut grants = [0u32; PAIRS];
     check_for(n, cells, plan, switch::first_edition(), &mut grants)
+}
+
+// The same in the second edition.
+pub fn check_plan_second(n: usize, cells: &[u32], plan: &[u8]) -> Outcome
+    ensures { λ r. ⌜ r ≡ checkPlan secondEdition n (now (cells .entry)) (now (plan .entry)) ⌝ }
+{
+    let mut grants = [0u32; WIDE_PAIRS];
+    check_for(n, cells, plan, switch::second_edition(), &mut grants)
 }
 
 // The checker for an edition. The grants are lent, a number for each pair of its largest switch, all 0.

@@ -13,7 +13,7 @@ ghost use Prim.Native.Nat.{ℕ, _+_, _<_, _≤_, min};
 ghost use lib.ListN.{length, getD};
 ghost use Rattle.switch.specs.Result.{Gives};
 ghost use Rattle.records.specs.Bytes.{whole, bytes, laid};
-ghost use Rattle.switch.specs.Editions.{firstEdition, Bounded};
+ghost use Rattle.switch.specs.Editions.{firstEdition, secondEdition, Bounded};
 ghost use Rattle.settings.specs.Table.{entriesFrom, Roomy, Empty};
 ghost use Rattle.joining.specs.Join.{pieces, cut, joining};
 
@@ -32,6 +32,26 @@ pub fn join_plan(n: usize, plan: &[u8], joined: &mut [u8]) -> Outcome
         n,
         plan,
         switch::first_edition(),
+        &mut heads,
+        &mut nexts,
+        &mut firsts,
+        &mut totals,
+        joined,
+    )
+}
+
+// The same in the second edition.
+pub fn join_plan_second(n: usize, plan: &[u8], joined: &mut [u8]) -> Outcome
+    ensures { λ r. ⌜ Gives (joining secondEdition n (now (plan .entry)) (now (joined .entry))) r (now (joined .exit)) ⌝ }
+{
+    let mut heads = [0u16; settings::BUCKETS];
+    let mut nexts = [0u16; switch::WIDE_RECORDS];
+    let mut firsts = [0u16; switch::WIDE_RECORDS];
+    let mut totals = [0u32; switch::WIDE_RECORDS];
+    join_for(
+        n,
+        plan,
+        switch::second_edition(),
         &mut heads,
         &mut nexts,
         &mut firsts,

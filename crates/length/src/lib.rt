@@ -7,7 +7,7 @@ use switch::Refusal;
 ghost use mathlib.Core.Path.{_≡_};
 ghost use Prim.Native.Nat.{_<_, _≤_};
 ghost use Rattle.records.specs.Bytes.{whole, planOf};
-ghost use Rattle.switch.specs.Editions.{firstEdition, Bounded};
+ghost use Rattle.switch.specs.Editions.{firstEdition, secondEdition, Bounded};
 ghost use Rattle.plans.specs.Reading.{Readable, Passed};
 ghost use Rattle.length.specs.Length.{charge, planLength, Charged};
 
@@ -16,6 +16,13 @@ pub fn plan_length(n: usize, plan: &[u8], d: u16) -> Outcome
     ensures { λ r. ⌜ r ≡ planLength firstEdition d n (now (plan .entry)) ⌝ }
 {
     length_for(n, plan, d, switch::first_edition())
+}
+
+// The same in the second edition.
+pub fn plan_length_second(n: usize, plan: &[u8], d: u16) -> Outcome
+    ensures { λ r. ⌜ r ≡ planLength secondEdition d n (now (plan .entry)) ⌝ }
+{
+    length_for(n, plan, d, switch::second_edition())
 }
 
 // The length of a plan of an edition.

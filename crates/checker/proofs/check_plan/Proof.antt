@@ -1,8 +1,5 @@
 -- The first edition keeps to the bounds of every edition, and has 64 × 64 pairs.
-use mathlib.Core.Path.{ap, _∙_}
-use Rattle.switch.specs.declared.Edition.{Edition}
 use Rattle.switch.proofs.Editions.{first-bounded}
-use Rattle.checker.specs.Check.{checkPlan}
 use Rattle.grants.proofs.Grant.{blank-zeros}
 use borrow.Author.Needs.{needs}
 use Rattle.checker.proofs.check_plan.Statement.{statement}
@@ -18,9 +15,7 @@ check-for-requires : tie.Need-check-for-requires
 check-for-requires c κs = rw (c .before .first-edition .ensures) (first-bounded, blank-zeros 4096)
 
 returns : tie.Need-returns
-returns c =
-    let a = c .before .before .before .before .before .before .args in
-    c .before .check-for .ensures ∙ ap (λ (e : Edition). checkPlan e (a .n) (a .cells .now) (a .plan .now)) (c .before .before .before .first-edition .ensures)
+returns c = rw (c .before .before .before .first-edition .ensures) at (c .before .check-for .ensures)
 
 pub check-plan-spec : {M : Type 1} → statement M
 check-plan-spec =

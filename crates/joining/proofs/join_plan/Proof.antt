@@ -1,11 +1,7 @@
 -- The first edition keeps to the bounds of every edition, and new arrays are an empty table with an entry for each of 8,192 records.
-use mathlib.Core.Path.{sym, ap}
 use native.Mathlib.Omega.{arith}
-use Rattle.switch.proofs.Result.{gives-as}
-use Rattle.switch.specs.declared.Edition.{Edition}
 use Rattle.switch.proofs.Editions.{first-bounded}
 use Rattle.settings.proofs.Next.{empty-zeros, roomy-zeros}
-use Rattle.joining.specs.Join.{joining}
 use borrow.Author.Needs.{needs}
 use Rattle.joining.proofs.join_plan.Statement.{statement}
 use Rattle.joining.proofs.join_plan.Tie as tie
@@ -32,11 +28,7 @@ same-length : tie.Need-same-length
 same-length c = search needs
 
 returns : tie.Need-returns
-returns c =
-    let a = c .before .before .before .before .before .before .before .before .before .before .before .before .before .before .before .args in
-    let j = c .before .before .before .before .before .before .join-for .ensures in
-    let q = c .before .before .before .before .before .before .before .before .before .before .before .before .first-edition .ensures in
-    gives-as (ap (λ (e : Edition). joining e (a .n) (a .plan .now) (a .joined .now)) (sym q)) j
+returns c = rw (c .before .before .before .before .before .before .before .before .before .before .before .before .first-edition .ensures) at (c .before .before .before .before .before .before .join-for .ensures)
 
 pub join-plan-spec : {M : Type 1} → statement M
 join-plan-spec =

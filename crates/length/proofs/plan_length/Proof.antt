@@ -1,8 +1,5 @@
 -- The first edition keeps to the bounds of every edition.
-use mathlib.Core.Path.{ap, _∙_}
-use Rattle.switch.specs.declared.Edition.{Edition}
 use Rattle.switch.proofs.Editions.{first-bounded}
-use Rattle.length.specs.Length.{planLength}
 use borrow.Author.Needs.{needs}
 use Rattle.length.proofs.plan_length.Statement.{statement}
 use Rattle.length.proofs.plan_length.Tie as tie
@@ -14,7 +11,7 @@ length-for-requires : tie.Need-length-for-requires
 length-for-requires c κs = rw (c .first-edition .ensures) first-bounded
 
 returns : tie.Need-returns
-returns c = c .length-for .ensures ∙ ap (λ (e : Edition). planLength e (c .before .before .before .args .d) (c .before .before .before .args .n) (c .before .before .before .args .plan .now)) (c .before .first-edition .ensures)
+returns c = rw (c .before .first-edition .ensures) at (c .length-for .ensures)
 
 pub plan-length-spec : {M : Type 1} → statement M
 plan-length-spec = tie.close (tie.spec first-edition-requires length-for-requires returns)
