@@ -94,6 +94,13 @@ enum {
     CV_MOST_RECORDS = 8192    /* the most records of a plan that is read */
 };
 
+/* The second edition (§18): switches of up to 128 ports, whose records have the byte 2 behind N and 128 outputs. */
+enum {
+    CV2_MOST_PORTS = 128,     /* the largest N */
+    CV2_RECORD_SIZE = 132,    /* bytes of a plan record */
+    CV2_MOST_RECORDS = 32768  /* the most records of a plan that is read */
+};
+
 /*
  * Bytes that hold the plan of every demand, for arrays: of n ports for the exact and the doubled plan, by
  * either rule, and of lines of up to `longest` slots for the quick cover, whose most is CV_MOST_QUICK.
@@ -134,6 +141,15 @@ enum {
 #define CV_STACK_WRITE 1024
 #define CV_STACK_OPEN 256
 #define CV_STACK_STEP_AT 1024
+#define CV2_STACK_WISHES 4096
+#define CV2_STACK_CHECK 69632
+#define CV2_STACK_LENGTH 1024
+#define CV2_STACK_JOIN 294912
+#define CV2_STACK_WRITE 1024
+#define CV2_STACK_OPEN 256
+#define CV2_STACK_STEP_AT 1024
+#define CV_STACK_TO_SECOND 1024
+#define CV_STACK_TO_FIRST 1024
 #define CV_STACK_IN_FORCE 1024
 #define CV_STACK_CARRY_OVER 20480
 #define CV_STACK_SHOP 2048
@@ -153,7 +169,8 @@ enum {
     CV_BELOW_ZERO = 7,  /* the wish is less than 0; its record */
     CV_ABOVE_MOST = 8,  /* the wish is more than 65,535; its record */
     CV_TORN = 9,        /* bytes are left over after the last whole record; whole records */
-    CV_RECORDS = 10,    /* a plan that is read has more than 8,192 records; 8,192 */
+    CV_RECORDS = 10,    /* a plan that is read has more than 8,192 records, or in cv2_ calls 32,768;
+                           so many */
     CV_MALFORMED = 11,  /* a record is not well formed, or a wish has a port that is not below N or a
                            third or fourth byte other than 0; its number. Of tasks: cv_tasks says */
     CV_NAMED = 12,      /* the wish names a pair that a record before it named; its record */
@@ -196,6 +213,14 @@ typedef struct {
     uint8_t outputs[64];  /* CV_STEP_RECORD: its outputs by input; else all CV_IDLE */
 } cv_step;
 
+/* One step through a plan of the second edition: as cv_step, with 128 outputs */
+typedef struct cv2_step {
+    uint64_t kind;
+    uint64_t place;
+    uint64_t hold;
+    uint8_t outputs[128];
+} cv2_step;
+
 /* Where the record in force stands: `size` bytes of a plan, from byte `start` on. */
 typedef struct {
     cv_answer answer;  /* every count in it is 0 */
@@ -209,11 +234,13 @@ typedef struct {
 static_assert(sizeof(cv_answer) == 88, "11 numbers of 8 bytes");
 static_assert(sizeof(cv_step) == 88, "3 numbers of 8 bytes and 64 bytes");
 static_assert(sizeof(cv_part) == 112, "an answer and 3 numbers of 8 bytes");
+static_assert(sizeof(cv2_step) == 152, "3 numbers of 8 bytes and 128 bytes");
 static_assert(sizeof(size_t) == 8, "a length has 8 bytes");
 #elif defined(__STDC_VERSION__) && __STDC_VERSION__ >= 201112L
 _Static_assert(sizeof(cv_answer) == 88, "11 numbers of 8 bytes");
 _Static_assert(sizeof(cv_step) == 88, "3 numbers of 8 bytes and 64 bytes");
 _Static_assert(sizeof(cv_part) == 112, "an answer and 3 numbers of 8 bytes");
+_Static_assert(sizeof(cv2_step) == 152, "3 numbers of 8 bytes and 128 bytes");
 _Static_assert(sizeof(size_t) == 8, "a length has 8 bytes");
 #endif
 
@@ -441,6 +468,33 @@ CV_NODISCARD cv_answer cv_open(uint64_t n, const uint8_t *plan, size_t plan_len)
  * Writes: nothing.
  */
 CV_NODISCARD cv_step cv_step_at(uint64_t n, const uint8_t *plan, size_t plan_len, uint64_t at);
+
+/* ---- chordvenus-second: the second edition, and the way between the two ---- */
+
+/*
+ * The same calls for switches of up to 128 ports (§18): code 1 is given where N is 0 or more than
+ * CV2_MOST_PORTS, records have CV2_RECORD_SIZE bytes, code 10 and its place are CV2_MOST_RECORDS, and
+ * cv2_write's outputs are 128 bytes. All else is as the cv_ call of the same name says.
+ */
+CV_NODISCARD cv_answer cv2_wishes(uint64_t n, const uint8_t *list, size_t list_len, uint32_t *cells, size_t cells_len);
+CV_NODISCARD cv_answer cv2_check(uint64_t n, const uint32_t *cells, size_t cells_len, const uint8_t *plan, size_t plan_len);
+CV_NODISCARD cv_answer cv2_length(uint64_t n, const uint8_t *plan, size_t plan_len, uint16_t d);
+CV_NODISCARD cv_answer cv2_join(uint64_t n, const uint8_t *plan, size_t plan_len, uint8_t *joined, size_t joined_len);
+CV_NODISCARD cv_answer cv2_write(uint16_t hold, uint64_t n, const uint8_t outputs[128], uint8_t *plan, size_t plan_len);
+CV_NODISCARD cv_answer cv2_open(uint64_t n, const uint8_t *plan, size_t plan_len);
+CV_NODISCARD cv2_step cv2_step_at(uint64_t n, const uint8_t *plan, size_t plan_len, uint64_t at);
+
+/*
+ * Moves a plan (§18): the same holds and settings as records of the other edition, in a second buffer.
+ * Either way N is at most CV_MOST_PORTS and the records at most CV_MOST_RECORDS. A moved plan grants what
+ * it granted, and moved back it is the same bytes.
+ * Codes:  1, 9 and 11 by the records that are read, 10 (place CV_MOST_RECORDS), 5 by those written, in
+ *         the order 1, 9, 10, 11, 5.
+ * Writes: the moved plan's records, at the start of moved; no later byte. The plan is only read.
+ * Done:   records and total of the moved plan.
+ */
+CV_NODISCARD cv_answer cv_to_second(uint64_t n, const uint8_t *plan, size_t plan_len, uint8_t *moved, size_t moved_len);
+CV_NODISCARD cv_answer cv_to_first(uint64_t n, const uint8_t *plan, size_t plan_len, uint8_t *moved, size_t moved_len);
 
 /* ---- chordvenus-console: the record in force, and what a stopped batch leaves ---- */
 

@@ -26,15 +26,22 @@ LISTED_PORTS = 16  # the most ports of the lister
 
 
 class Edition(NamedTuple):
-    """The most inputs, which are the outputs that a record has room for, the bytes of a record, and its byte behind N."""
+    """The outputs of a record, the byte behind N, the most inputs, and the most records of a plan that is read."""
 
-    ports: int
-    record: int
+    width: int
     byte: int
+    ports: int
+    records: int
+
+    @property
+    def record(self):
+        """The bytes of a record."""
+        return self.width + 4
 
 
-FIRST = Edition(PORTS, RECORD, 0)
-SECOND = Edition(128, 132, 2)
+FIRST = Edition(PORTS, 0, PORTS, RECORDS)
+SECOND = Edition(SECOND_PORTS, 2, SECOND_PORTS, 32_768)
+MOVABLE = Edition(SECOND_PORTS, 2, PORTS, RECORDS)  # plans of the second edition that the first has room for
 
 
 class Answer(NamedTuple):
@@ -132,9 +139,9 @@ def wish_slots(bits):
     return 0, max(2, math.ceil(wish)) if wish else 0
 
 
-def read_wishes(n, wishes, cells):
+def read_wishes(n, wishes, cells, edition=FIRST):
     """A wish list to a demand: the answer, and the lent cells afterwards."""
-    if n == 0 or n > PORTS:
+    if n == 0 or n > edition.ports:
         return Answer(1), cells
     if len(cells) != n * n:
         return Answer(2, n * n), cells
@@ -162,43 +169,43 @@ def read_wishes(n, wishes, cells):
 
 def record_bytes(hold, n, outputs, edition=FIRST):
     """The bytes of one record; outputs beyond those given are idle."""
-    return bytes([hold % 256, hold // 256, n, edition.byte, *outputs]) + bytes([IDLE] * (edition.ports - len(outputs)))
+    return bytes([hold % 256, hold // 256, n, edition.byte, *outputs]) + bytes([IDLE] * (edition.width - len(outputs)))
 
 
-def well_formed(n, record):
+def well_formed(n, record, edition=FIRST):
     hold = record[0] + 256 * record[1]
     first, later = record[4 : 4 + n], record[4 + n :]
     joined = [j for j in first if j < n]
     return (
         hold >= 1
         and record[2] == n
-        and record[3] == 0
+        and record[3] == edition.byte
         and all(j < n or j == IDLE for j in first)
         and len(set(joined)) == len(joined)
         and all(j == IDLE for j in later)
     )
 
 
-def write_record(n, hold, outputs, buffer):
-    """One record at the start of the lent buffer, from 64 outputs: the answer, and the buffer afterwards."""
-    if n == 0 or n > PORTS:
+def write_record(n, hold, outputs, buffer, edition=FIRST):
+    """One record at the start of the lent buffer, from all its outputs: the answer, and the buffer afterwards."""
+    if n == 0 or n > edition.ports:
         return Answer(1), buffer
-    if len(buffer) < RECORD:
+    if len(buffer) < edition.record:
         return Answer(5, 1), buffer
-    record = bytes([hold % 256, hold // 256, n, 0, *outputs])
-    if not well_formed(n, record):
+    record = record_bytes(hold, n, outputs, edition)
+    if not well_formed(n, record, edition):
         return Answer(11), buffer
-    return Answer(records=1, total=hold), record + buffer[RECORD:]
+    return Answer(records=1, total=hold), record + buffer[edition.record :]
 
 
-def refused_plan(n, plan):
+def refused_plan(n, plan, edition=FIRST):
     """Codes 1, 9 and 10 in turn, or None where the plan may be read."""
-    if n == 0 or n > PORTS:
+    if n == 0 or n > edition.ports:
         return Answer(1)
-    if len(plan) % RECORD:
-        return Answer(9, len(plan) // RECORD)
-    if len(plan) // RECORD > RECORDS:
-        return Answer(10, RECORDS)
+    if len(plan) % edition.record:
+        return Answer(9, len(plan) // edition.record)
+    if len(plan) // edition.record > edition.records:
+        return Answer(10, edition.records)
     return None
 
 
@@ -208,14 +215,15 @@ class Reader(NamedTuple):
     n: int
     plan: bytes
     at: int
+    edition: Edition = FIRST
 
 
-def open_plan(n, plan):
+def open_plan(n, plan, edition=FIRST):
     """Opens a plan for an N: the answer, and the reader."""
-    refused = refused_plan(n, plan)
+    refused = refused_plan(n, plan, edition)
     if refused:
-        return refused, Reader(n, b"", 0)
-    return Answer(records=len(plan) // RECORD), Reader(n, plan, 0)
+        return refused, Reader(n, b"", 0, edition)
+    return Answer(records=len(plan) // edition.record), Reader(n, plan, 0, edition)
 
 
 class Step(NamedTuple):
@@ -229,19 +237,19 @@ class Step(NamedTuple):
 
 def step(reader):
     """The next record, or the end, or code 11; after the last two the reader stays where it is."""
-    nothing = bytes([IDLE] * PORTS)
-    record = reader.plan[reader.at * RECORD : (reader.at + 1) * RECORD]
+    nothing = bytes([IDLE] * reader.edition.width)
+    record = reader.plan[reader.at * reader.edition.record : (reader.at + 1) * reader.edition.record]
     if not record:
         return Step("end", 0, 0, nothing), reader
-    if not well_formed(reader.n, record):
+    if not well_formed(reader.n, record, reader.edition):
         return Step("malformed", reader.at, 0, nothing), reader
     hold = record[0] + 256 * record[1]
     return Step("record", reader.at, hold, record[4:]), reader._replace(at=reader.at + 1)
 
 
-def read_plan(n, plan):
+def read_plan(n, plan, edition=FIRST):
     """Every record of a plan: (refusal or None, list of (hold, outputs))."""
-    refused, reader = open_plan(n, plan)
+    refused, reader = open_plan(n, plan, edition)
     if refused.code:
         return refused, []
     records = []
@@ -434,11 +442,11 @@ def quick_plan(n, cells, buffer, edition=FIRST):
 # ---- The checker and the length
 
 
-def check_plan(n, cells, plan):
-    refused = refused_demand(n, cells) or refused_plan(n, plan)
+def check_plan(n, cells, plan, edition=FIRST):
+    refused = refused_demand(n, cells, edition) or refused_plan(n, plan, edition)
     if refused:
         return refused
-    refused, records = read_plan(n, plan)
+    refused, records = read_plan(n, plan, edition)
     if refused:
         return refused
     for k, (granted, asked) in enumerate(zip(grants(n, records), cells)):
@@ -447,11 +455,11 @@ def check_plan(n, cells, plan):
     return counted(n, cells, records)
 
 
-def plan_length(n, plan, d):
-    refused = refused_plan(n, plan)
+def plan_length(n, plan, d, edition=FIRST):
+    refused = refused_plan(n, plan, edition)
     if refused:
         return refused
-    refused, records = read_plan(n, plan)
+    refused, records = read_plan(n, plan, edition)
     if refused:
         return refused
     total = total_hold(records)
@@ -557,16 +565,27 @@ def join_list(records):
     return plan
 
 
-def join_plan(n, plan, buffer):
+def lay(n, records, buffer, edition):
+    """Records at the start of the lent buffer, or code 5: the answer of a call that makes a plan of another, and the buffer afterwards."""
+    if len(buffer) // edition.record < len(records):
+        return Answer(5, len(records)), buffer
+    written = b"".join(record_bytes(hold, n, outputs, edition) for hold, outputs in records)
+    return Answer(records=len(records), total=total_hold(records)), written + buffer[len(written) :]
+
+
+def join_plan(n, plan, buffer, edition=FIRST):
     """Joins equal settings into the lent buffer: the answer, and the buffer afterwards."""
-    refused, records = read_plan(n, plan)
-    if refused:
-        return refused, buffer
-    joined = join_list(records)
-    if len(buffer) // RECORD < len(joined):
-        return Answer(5, len(joined)), buffer
-    written = b"".join(record_bytes(hold, n, outputs) for hold, outputs in joined)
-    return Answer(records=len(joined), total=total_hold(joined)), written + buffer[len(written) :]
+    refused, records = read_plan(n, plan, edition)
+    return (refused, buffer) if refused else lay(n, join_list(records), buffer, edition)
+
+
+# ---- From one edition to another
+
+
+def move_plan(n, plan, buffer, edition, other):
+    """A plan of one edition written as one of another into the lent buffer: the answer, and the buffer afterwards."""
+    refused, records = read_plan(n, plan, edition)
+    return (refused, buffer) if refused else lay(n, [(hold, outputs[:n]) for hold, outputs in records], buffer, other)
 
 
 # ---- The grating fabric
@@ -840,6 +859,24 @@ def edges():
     same("1,025 by quick", quick_plan(1, [1_025], room)[0], Answer(4))
 
 
+def second_edges():
+    idle = record_bytes(1, 1, [IDLE], SECOND)
+    same("a record of the second edition", idle, bytes([1, 0, 1, 2]) + bytes([255] * 128))
+    same("32,768 records", check_plan(1, [0], idle * 32_768, SECOND).records, 32_768)
+    same("32,769 records", plan_length(1, idle * 32_769, 0, SECOND), Answer(10, 32_768))
+    same("8,192 records moved", move_plan(1, idle * 8_192, bytes(68 * 8_192), MOVABLE, FIRST)[0], Answer(records=8_192, total=8_192))
+    same("8,193 records not moved", move_plan(1, idle * 8_193, b"", MOVABLE, FIRST), (Answer(10, 8_192), b""))
+    same("65 ports not moved", move_plan(65, b"", b"", MOVABLE, FIRST), (Answer(1), b""))
+    same("the other edition's byte", plan_length(1, record_bytes(1, 1, [0])[:4] + idle[4:], 0, SECOND), Answer(11, 0))
+    for n in (1, 64, 65, 127, 128):
+        plan = record_bytes(3, n, [(i + 1) % n for i in range(n)], SECOND)
+        same(f"{n} ports", plan_length(n, plan, 2, SECOND), Answer(records=1, total=3, length=5))
+        same("a byte short", join_plan(n, plan, bytes(131), SECOND), (Answer(5, 1), bytes(131)))
+    same("129 ports", open_plan(129, b"", SECOND)[0], Answer(1))
+    for output in range(128, 255):
+        same("no such output", check_plan(128, [0] * 128**2, record_bytes(1, 128, [output], SECOND), SECOND), Answer(11, 0))
+
+
 def brute_first(n, cells):
     """The first full setting by trying every permutation in dictionary order."""
     return next(list(p) for p in itertools.permutations(range(n)) if all(cells[i * n + p[i]] for i in range(n)))
@@ -876,6 +913,17 @@ def laws(n, cells):
         same("read back", read_plan(n, written[:-5])[1], [(hold, outputs + [IDLE] * (PORTS - n)) for hold, outputs in plan])
         moved = sum(1 for k, (_, outputs) in enumerate(plan) if k == 0 or outputs != plan[k - 1][1])
         same("length", plan_length(n, written[:-5], 7).length, total_hold(plan) + 7 * moved)
+
+
+def move_laws(rng, n):
+    """What §18.5 promises of a random plan: it grants the same, and there and back it is the same bytes."""
+    records = [(rng.choice([1, 7, 65_535]), rng.sample([*range(n), *[IDLE] * n], n)) for _ in range(rng.randint(0, 5))]
+    for edition, other, again in ((FIRST, SECOND, MOVABLE), (MOVABLE, FIRST, FIRST)):
+        plan = b"".join(record_bytes(hold, n, outputs, edition) for hold, outputs in records)
+        answer, moved = move_plan(n, plan, bytes(len(records) * other.record), edition, other)
+        same("moved", answer, Answer(records=len(records), total=total_hold(records)))
+        same("moved grants", grants(n, read_plan(n, moved, other)[1]), grants(n, records))
+        same("there and back", move_plan(n, moved, bytes(len(plan)), again, edition), (answer, plan))
 
 
 def join_laws(rng, n):
@@ -973,6 +1021,7 @@ def random_demand(rng, n, most, share):
 def selftest():
     examples()
     edges()
+    second_edges()
     rng = random.Random(68)
     for _ in range(400):
         n = rng.choice([1, 2, 2, 3, 3, 4, 4, 5, 6, 7])
@@ -988,6 +1037,7 @@ def selftest():
         shop_laws(n, cells, 2)
     for _ in range(400):
         join_laws(rng, rng.choice([1, 2, 3, 5, 8, 64]))
+        move_laws(rng, rng.choice([1, 2, 3, 5, 8, 63, 64]))
         console_laws(rng, rng.choice([1, 2, 3, 5, 8, 64]))
     print("the examples, the edges and the laws on 402 demands and 400 plans hold")
 

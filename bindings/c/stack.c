@@ -20,6 +20,10 @@ enum { FENCE = 64 * 1024, LARGEST = 512 * 1024, PAINT = 0x5a };
 
 static uint32_t cells[N * N], renewed[N * N];
 static uint8_t plan[ROOM], made[ROOM], list[N * N * CV_WISH_SIZE], tasked[CV_SHOP_ROOM(N)];
+enum { WIDE_ROOM = CV2_MOST_RECORDS * CV2_RECORD_SIZE };
+static uint32_t wide_cells[4 * N * N];
+static uint8_t wide_plan[WIDE_ROOM], wide_made[WIDE_ROOM], moved[RECORDS * CV2_RECORD_SIZE];
+static cv2_step wide_step;
 static size_t room;
 static cv_answer answer;
 static cv_step step;
@@ -56,6 +60,15 @@ static void join(void) { answer = cv_join(N, plan, ROOM, made, room); }
 static void write_one(void) { answer = cv_write(65535, N, plan + 4, made, room); }
 static void open_plan(void) { answer = cv_open(N, plan, ROOM); }
 static void step_at(void) { step = cv_step_at(N, plan, ROOM, RECORDS - 1); }
+static void wide_wishes(void) { answer = cv2_wishes(2 * N, list, sizeof list, wide_cells, 4 * N * N); }
+static void wide_check(void) { answer = cv2_check(2 * N, wide_cells, 4 * N * N, wide_plan, WIDE_ROOM); }
+static void wide_length(void) { answer = cv2_length(2 * N, wide_plan, WIDE_ROOM, 65535); }
+static void wide_join(void) { answer = cv2_join(2 * N, wide_plan, WIDE_ROOM, wide_made, WIDE_ROOM); }
+static void wide_write(void) { answer = cv2_write(65535, 2 * N, wide_plan + 4, wide_made, WIDE_ROOM); }
+static void wide_open(void) { answer = cv2_open(2 * N, wide_plan, WIDE_ROOM); }
+static void wide_step_at(void) { wide_step = cv2_step_at(2 * N, wide_plan, WIDE_ROOM, CV2_MOST_RECORDS - 1); }
+static void to_second(void) { answer = cv_to_second(N, plan, ROOM, wide_made, WIDE_ROOM); }
+static void to_first(void) { answer = cv_to_first(N, moved, sizeof moved, made, ROOM); }
 static void in_force(void) { part = cv_in_force(N, plan, ROOM, plan, ROOM, UINT64_MAX); }
 static void shop(void) { answer = cv_shop(N, cells, N * N, 65535, made, room); }
 static void tasks(void) { answer = cv_tasks(N, tasked, TASKS); }
@@ -113,19 +126,28 @@ static void mixed(void)
     }
 }
 
-/* A wish for every pair, and the most records: rotations at the largest hold, over and over. */
+/* Rotations at the largest hold, over and over, as records of an edition. */
+static void rotations(uint8_t *bytes, int ports, int size, uint8_t edition, int records)
+{
+    for (int k = 0; k < records; k++) {
+        uint8_t *record = bytes + (size_t)k * size;
+        memset(record, CV_IDLE, size);
+        memcpy(record, (uint8_t[]){0xff, 0xff, (uint8_t)ports, edition}, 4);
+        for (int i = 0; i < ports; i++)
+            record[4 + i] = (uint8_t)((i + k) % ports);
+    }
+}
+
+/* A wish for every pair, and the most records of each edition. */
 static void fill_lists(void)
 {
     for (int k = 0; k < N * N; k++)
         memcpy(list + k * CV_WISH_SIZE, (uint8_t[]){(uint8_t)(k / N), (uint8_t)(k % N), 0, 0, 0, 0, 0x80, 0x3f}, CV_WISH_SIZE);
     for (int k = 0; k < N * N; k++)
         memcpy(tasked + k * CV_TASK_SIZE, (uint8_t[]){(uint8_t)(k % N), (uint8_t)(k / N), 0, 0, (uint8_t)k, (uint8_t)(k >> 8), 0, 0, (uint8_t)(k + 1), (uint8_t)((k + 1) >> 8), 0, 0}, CV_TASK_SIZE);
-    for (int k = 0; k < RECORDS; k++) {
-        uint8_t *record = plan + k * CV_RECORD_SIZE;
-        memcpy(record, (uint8_t[]){0xff, 0xff, N, 0}, 4);
-        for (int i = 0; i < N; i++)
-            record[4 + i] = (uint8_t)((i + k) % N);
-    }
+    rotations(plan, N, CV_RECORD_SIZE, 0, RECORDS);
+    rotations(wide_plan, 2 * N, CV2_RECORD_SIZE, 2, CV2_MOST_RECORDS);
+    rotations(moved, N, CV2_RECORD_SIZE, 2, RECORDS);
 }
 
 /* The most that a call takes, with room to spare and with just the room it needs. */
@@ -161,6 +183,11 @@ int main(void)
         {"cv_step_at", step_at, CV_STACK_STEP_AT}, {"cv_in_force", in_force, CV_STACK_IN_FORCE},
         {"cv_carry_over", carry_over, CV_STACK_CARRY_OVER},
         {"cv_shop", shop, CV_STACK_SHOP},         {"cv_tasks", tasks, CV_STACK_TASKS},
+        {"cv2_wishes", wide_wishes, CV2_STACK_WISHES},     {"cv2_check", wide_check, CV2_STACK_CHECK},
+        {"cv2_length", wide_length, CV2_STACK_LENGTH},     {"cv2_join", wide_join, CV2_STACK_JOIN},
+        {"cv2_write", wide_write, CV2_STACK_WRITE},        {"cv2_open", wide_open, CV2_STACK_OPEN},
+        {"cv2_step_at", wide_step_at, CV2_STACK_STEP_AT},  {"cv_to_second", to_second, CV_STACK_TO_SECOND},
+        {"cv_to_first", to_first, CV_STACK_TO_FIRST},
         {"cv_wishes", wishes, CV_STACK_WISHES},
     };
     uint8_t *fence = mmap(NULL, FENCE + LARGEST, PROT_READ | PROT_WRITE, MAP_PRIVATE | MAP_ANONYMOUS, -1, 0);

@@ -1108,6 +1108,98 @@ static void task_reading(void)
     ANSWERS(read_tasks(1, lay_tasks(twice, 3)), .code = CV_DONE, .records = 3, .total = UINT32_MAX);
 }
 
+/* ---- the second edition, and the move ---- */
+
+static uint8_t wide[(CV2_MOST_RECORDS + 1) * CV2_RECORD_SIZE], other[(CV_MOST_RECORDS + 1) * CV2_RECORD_SIZE];
+
+/* Records of an edition for n ports: input i of record k has output (i + k) mod n, for k mod 7 + 1 slots. */
+static void rotate(uint8_t *bytes, unsigned n, size_t size, uint8_t edition, size_t records)
+{
+    for (size_t k = 0; k < records; k++) {
+        uint8_t *record = bytes + k * size;
+        memset(record, CV_IDLE, size);
+        memcpy(record, (uint8_t[]){(uint8_t)(k % 7 + 1), 0, (uint8_t)n, edition}, 4);
+        for (unsigned i = 0; i < n && i + 4 < size; i++)
+            record[4 + i] = (uint8_t)((i + k) % n);
+    }
+}
+
+static void second_edition(void)
+{
+    const unsigned ports[] = {1, 64, 65, 127, 128};
+    const size_t three = 3 * CV2_RECORD_SIZE;
+    static uint32_t asked[CV2_MOST_PORTS * CV2_MOST_PORTS];
+    for (size_t k = 0; k < sizeof ports / sizeof *ports; k++) {
+        unsigned n = ports[k];
+        rotate(wide, n, CV2_RECORD_SIZE, 2, 3);
+        ANSWERS(cv2_open(n, wide, three), .records = 3);
+        ANSWERS(cv2_length(n, wide, three, 2), .records = 3, .total = 6, .length = n == 1 ? 8 : 12);
+        ANSWERS(cv2_join(n, wide, three, other, three), .records = n == 1 ? 1 : 3, .total = 6);
+        REFUSES(cv2_join(n, wide, three, other, n == 1 ? CV2_RECORD_SIZE - 1 : three - 1), CV_ROOM, n == 1 ? 1 : 3);
+        memset(asked, 0, sizeof asked);
+        asked[n * n - 1] = 1;
+        ANSWERS(cv2_check(n, asked, n * n, wide, three), .records = 3, .longest = 1, .total = 6, .empty = 6 * n - 1);
+        asked[n * n - 1] = 7;
+        REFUSES(cv2_check(n, asked, n * n, wide, three), CV_UNCOVERED, n * n - 1);
+        cv2_step step = cv2_step_at(n, wide, three, 2);
+        CHECK(step.kind == CV_STEP_RECORD && step.hold == 3 && memcmp(step.outputs, wide + 2 * CV2_RECORD_SIZE + 4, 128) == 0);
+        CHECK(cv2_step_at(n, wide, three, 3).kind == CV_STEP_END);
+        ANSWERS(cv2_write(3, n, wide + 2 * CV2_RECORD_SIZE + 4, other, CV2_RECORD_SIZE), .records = 1, .total = 3);
+        CHECK(memcmp(other, wide + 2 * CV2_RECORD_SIZE, CV2_RECORD_SIZE) == 0);
+        REFUSES(cv2_write(3, n, wide + 4, other, CV2_RECORD_SIZE - 1), CV_ROOM, 1);
+        for (unsigned output = 128; output < CV_IDLE; output++) {
+            wide[CV2_RECORD_SIZE + 4] = (uint8_t)output;
+            REFUSES(cv2_length(n, wide, three, 0), CV_MALFORMED, 1);
+        }
+        rotate(wide, n, CV2_RECORD_SIZE, 0, 3); /* the other edition's byte */
+        REFUSES(cv2_length(n, wide, three, 0), CV_MALFORMED, 0);
+        CHECK(cv2_step_at(n, wide, three, 1).kind == CV_STEP_MALFORMED);
+        REFUSES(cv2_length(n, wide, three - 1, 0), CV_TORN, 2);
+    }
+    for (uint64_t n = 129; n != 1; n = n == 129 ? 0 : 1) {
+        REFUSES(cv2_open(n, wide, three), CV_PORTS, 0);
+        REFUSES(cv2_wishes(n, NULL, 0, asked, 1), CV_PORTS, 0);
+    }
+    ANSWERS(cv2_wishes(128, (const uint8_t[]){127, 126, 0, 0, 0, 0, 0x40, 0x40}, 8, asked, 128 * 128), .records = 1);
+    CHECK(asked[127 * 128 + 126] == 3 && asked[0] == 0);
+    rotate(wide, 1, CV2_RECORD_SIZE, 2, CV2_MOST_RECORDS + 1);
+    ANSWERS(cv2_open(1, wide, sizeof wide - CV2_RECORD_SIZE), .records = CV2_MOST_RECORDS);
+    REFUSES(cv2_open(1, wide, sizeof wide), CV_RECORDS, CV2_MOST_RECORDS);
+    REFUSES(cv2_join(1, wide, sizeof wide, other, sizeof other), CV_RECORDS, CV2_MOST_RECORDS);
+}
+
+static void moves(void)
+{
+    const unsigned ports[] = {1, 2, 63, 64};
+    static uint8_t back[3 * CV_RECORD_SIZE + 1];
+    for (size_t k = 0; k < sizeof ports / sizeof *ports; k++) {
+        unsigned n = ports[k];
+        rotate(wide, n, CV_RECORD_SIZE, 0, 3);
+        REFUSES(cv_to_second(n, wide, 3 * CV_RECORD_SIZE, other, 3 * CV2_RECORD_SIZE - 1), CV_ROOM, 3);
+        memset(other, FILL, sizeof other);
+        ANSWERS(cv_to_second(n, wide, 3 * CV_RECORD_SIZE, other, sizeof other), .records = 3, .total = 6);
+        CHECK(other[3] == 2 && other[4 + n] == CV_IDLE && other[3 * CV2_RECORD_SIZE] == FILL);
+        memset(back, FILL, sizeof back);
+        ANSWERS(cv_to_first(n, other, 3 * CV2_RECORD_SIZE, back, sizeof back), .records = 3, .total = 6);
+        CHECK(memcmp(back, wide, 3 * CV_RECORD_SIZE) == 0 && back[3 * CV_RECORD_SIZE] == FILL);
+        REFUSES(cv_to_first(n, other, 3 * CV2_RECORD_SIZE, back, 3 * CV_RECORD_SIZE - 1), CV_ROOM, 3);
+        other[CV2_RECORD_SIZE + 4 + 64] = 0;
+        REFUSES(cv_to_first(n, other, 3 * CV2_RECORD_SIZE, back, sizeof back), CV_MALFORMED, 1);
+        REFUSES(cv_to_first(n, other, 3 * CV2_RECORD_SIZE - 1, back, sizeof back), CV_TORN, 2);
+    }
+    rotate(wide, 65, CV2_RECORD_SIZE, 2, 1);
+    REFUSES(cv_to_first(65, wide, CV2_RECORD_SIZE, back, sizeof back), CV_PORTS, 0);
+    REFUSES(cv_to_second(65, wide, CV2_RECORD_SIZE, back, sizeof back), CV_PORTS, 0);
+    rotate(wide, 1, CV_RECORD_SIZE, 0, CV_MOST_RECORDS + 1);
+    REFUSES(cv_to_second(1, wide, (CV_MOST_RECORDS + 1) * CV_RECORD_SIZE, other, sizeof other), CV_RECORDS, CV_MOST_RECORDS);
+    cv_answer answer = cv_to_second(1, wide, CV_MOST_RECORDS * CV_RECORD_SIZE, other, sizeof other);
+    CHECK(answer.code == CV_DONE && answer.records == CV_MOST_RECORDS);
+    rotate(wide, 1, CV2_RECORD_SIZE, 2, CV_MOST_RECORDS + 1);
+    REFUSES(cv_to_first(1, wide, (CV_MOST_RECORDS + 1) * CV2_RECORD_SIZE, other, sizeof other), CV_RECORDS, CV_MOST_RECORDS);
+    answer = cv_to_first(1, wide, CV_MOST_RECORDS * CV2_RECORD_SIZE, other, sizeof other);
+    CHECK(answer.code == CV_DONE && answer.records == CV_MOST_RECORDS);
+}
+
 int main(void)
 {
     planner *const planners[] = {cv_exact, cv_doubled, cv_doubled_every_rotation, cv_quick, cv_grating_doubled, quiet_any};
@@ -1146,6 +1238,8 @@ int main(void)
     all_shops();
     shop_refusals();
     task_reading();
+    second_edition();
+    moves();
     printf("%d passed, %d failed\n", passed, failed);
     return failed != 0;
 }

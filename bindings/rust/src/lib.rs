@@ -333,6 +333,26 @@ impl reading::Edition<64> for reading::Of<64> {
     }
 }
 
+/// Moves a plan to the second edition: the same holds and settings in records of 132 bytes, in a second
+/// buffer. N is at most [`MOST_PORTS`] and the records at most [`MOST_RECORDS`]. What was moved grants what
+/// it granted, and [`to_first`] makes the same bytes of it again.
+///
+/// Codes: 1, 9, 10, 11, 5. Writes: the moved plan's records, at the start of `moved`. Done: `records` and
+/// `total` of the moved plan.
+#[must_use]
+pub fn to_second(n: u64, plan: &[u8], moved: &mut [u8]) -> Answer {
+    unsafe { sys::cv_to_second(n, plan.as_ptr(), plan.len(), moved.as_mut_ptr(), moved.len()) }
+}
+
+/// Moves a plan of the second edition to the first, within the first edition's limits: N over
+/// [`MOST_PORTS`] is code 1, and more than [`MOST_RECORDS`] records are code 10.
+///
+/// Codes, writes, done: as [`to_second`].
+#[must_use]
+pub fn to_first(n: u64, plan: &[u8], moved: &mut [u8]) -> Answer {
+    unsafe { sys::cv_to_first(n, plan.as_ptr(), plan.len(), moved.as_mut_ptr(), moved.len()) }
+}
+
 /// The record in force at a slot, its own bytes, slots counted from 0 by holds alone: a part of tonight's
 /// plan or, from the slot on where that is over, of the standby plan, which begins there and repeats
 /// without end. Both plans are judged whole, whatever the slot is.

@@ -1,7 +1,82 @@
 //! The second edition, for switches of up to 128 ports: calls as those of the first, at the top of the
 //! crate, with records of 132 bytes that have 128 outputs.
 
-use crate::{sys, Answer};
+use crate::{reading, sys, Answer};
+
+/// The largest N.
+pub const MOST_PORTS: usize = 128;
+/// Bytes of a plan record: hold in two, N, the byte 2, 128 outputs.
+pub const RECORD_SIZE: usize = 132;
+/// The most records of a plan that is read.
+pub const MOST_RECORDS: usize = 32_768;
+
+/// One setting of a plan and its hold.
+pub type Record = reading::Record<128>;
+/// What one step of reading gives.
+pub type Step = reading::Step<128>;
+/// A plan's bytes and the place reached.
+pub type Reader<'a> = reading::Reader<'a, 128>;
+/// The records of a plan that was opened, for a `for` loop.
+pub type Plan<'a> = reading::Plan<'a, 128>;
+
+/// As [`crate::wishes`], N up to 128.
+#[must_use]
+pub fn wishes(n: u64, list: &[u8], cells: &mut [u32]) -> Answer {
+    // SAFETY: a slice has as many elements as its length says, and a mutable one overlaps no other;
+    // the same holds for each call below that lends memory.
+    unsafe { sys::cv2_wishes(n, list.as_ptr(), list.len(), cells.as_mut_ptr(), cells.len()) }
+}
+
+/// As [`crate::check`], of a plan of this edition.
+#[must_use]
+pub fn check(n: u64, cells: &[u32], plan: &[u8]) -> Answer {
+    unsafe { sys::cv2_check(n, cells.as_ptr(), cells.len(), plan.as_ptr(), plan.len()) }
+}
+
+/// As [`crate::length`], of a plan of this edition.
+#[must_use]
+pub fn length(n: u64, plan: &[u8], d: u16) -> Answer {
+    unsafe { sys::cv2_length(n, plan.as_ptr(), plan.len(), d) }
+}
+
+/// As [`crate::join`], of a plan of this edition.
+#[must_use]
+pub fn join(n: u64, plan: &[u8], joined: &mut [u8]) -> Answer {
+    unsafe { sys::cv2_join(n, plan.as_ptr(), plan.len(), joined.as_mut_ptr(), joined.len()) }
+}
+
+/// As [`crate::write`], with 128 outputs.
+#[must_use]
+pub fn write(hold: u16, n: u64, outputs: &[u8; 128], plan: &mut [u8]) -> Answer {
+    unsafe { sys::cv2_write(hold, n, outputs.as_ptr(), plan.as_mut_ptr(), plan.len()) }
+}
+
+/// As [`crate::open`], of a plan of this edition.
+#[must_use]
+pub fn open(n: u64, plan: &[u8]) -> Answer {
+    unsafe { sys::cv2_open(n, plan.as_ptr(), plan.len()) }
+}
+
+/// As [`crate::step_at`], of a plan of this edition.
+#[must_use]
+pub fn step_at(n: u64, plan: &[u8], at: u64) -> Step {
+    let step = unsafe { sys::cv2_step_at(n, plan.as_ptr(), plan.len(), at) };
+    match step.kind {
+        0 => Step::Record(Record { hold: step.hold as u16, outputs: step.outputs }),
+        1 => Step::End,
+        _ => Step::Malformed(step.place),
+    }
+}
+
+impl reading::Edition<128> for reading::Of<128> {
+    fn open(n: u64, plan: &[u8]) -> Answer {
+        open(n, plan)
+    }
+
+    fn step_at(n: u64, plan: &[u8], at: u64) -> Step {
+        step_at(n, plan, at)
+    }
+}
 
 /// The records of the second edition that suffice for the exact plan of any demand of N ports, N up to 128,
 /// whose lines sum to `longest` or less: that many, or N * N - 2 * N + 2, whichever is less.

@@ -71,6 +71,33 @@ pub const OPEN: usize = 256;
 /// Of [`crate::step_at`].
 pub const STEP_AT: usize = 1_024;
 
+/// Of [`crate::second::wishes`].
+pub const SECOND_WISHES: usize = 4_096;
+
+/// Of [`crate::second::check`].
+pub const SECOND_CHECK: usize = 69_632;
+
+/// Of [`crate::second::length`].
+pub const SECOND_LENGTH: usize = 1_024;
+
+/// Of [`crate::second::join`].
+pub const SECOND_JOIN: usize = 294_912;
+
+/// Of [`crate::second::write`].
+pub const SECOND_WRITE: usize = 1_024;
+
+/// Of [`crate::second::open`].
+pub const SECOND_OPEN: usize = 256;
+
+/// Of [`crate::second::step_at`].
+pub const SECOND_STEP_AT: usize = 1_024;
+
+/// Of [`crate::to_second`].
+pub const TO_SECOND: usize = 1_024;
+
+/// Of [`crate::to_first`].
+pub const TO_FIRST: usize = 1_024;
+
 /// Of [`crate::in_force`].
 pub const IN_FORCE: usize = 1_024;
 
@@ -84,7 +111,7 @@ pub const SHOP: usize = 2_048;
 pub const TASKS: usize = 1_024;
 
 /// All of them, by name.
-pub const ALL: [(&str, usize); 25] = [
+pub const ALL: [(&str, usize); 34] = [
     ("VERSION", VERSION),
     ("WISH", WISH),
     ("WISHES", WISHES),
@@ -108,6 +135,15 @@ pub const ALL: [(&str, usize); 25] = [
     ("WRITE", WRITE),
     ("OPEN", OPEN),
     ("STEP_AT", STEP_AT),
+    ("SECOND_WISHES", SECOND_WISHES),
+    ("SECOND_CHECK", SECOND_CHECK),
+    ("SECOND_LENGTH", SECOND_LENGTH),
+    ("SECOND_JOIN", SECOND_JOIN),
+    ("SECOND_WRITE", SECOND_WRITE),
+    ("SECOND_OPEN", SECOND_OPEN),
+    ("SECOND_STEP_AT", SECOND_STEP_AT),
+    ("TO_SECOND", TO_SECOND),
+    ("TO_FIRST", TO_FIRST),
     ("IN_FORCE", IN_FORCE),
     ("CARRY_OVER", CARRY_OVER),
     ("SHOP", SHOP),

@@ -4,7 +4,7 @@
 //! # Safety
 //!
 //! Each pointer leads to as many elements as the length after it says, and `cv_write`'s outputs are 64
-//! bytes; where a length is 0 the pointer may be null. A pointer to cells is aligned for `u32`. Memory that
+//! bytes and `cv2_write`'s 128; where a length is 0 the pointer may be null. A pointer to cells is aligned for `u32`. Memory that
 //! a call writes overlaps no other memory that it is lent, and while the call runs nobody else writes what
 //! is lent or reads what the call writes. So many bytes of stack are left as [`crate::stack`] says.
 
@@ -57,6 +57,20 @@ pub struct RawStep {
     pub outputs: [u8; 64],
 }
 
+/// One step of reading a plan of the second edition.
+#[repr(C)]
+#[derive(Clone, Copy, Debug, PartialEq, Eq)]
+pub struct RawStepSecond {
+    /// 0 a record, 1 the end, 2 a record that is not well formed.
+    pub kind: u64,
+    /// Of kind 2 the record's number, else 0.
+    pub place: u64,
+    /// Of kind 0 the hold, else 0.
+    pub hold: u64,
+    /// Of kind 0 the outputs by input, else all idle.
+    pub outputs: [u8; 128],
+}
+
 /// Where the record in force stands; all is 0 where the call is refused, but for its answer.
 #[repr(C)]
 #[derive(Clone, Copy, Debug, PartialEq, Eq)]
@@ -75,6 +89,7 @@ pub struct RawPart {
 const _: () = assert!(size_of::<Answer>() == 88);
 const _: () = assert!(size_of::<RawStep>() == 88);
 const _: () = assert!(size_of::<RawPart>() == 112);
+const _: () = assert!(size_of::<RawStepSecond>() == 152);
 
 // The name ends in VERSION: whatever uses this crate refers to it, and so does not link with an archive of
 // another version.
@@ -177,6 +192,35 @@ extern "C" {
     /// What [`crate::step_at`] calls.
     #[must_use]
     pub fn cv_step_at(n: u64, plan: *const u8, plan_len: usize, at: u64) -> RawStep;
+    /// What [`crate::second::wishes`] calls.
+    #[must_use]
+    pub fn cv2_wishes(n: u64, list: *const u8, list_len: usize, cells: *mut u32, cells_len: usize) -> Answer;
+    /// What [`crate::second::check`] calls.
+    #[must_use]
+    pub fn cv2_check(n: u64, cells: *const u32, cells_len: usize, plan: *const u8, plan_len: usize)
+        -> Answer;
+    /// What [`crate::second::length`] calls.
+    #[must_use]
+    pub fn cv2_length(n: u64, plan: *const u8, plan_len: usize, d: u16) -> Answer;
+    /// What [`crate::second::join`] calls.
+    #[must_use]
+    pub fn cv2_join(n: u64, plan: *const u8, plan_len: usize, joined: *mut u8, joined_len: usize) -> Answer;
+    /// What [`crate::second::write`] calls.
+    #[must_use]
+    pub fn cv2_write(hold: u16, n: u64, outputs: *const u8, plan: *mut u8, plan_len: usize) -> Answer;
+    /// What [`crate::second::open`] calls.
+    #[must_use]
+    pub fn cv2_open(n: u64, plan: *const u8, plan_len: usize) -> Answer;
+    /// What [`crate::second::step_at`] calls.
+    #[must_use]
+    pub fn cv2_step_at(n: u64, plan: *const u8, plan_len: usize, at: u64) -> RawStepSecond;
+    /// What [`crate::to_second`] calls.
+    #[must_use]
+    pub fn cv_to_second(n: u64, plan: *const u8, plan_len: usize, moved: *mut u8, moved_len: usize)
+        -> Answer;
+    /// What [`crate::to_first`] calls.
+    #[must_use]
+    pub fn cv_to_first(n: u64, plan: *const u8, plan_len: usize, moved: *mut u8, moved_len: usize) -> Answer;
     /// What [`crate::in_force`] calls.
     #[must_use]
     pub fn cv_in_force(

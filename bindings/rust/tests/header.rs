@@ -72,9 +72,23 @@ fn in_crate() -> BTreeMap<String, u64> {
             ("SUM", About::Sum as u64),
         ],
     );
+    let second = named(
+        "CV2",
+        &[
+            ("MOST_PORTS", cv::second::MOST_PORTS as u64),
+            ("RECORD_SIZE", cv::second::RECORD_SIZE as u64),
+            ("MOST_RECORDS", cv::second::MOST_RECORDS as u64),
+        ],
+    );
     let bytes = |&(name, bytes): &(&'static str, usize)| (name, bytes as u64);
     let stacks: Vec<_> = stack::ALL.iter().map(bytes).collect();
-    limits.into_iter().chain(codes()).chain(named("CV_STACK", &stacks)).map(second_edition).collect()
+    limits
+        .into_iter()
+        .chain(second)
+        .chain(codes())
+        .chain(named("CV_STACK", &stacks))
+        .map(second_edition)
+        .collect()
 }
 
 /// `stack::SECOND_EXACT_ROOM` is the header's `CV2_STACK_EXACT_ROOM`.

@@ -24,6 +24,7 @@ use Rattle.plans.specs.Read.{stepPlace}
 use Rattle.chordvenus.specs.declared.CvAnswer.{CvAnswer}
 use Rattle.chordvenus.specs.declared.CvPart.{CvPart}
 use Rattle.chordvenus.specs.declared.CvStep.{CvStep}
+use Rattle.chordvenus.specs.declared.Cv2Step.{Cv2Step}
 
 -- the version of the edge, which the header names too
 abbrev pub version : ℕ
@@ -84,6 +85,10 @@ kindCode k = cond (eqb k 2) 11 0
 
 abbrev pub flatStep : Stepped → CvStep
 flatStep s = record { kind = kindOf (s .step); place = stepPlace (s .step); hold = s .hold; outputs = s .outputs }
+
+-- the same where a record has 128 outputs
+abbrev pub flatWide : Stepped → Cv2Step
+flatWide s = record { kind = kindOf (s .step); place = stepPlace (s .step); hold = s .hold; outputs = s .outputs }
 
 -- where a lookup found the record in force
 abbrev pub flatPart : Found → CvPart

@@ -6,9 +6,8 @@ use plans::Step;
 use switch::About;
 use switch::Outcome;
 ghost use mathlib.Core.Path.{_≡_};
-ghost use lib.ListN.{length};
 ghost use Rattle.wish.specs.Wish.{wishBits};
-ghost use Rattle.wishes.specs.Wishes.{outcome, cellsAfter};
+ghost use Rattle.wishes.specs.Wishes.{wishing};
 ghost use Rattle.rules.specs.Exact.{exactPlan};
 ghost use Rattle.rules.specs.Doubled.{doubledPlan, tightPlan};
 ghost use Rattle.rules.specs.Quick.{quickPlan};
@@ -19,6 +18,7 @@ ghost use Rattle.plans.specs.Read.{opening, stepAt, stepPlace};
 ghost use Rattle.checker.specs.Check.{checkPlan};
 ghost use Rattle.length.specs.Length.{planLength};
 ghost use Rattle.joining.specs.Join.{joining};
+ghost use Rattle.moving.specs.Move.{movable, moving};
 ghost use Rattle.wavelengths.specs.Report.{reported};
 ghost use Rattle.grating.specs.Grating.{gratingPlanned};
 ghost use Rattle.quiet.specs.Planned.{quietPlanned};
@@ -28,7 +28,7 @@ ghost use Rattle.room.specs.Room.{roomed};
 ghost use Rattle.lookup.specs.Lookup.{spotOf, foundOf};
 ghost use Rattle.shop.specs.Shopped.{shopped};
 ghost use Rattle.tasks.specs.Read.{reading};
-ghost use Rattle.chordvenus.specs.Flat.{version, flat, flatAbout, kindOf, flatStep, flatWish, flatPart, flatCarried, Crosses, CarriesFlat};
+ghost use Rattle.chordvenus.specs.Flat.{version, flat, flatAbout, kindOf, flatStep, flatWish, flatPart, flatCarried, Crosses, CarriesFlat, flatWide};
 
 // The version of the structs and functions below. A struct that is returned by value cannot grow: whoever adds a field makes it one more.
 const VERSION: u64 = 1;
@@ -58,6 +58,15 @@ pub struct CvStep {
     pub place: u64,
     pub hold: u64,
     pub outputs: [u8; 64],
+}
+
+// The same in the second edition.
+#[repr(C)]
+pub struct Cv2Step {
+    pub kind: u64,
+    pub place: u64,
+    pub hold: u64,
+    pub outputs: [u8; 128],
 }
 
 // Where the record in force stands: bytes start .. start + size of plan 1, tonight's, or 2, standby's; all 0 where the lookup is refused.
@@ -110,7 +119,7 @@ pub extern "C" fn cv_wish(bits: u32) -> CvAnswer
 // A wish list to a demand.
 #[no_mangle]
 pub extern "C" fn cv_wishes(n: usize, list: &[u8], cells: &mut [u32]) -> CvAnswer
-    ensures { λ r. ⌜ (r ≡ flat (outcome 64 n (now (list .entry)) (length (now (cells .entry))))) × (now (cells .exit) ≡ cellsAfter 64 n (now (list .entry)) (now (cells .entry))) ⌝ }
+    ensures { λ r. ⌜ Crosses (wishing firstEdition n (now (list .entry)) (now (cells .entry))) r (now (cells .exit)) ⌝ }
 {
     flatten(wishes::wishes(n, list, cells))
 }
@@ -365,6 +374,86 @@ pub extern "C" fn cv_tasks(n: usize, tasks: &[u8]) -> CvAnswer
     ensures { λ r. ⌜ r ≡ flat (reading n (now (tasks .entry))) ⌝ }
 {
     flatten(tasks::read_tasks(n, tasks))
+}
+
+// The second edition's calls, for switches of up to 128 ports: a wish list to a demand.
+#[no_mangle]
+pub extern "C" fn cv2_wishes(n: usize, list: &[u8], cells: &mut [u32]) -> CvAnswer
+    ensures { λ r. ⌜ Crosses (wishing secondEdition n (now (list .entry)) (now (cells .entry))) r (now (cells .exit)) ⌝ }
+{
+    flatten(wishes::wishes_second(n, list, cells))
+}
+
+// A plan from anywhere against a demand.
+#[no_mangle]
+pub extern "C" fn cv2_check(n: usize, cells: &[u32], plan: &[u8]) -> CvAnswer
+    ensures { λ r. ⌜ r ≡ flat (checkPlan secondEdition n (now (cells .entry)) (now (plan .entry))) ⌝ }
+{
+    flatten(checker::check_plan_second(n, cells, plan))
+}
+
+// The length of a plan where switching takes d slots.
+#[no_mangle]
+pub extern "C" fn cv2_length(n: usize, plan: &[u8], d: u16) -> CvAnswer
+    ensures { λ r. ⌜ r ≡ flat (planLength secondEdition d n (now (plan .entry))) ⌝ }
+{
+    flatten(length::plan_length_second(n, plan, d))
+}
+
+// A plan with its equal settings joined, into a second buffer.
+#[no_mangle]
+pub extern "C" fn cv2_join(n: usize, plan: &[u8], joined: &mut [u8]) -> CvAnswer
+    ensures { λ r. ⌜ Crosses (joining secondEdition n (now (plan .entry)) (now (joined .entry))) r (now (joined .exit)) ⌝ }
+{
+    flatten(joining::join_plan_second(n, plan, joined))
+}
+
+// One record written at the start of a lent buffer.
+#[no_mangle]
+pub extern "C" fn cv2_write(hold: u16, n: usize, outputs: &[u8; 128], plan: &mut [u8]) -> CvAnswer
+    ensures { λ r. ⌜ Crosses (written secondEdition hold n (now (outputs .entry)) (now (plan .entry))) r (now (plan .exit)) ⌝ }
+{
+    flatten(records::write_record_second(hold, n, outputs, plan))
+}
+
+// A plan opened for n.
+#[no_mangle]
+pub extern "C" fn cv2_open(n: usize, plan: &[u8]) -> CvAnswer
+    ensures { λ r. ⌜ r ≡ flat (opening secondEdition n (now (plan .entry))) ⌝ }
+{
+    flatten(plans::open_second(n, plan))
+}
+
+// The step at record `at` of a plan opened for n.
+#[no_mangle]
+pub extern "C" fn cv2_step_at(n: usize, plan: &[u8], at: usize) -> Cv2Step
+    ensures { λ r. ⌜ r ≡ flatWide (stepAt secondEdition n (now (plan .entry)) at) ⌝ }
+{
+    let stepped = plans::step_second(n, plan, at);
+    let outputs = stepped.outputs;
+    let step = stepped.step;
+    Cv2Step {
+        kind: kind_of(step),
+        place: place_of(step),
+        hold: stepped.hold as u64,
+        outputs,
+    }
+}
+
+// A plan of the first edition as one of the second, into a second buffer.
+#[no_mangle]
+pub extern "C" fn cv_to_second(n: usize, plan: &[u8], moved: &mut [u8]) -> CvAnswer
+    ensures { λ r. ⌜ Crosses (moving firstEdition secondEdition n (now (plan .entry)) (now (moved .entry))) r (now (moved .exit)) ⌝ }
+{
+    flatten(moving::to_second(n, plan, moved))
+}
+
+// A plan of the second edition as one of the first.
+#[no_mangle]
+pub extern "C" fn cv_to_first(n: usize, plan: &[u8], moved: &mut [u8]) -> CvAnswer
+    ensures { λ r. ⌜ Crosses (moving movable firstEdition n (now (plan .entry)) (now (moved .entry))) r (now (moved .exit)) ⌝ }
+{
+    flatten(moving::to_first(n, plan, moved))
 }
 
 // A step's kind.

@@ -27,7 +27,7 @@ use Rattle.moving.proofs.Answer.{moving-done}
 -- a plan of S that no check refuses, moved to R, which takes so many ports and records
 module _ (S R : Edition) (from : Bounded S) (to : Bounded R) (N : ℕ) (plan : List ℕ) (c : Counts) (fine : Done c ≡ checking S N plan)
     (few : N ≤ R .ports) (most : c .records ≤ R .records) where
-  known : Checked S N plan c
+  pub known : Checked S N plan c
   known = checked S N plan from c fine
 
   abbrev records : List Record
@@ -36,16 +36,17 @@ module _ (S R : Edition) (from : Bounded S) (to : Bounded R) (N : ℕ) (plan : L
   abbrev pub moved : List ℕ
   moved = bytes (R .byte) N (movedPlan (R .width) N records)
 
-  narrow : N ≤ S .width
+  pub narrow : N ≤ S .width
   narrow = omega (arith, known .few, from .ports)
 
-  wide : N ≤ R .width
+  pub wide : N ≤ R .width
   wide = omega (arith, few, to .ports)
 
-  sound : Each (Sound (R .width) N) (movedPlan (R .width) N records)
+  -- its records are sound, and as many
+  pub sound : Each (Sound (R .width) N) (movedPlan (R .width) N records)
   sound = plan-sound (S .width) (R .width) N narrow wide (known .sound)
 
-  count : length (movedPlan (R .width) N records) ≡ c .records
+  pub count : length (movedPlan (R .width) N records) ≡ c .records
   count = length-moved (R .width) N records ∙ length-plan (S .width) plan 0 (whole (S .width) plan) ∙ sym (ap (λ (x : Counts). x .records) (known .counts))
 
   pub moved-plan : planOf (R .width) moved ≡ movedPlan (R .width) N records

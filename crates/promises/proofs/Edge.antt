@@ -8,7 +8,6 @@ use Rattle.switch.specs.Result.{Result, Gives}
 use Rattle.switch.proofs.Answer.{answer-tells}
 use Rattle.chordvenus.specs.declared.CvAnswer.{CvAnswer}
 use Rattle.chordvenus.specs.Flat.{flat, Crosses}
-use Rattle.promises.specs.Calls.{Leaves}
 
 -- the numbers of an answer at the edge
 numbers : CvAnswer → Numbers
@@ -27,7 +26,3 @@ flat-tells o p e = answer-tells o p (ap numbers e)
 -- so all that is promised of a call holds of its answer at the edge
 pub crosses : {x : Result} {r : CvAnswer} {after : List ℕ} → Crosses x r after → (o : Outcome) × Gives x o after × (r ≡ flat o)
 crosses {x} met = (x .outcome, record { outcome = refl; bytes = met .bytes }, met .answer)
-
--- and of a wish list's
-pub cells-cross : {x : Outcome} {m : List ℕ} (r : CvAnswer) (after : List ℕ) → Leaves (flat x) m r after → (o : Outcome) × (Leaves x m o after) × (r ≡ flat o)
-cells-cross {x} r after met = (x, (refl, met .1), met .0)

@@ -27,3 +27,5 @@ pub mod Larger
 pub mod Rooms
 pub mod Lookup
 pub mod Carry
+pub mod SecondReaders
+pub mod Moved

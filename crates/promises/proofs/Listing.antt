@@ -13,6 +13,7 @@ use Rattle.listing.specs.Listing.{portsOf, checkedText, demandText, wishedText,
 use Rattle.listing.proofs.Ports.{ports-are}
 use Rattle.listing.proofs.Answers.{wish-ports, list-first}
 use Rattle.promises.specs.Calls.{Listing}
+use Rattle.switch.specs.Editions.{firstEdition}
 use Rattle.promises.specs.Wishes.{GoodList}
 use Rattle.promises.specs.Listing.{Shows, Listed}
 use Rattle.promises.proofs.Wishes.{good-list}
@@ -25,14 +26,14 @@ module _ (w : List ℕ) where
   abbrev count : ℕ
   count = length w / 8
 
-  module _ (small : N ≤ 16) (good : GoodList N w (N * N)) (d : List ℕ) (is : Demanded N w count d) where
+  module _ (small : N ≤ 16) (good : GoodList firstEdition N w (N * N)) (d : List ℕ) (is : Demanded N w count d) where
     is-demand : d ≡ demandOf N w count
-    is-demand = demanded-only N w count d (demandOf N w count) is (demanded N w count (good-list N w (N * N) good))
+    is-demand = demanded-only N w count d (demandOf N w count) is (demanded N w count (good-list firstEdition N w (N * N) good))
 
     wished : wishText N w ≡ demandText N d
     unfolding wishText
     wished =
-        ap (wishedText N w) (searched 16 N w (N * N) (some-ports 16 N (good .some) small) (λ _. N * N) (good .even) Nothing (good-list N w (N * N) good))
+        ap (wishedText N w) (searched 16 N w (N * N) (some-ports 16 N (good .some) small) (λ _. N * N) (good .even) Nothing (good-list firstEdition N w (N * N) good))
         ∙ ap (demandText N) (sym is-demand)
 
   pub shows : Shows w N (wishText N w)

@@ -22,18 +22,15 @@ use Rattle.promises.specs.Only.{OneAnswer, OneResult}
 use Rattle.promises.specs.Calls as call
 
 -- what equals one thing
-one : {A : Type 0} (x : A) → OneAnswer (λ r. r ≡ x)
+pub one : {A : Type 0} (x : A) → OneAnswer (λ r. r ≡ x)
 one x a b = determined a b x
 
 -- and in lent memory
-both : {A : Type 0} (x : A) (m : List ℕ) → OneResult (call.Leaves x m)
-both x m a b k l p q = (one x a b (p .0) (q .0), one m k l (p .1) (q .1))
-
-gives-one-result : (x : Result) → OneResult (Gives x)
+pub gives-one-result : (x : Result) → OneResult (Gives x)
 gives-one-result x a b k l p q = gives-one p q
 
-crosses-one-result : (x : Result) → OneResult (Crosses x)
-crosses-one-result x a b k l p q = both _ _ a b k l (p .answer, p .bytes) (q .answer, q .bytes)
+pub crosses-one-result : (x : Result) → OneResult (Crosses x)
+crosses-one-result x a b k l p q = (one _ a b (p .answer) (q .answer), one _ k l (p .bytes) (q .bytes))
 
 -- ---- the calls
 
@@ -43,8 +40,8 @@ wish-one-answer bits = one _
 pub classify-one-answer : (x : Float) → OneAnswer (call.Classify x)
 classify-one-answer x = one _
 
-pub wishes-one-result : (N : ℕ) (list cells : List ℕ) → OneResult (call.WishList N list cells)
-wishes-one-result N list cells = both _ _
+pub wishes-one-result : (E : Edition) (N : ℕ) (list cells : List ℕ) → OneResult (call.WishList E N list cells)
+wishes-one-result E N list cells = gives-one-result _
 
 pub exact-one-result : (N : ℕ) (d buf : List ℕ) → OneResult (call.ExactPlan N d buf)
 exact-one-result N d buf = gives-one-result _
@@ -146,7 +143,7 @@ pub cv-wish-one-answer : (bits : ℕ) → OneAnswer (call.CvWish bits)
 cv-wish-one-answer bits = one _
 
 pub cv-wishes-one-result : (N : ℕ) (list cells : List ℕ) → OneResult (call.CvWishes N list cells)
-cv-wishes-one-result N list cells = both _ _
+cv-wishes-one-result N list cells = crosses-one-result _
 
 pub cv-exact-one-result : (N : ℕ) (d buf : List ℕ) → OneResult (call.CvExact N d buf)
 cv-exact-one-result N d buf = crosses-one-result _

@@ -16,6 +16,7 @@ use Rattle.wish.specs.Wish.{worth, wishBits, codeOf, slotsOf, InRange}
 use Rattle.wish.specs.Meaning.{Answers, a-nan, an-infinity, below-zero, above-most, its-slots}
 use Rattle.wish.proofs.Answer.{said}
 use Rattle.wish.proofs.Above.{above-two}
+use Rattle.switch.specs.declared.Edition.{Edition}
 use Rattle.switch.specs.declared.Outcome.{Outcome}
 use Rattle.switch.specs.declared.Outcome.the-variants.{Done, Refused}
 use Rattle.switch.specs.declared.Refusal.{Refusal}
@@ -138,35 +139,35 @@ none-first N list zero h = refl
 none-first N list (suc m) h = rw (none-first N list m (λ k l. h k (omega arith)), h m (omega arith))
 
 -- a list with nothing wrong has no fault
-pub good-list : (N : ℕ) (list : List ℕ) (cells : ℕ) → GoodList N list cells → firstFault N list (length list / 8) ≡ Nothing
-good-list N list cells g = none-first N list (length list / 8) (λ k l. good-nothing N list k (g .each k l))
+pub good-list : (E : Edition) (N : ℕ) (list : List ℕ) (cells : ℕ) → GoodList E N list cells → firstFault N list (length list / 8) ≡ Nothing
+good-list E N list cells g = none-first N list (length list / 8) (λ k l. good-nothing N list k (g .each k l))
 
 -- ---- the list
 
-module _ (N : ℕ) (list cells : List ℕ) (r : Outcome) (after : List ℕ) (met : WishList N list cells r after) where
+module _ (E : Edition) (N : ℕ) (list cells : List ℕ) (r : Outcome) (after : List ℕ) (met : WishList E N list cells r after) where
   abbrev count : ℕ
   count = length list / 8
 
-  list-taken : GoodList N list (length cells) → r ≡ Done (planCounts count 0 0)
-  list-taken g = met .0 ∙ searched 64 N list (length cells) (some-ports 64 N (g .some) (g .few)) (g .square) (g .even) Nothing
-      (good-list N list (length cells) g)
+  list-taken : GoodList E N list (length cells) → r ≡ Done (planCounts count 0 0)
+  list-taken g = met .outcome ∙ searched (E .ports) N list (length cells) (some-ports (E .ports) N (g .some) (g .few)) (g .square) (g .even) Nothing
+      (good-list E N list (length cells) g)
 
   module _ (c : Counts) (done : r ≡ Done c) where
-    refused : {x : Refusal} {A : Type 0} → outcome 64 N list (length cells) ≡ Refused x → A
-    refused e = never (sym e ∙ sym (met .0) ∙ done)
+    refused : {x : Refusal} {A : Type 0} → outcome (E .ports) N list (length cells) ≡ Refused x → A
+    refused e = never (sym e ∙ sym (met .outcome) ∙ done)
 
-    no-fault-first : length cells ≡ N * N → 0 < N → N ≤ 64 → length list % 8 ≡ 0 → firstFault N list count ≡ Nothing
+    no-fault-first : length cells ≡ N * N → 0 < N → N ≤ E .ports → length list % 8 ≡ 0 → firstFault N list count ≡ Nothing
     no-fault-first square some few even = by (firstFault N list count) refl
       where
         by : (f : Fault) → firstFault N list count ≡ f → firstFault N list count ≡ Nothing
-        by (At x) e = refused (searched 64 N list (length cells) (some-ports 64 N some few) square even (At x) e)
+        by (At x) e = refused (searched (E .ports) N list (length cells) (some-ports (E .ports) N some few) square even (At x) e)
         by Nothing e = e
 
-    list-good : GoodList N list (length cells)
+    list-good : GoodList E N list (length cells)
     list-good =
-        dite (decLt 0 N) (λ some. dite (decLt 64 N)
-        (λ l. refused (bad-ports 64 N list (length cells) (many-ports 64 N l)))
-        (λ f. let few : N ≤ 64 = omega (arith, f) in dite (ℕ-discrete (length cells) (N * N)) (λ square. dite (ℕ-discrete (length list % 8) 0)
+        dite (decLt 0 N) (λ some. dite (decLt (E .ports) N)
+        (λ l. refused (bad-ports (E .ports) N list (length cells) (many-ports (E .ports) N l)))
+        (λ f. let few : N ≤ E .ports = omega (arith, f) in dite (ℕ-discrete (length cells) (N * N)) (λ square. dite (ℕ-discrete (length list % 8) 0)
         (λ even. record {
           some = some;
           few = few;
@@ -174,48 +175,48 @@ module _ (N : ℕ) (list cells : List ℕ) (r : Outcome) (after : List ℕ) (met
           even = even;
           each = λ k l. nothing-good N list k (no-fault N list count k (no-fault-first square some few even) l);
         })
-        (λ t. refused (torn 64 N list (length cells) (some-ports 64 N some few) square t)))
-        (λ b. refused (bad-cells 64 N list (length cells) (some-ports 64 N some few) b))))
-        (λ z. refused (bad-ports 64 N list (length cells) (no-ports 64 N (omega (arith, z)))))
+        (λ t. refused (torn (E .ports) N list (length cells) (some-ports (E .ports) N some few) square t)))
+        (λ b. refused (bad-cells (E .ports) N list (length cells) (some-ports (E .ports) N some few) b))))
+        (λ z. refused (bad-ports (E .ports) N list (length cells) (no-ports (E .ports) N (omega (arith, z)))))
 
     list-demand : Demanded N list count after
     unfolding cellsAfter
     list-demand =
         let g = list-good in
-        subst (Demanded N list count) (sym (met .1 ∙ ap (cellsOf N list cells) (sym (met .0) ∙ done)))
+        subst (Demanded N list count) (sym (met .bytes ∙ ap (cellsOf N list cells) (sym (met .outcome) ∙ done)))
         (demanded N list count (no-fault-first (g .square) (g .some) (g .few) (g .even)))
 
   list-unchanged : ((c : Counts) → r ≡ Done c → ⊥) → after ≡ cells
   unfolding cellsAfter
-  list-unchanged n = by (outcome 64 N list (length cells)) refl
+  list-unchanged n = by (outcome (E .ports) N list (length cells)) refl
     where
-      by : (o : Outcome) → outcome 64 N list (length cells) ≡ o → after ≡ cells
-      by (Done c) e = absurd (n c (met .0 ∙ e))
-      by (Refused x) e = met .1 ∙ ap (cellsOf N list cells) e
+      by : (o : Outcome) → outcome (E .ports) N list (length cells) ≡ o → after ≡ cells
+      by (Done c) e = absurd (n c (met .outcome ∙ e))
+      by (Refused x) e = met .bytes ∙ ap (cellsOf N list cells) e
 
   -- the first test that fails
   module _ (f : Refusal) (e : r ≡ Refused f) where
-    told : (g : Refusal) → outcome 64 N list (length cells) ≡ Refused g → Untaken N list (length cells) g → Untaken N list (length cells) f
-    told g q = subst (Untaken N list (length cells)) (same-refusal (sym q ∙ sym (met .0) ∙ e))
+    told : (g : Refusal) → outcome (E .ports) N list (length cells) ≡ Refused g → Untaken E N list (length cells) g → Untaken E N list (length cells) f
+    told g q = subst (Untaken E N list (length cells)) (same-refusal (sym q ∙ sym (met .outcome) ∙ e))
 
-    why : Untaken N list (length cells) f
+    why : Untaken E N list (length cells) f
     why =
-        dite (decLt 0 N) (λ some. dite (decLt 64 N)
-        (λ l. told Ports (bad-ports 64 N list (length cells) (many-ports 64 N l)) (untaken.no-ports (λ _ h. omega arith)))
-        (λ g. let few : N ≤ 64 = omega (arith, g) in dite (ℕ-discrete (length cells) (N * N)) (λ square. dite (ℕ-discrete (length list % 8) 0)
+        dite (decLt 0 N) (λ some. dite (decLt (E .ports) N)
+        (λ l. told Ports (bad-ports (E .ports) N list (length cells) (many-ports (E .ports) N l)) (untaken.no-ports (λ _ h. omega arith)))
+        (λ g. let few : N ≤ E .ports = omega (arith, g) in dite (ℕ-discrete (length cells) (N * N)) (λ square. dite (ℕ-discrete (length list % 8) 0)
         (λ even. by some few square even (firstFault N list count) refl)
-        (λ t. told _ (torn 64 N list (length cells) (some-ports 64 N some few) square t) (untaken.torn some few square t)))
-        (λ b. told _ (bad-cells 64 N list (length cells) (some-ports 64 N some few) b) (untaken.no-square some few b))))
-        (λ z. told Ports (bad-ports 64 N list (length cells) (no-ports 64 N (omega (arith, z)))) (untaken.no-ports (λ s _. z s)))
+        (λ t. told _ (torn (E .ports) N list (length cells) (some-ports (E .ports) N some few) square t) (untaken.torn some few square t)))
+        (λ b. told _ (bad-cells (E .ports) N list (length cells) (some-ports (E .ports) N some few) b) (untaken.no-square some few b))))
+        (λ z. told Ports (bad-ports (E .ports) N list (length cells) (no-ports (E .ports) N (omega (arith, z)))) (untaken.no-ports (λ s _. z s)))
       where
-        by : 0 < N → N ≤ 64 → length cells ≡ N * N → length list % 8 ≡ 0 → (x : Fault) → firstFault N list count ≡ x → Untaken N list (length cells) f
+        by : 0 < N → N ≤ E .ports → length cells ≡ N * N → length list % 8 ≡ 0 → (x : Fault) → firstFault N list count ≡ x → Untaken E N list (length cells) f
         by some few square even (At x) q =
-            told x (searched 64 N list (length cells) (some-ports 64 N some few) square even (At x) q)
+            told x (searched (E .ports) N list (length cells) (some-ports (E .ports) N some few) square even (At x) q)
             (untaken.faulty some few square even (first-at N list count x q))
-        by some few square even Nothing q = never (sym e ∙ met .0 ∙ searched 64 N list (length cells) (some-ports 64 N some few) square even Nothing q)
+        by some few square even Nothing q = never (sym e ∙ met .outcome ∙ searched (E .ports) N list (length cells) (some-ports (E .ports) N some few) square even Nothing q)
 
   -- a list of wishes
-  pub wishes-promise : WishedAll N list cells r after
+  pub wishes-promise : WishedAll E N list cells r after
   wishes-promise = record {
     taken = list-taken;
     only-then = λ z. list-good (countsOf r) (code-done r z);

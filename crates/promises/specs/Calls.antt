@@ -9,7 +9,7 @@ use Rattle.switch.specs.declared.Outcome.{Outcome}
 use Rattle.switch.specs.Result.{Gives}
 use Rattle.wish.specs.declared.Wish.{Wish}
 use Rattle.wish.specs.Wish.{wishOf, wishBits}
-use Rattle.wishes.specs.Wishes.{outcome, cellsAfter}
+use Rattle.wishes.specs.Wishes.{wishing}
 use Rattle.rules.specs.Exact.{exactPlan}
 use Rattle.rules.specs.Doubled.{doubledPlan, tightPlan}
 use Rattle.rules.specs.Quick.{quickPlan}
@@ -43,10 +43,6 @@ use Rattle.chordvenus.specs.declared.CvStep.{CvStep}
 use Rattle.chordvenus.specs.declared.CvPart.{CvPart}
 use Rattle.chordvenus.specs.Flat.{version, flat, flatWish, flatStep, flatPart, Crosses, CarriesFlat}
 
--- the answer is x, and the lent memory is m afterwards
-abbrev pub Leaves : {A : Type 0} → A → List ℕ → A → List ℕ → Type 0
-Leaves x m r after = (r ≡ x) × (after ≡ m)
-
 -- ---- wishes
 
 -- wish::of_bits(bits)
@@ -57,9 +53,9 @@ OfBits bits r = r ≡ wishBits bits
 abbrev pub Classify : Float → Wish → Type 0
 Classify x r = r ≡ wishOf x
 
--- wishes::wishes(n, list, cells)
-abbrev pub WishList : ℕ → List ℕ → List ℕ → Outcome → List ℕ → Type 0
-WishList N list cells = Leaves (outcome 64 N list (length cells)) (cellsAfter 64 N list cells)
+-- wishes::wishes(n, list, cells), and wishes_second of the second edition
+abbrev pub WishList : Edition → ℕ → List ℕ → List ℕ → Outcome → List ℕ → Type 0
+WishList E N list cells = Gives (wishing E N list cells)
 
 -- ---- planners, of a demand d into a plan's buffer
 
@@ -181,7 +177,7 @@ CvWish bits r = r ≡ flatWish (wishBits bits)
 
 -- cv_wishes(n, list, cells)
 abbrev pub CvWishes : ℕ → List ℕ → List ℕ → CvAnswer → List ℕ → Type 0
-CvWishes N list cells = Leaves (flat (outcome 64 N list (length cells))) (cellsAfter 64 N list cells)
+CvWishes N list cells = Crosses (wishing firstEdition N list cells)
 
 -- cv_exact(n, cells, plan)
 abbrev pub CvExact : ℕ → List ℕ → List ℕ → CvAnswer → List ℕ → Type 0

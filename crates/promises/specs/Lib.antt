@@ -21,3 +21,5 @@ pub mod Larger
 pub mod Rooms
 pub mod Lookup
 pub mod Carry
+pub mod SecondReaders
+pub mod Moved

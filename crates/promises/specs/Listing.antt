@@ -13,6 +13,7 @@ use Rattle.rules.specs.Exact.{exactPlan}
 use Rattle.wishes.specs.Wishes.{Demanded, outcome}
 use Rattle.lines.specs.Text.{refusedLine}
 use Rattle.listing.specs.Listing.{PortsIn, countedText}
+use Rattle.switch.specs.Editions.{firstEdition}
 use Rattle.promises.specs.Wishes.{GoodList}
 
 -- the text t of the bytes w, N being one more than the largest port that they name
@@ -22,11 +23,11 @@ pub record Shows (w : List ℕ) (N : ℕ) (t : List ℕ) : Type 0 where
   pub none : N ≡ 0 → t ≡ refusedLine Ports
   pub many : 16 < N → t ≡ refusedLine Ports
   -- the exact plan of what is wished for, where neither the list nor a line of its demand is refused
-  pub plan : (d : List ℕ) → N ≤ 16 → GoodList N w (N * N) → Demanded N w (length w / 8) d → longest N (cell N d) ≤ 65535
+  pub plan : (d : List ℕ) → N ≤ 16 → GoodList firstEdition N w (N * N) → Demanded N w (length w / 8) d → longest N (cell N d) ≤ 65535
       → t ≡ countedText N (longest N (cell N d)) d (exactPlan 64 N d)
   -- and else what is refused
   pub wish : (x : Refusal) → outcome 16 N w (N * N) ≡ Refused x → t ≡ refusedLine x
-  pub line : (d : List ℕ) (x : Refusal) → N ≤ 16 → GoodList N w (N * N) → Demanded N w (length w / 8) d → checkDemand 64 N d ≡ Faulty x → t ≡ refusedLine x
+  pub line : (d : List ℕ) (x : Refusal) → N ≤ 16 → GoodList firstEdition N w (N * N) → Demanded N w (length w / 8) d → checkDemand 64 N d ≡ Faulty x → t ≡ refusedLine x
 
 -- the answer r, and the text's bytes afterwards
 pub record Listed (input text : List ℕ) (r : ℕ) (after : List ℕ) : Type 0 where

@@ -36,7 +36,7 @@ pub record RecordWritten (E : Edition) (hold N : ℕ) (outputs buf : List ℕ) (
   -- code 0 exactly when nothing is wrong, with 1 record and its hold as total
   pub taken : GoodRecord E hold N outputs (length buf) → r ≡ Done (planCounts 1 0 hold)
   pub only-then : codeOf r ≡ 0 → GoodRecord E hold N outputs (length buf)
-  -- then the record at the start reads back as the same hold and outputs, and no byte behind it is touched
+  -- then a step over the start gives this hold and these outputs, and no byte behind the record is touched
   pub reads-back : codeOf r ≡ 0 → stepAt E N (take (E .width + 4) after) 0 ≡ record { step = step.Record; hold = hold; outputs = outputs; next = 1 }
   pub later : codeOf r ≡ 0 → drop (E .width + 4) after ≡ drop (E .width + 4) buf
   -- and else it has its reason, and no byte is

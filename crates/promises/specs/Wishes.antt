@@ -4,6 +4,7 @@ use mathlib.Core.List.{List}
 use Prim.Native.Nat.{ℕ, _*_, _/_, _%_, _<_, _≤_}
 use lib.ListN.{length}
 use lib.Ieee.{ofBits, binary32}
+use Rattle.switch.specs.declared.Edition.{Edition}
 use Rattle.switch.specs.declared.Outcome.{Outcome}
 use Rattle.switch.specs.declared.Outcome.the-variants.{Done, Refused}
 use Rattle.switch.specs.declared.Refusal.{Refusal}
@@ -38,31 +39,31 @@ pub record GoodWish (N : ℕ) (list : List ℕ) (k : ℕ) : Type 0 where
   pub wish : codeOf (wishBits (recordAt list k .bits)) ≡ 0
 
 -- a wish list for N ports and a number of cells that nothing is wrong with
-pub record GoodList (N : ℕ) (list : List ℕ) (cells : ℕ) : Type 0 where
+pub record GoodList (E : Edition) (N : ℕ) (list : List ℕ) (cells : ℕ) : Type 0 where
   pub some : 0 < N
-  pub few : N ≤ 64
+  pub few : N ≤ E .ports
   pub square : cells ≡ N * N
   pub even : length list % 8 ≡ 0
   pub each : (k : ℕ) → k < length list / 8 → GoodWish N list k
 
 -- why a wish list is not taken, each reason only where none before it holds
-pub data Untaken (N : ℕ) (list : List ℕ) (cells : ℕ) : Refusal → Type 0 where
-  -- code 1: N is 0 or over 64
-  no-ports : (0 < N → N ≤ 64 → ⊥) → Untaken N list cells Ports
+pub data Untaken (E : Edition) (N : ℕ) (list : List ℕ) (cells : ℕ) : Refusal → Type 0 where
+  -- code 1: N is 0 or more than the edition's ports
+  no-ports : (0 < N → N ≤ E .ports → ⊥) → Untaken E N list cells Ports
   -- code 2: the cells are not N²
-  no-square : 0 < N → N ≤ 64 → (cells ≡ N * N → ⊥) → Untaken N list cells (Cells (N * N))
+  no-square : 0 < N → N ≤ E .ports → (cells ≡ N * N → ⊥) → Untaken E N list cells (Cells (N * N))
   -- code 9: the bytes are not whole records
-  torn : 0 < N → N ≤ 64 → cells ≡ N * N → (length list % 8 ≡ 0 → ⊥) → Untaken N list cells (Torn (length list / 8))
+  torn : 0 < N → N ≤ E .ports → cells ≡ N * N → (length list % 8 ≡ 0 → ⊥) → Untaken E N list cells (Torn (length list / 8))
   -- the first faulty record's code, 11, 12, 6, 7 or 8 in this order
-  faulty : {f : Refusal} → 0 < N → N ≤ 64 → cells ≡ N * N → length list % 8 ≡ 0 → FirstAt N list (length list / 8) f → Untaken N list cells f
+  faulty : {f : Refusal} → 0 < N → N ≤ E .ports → cells ≡ N * N → length list % 8 ≡ 0 → FirstAt N list (length list / 8) f → Untaken E N list cells f
 
 -- the answer r, and the cells afterwards
-pub record WishedAll (N : ℕ) (list cells : List ℕ) (r : Outcome) (after : List ℕ) : Type 0 where
+pub record WishedAll (E : Edition) (N : ℕ) (list cells : List ℕ) (r : Outcome) (after : List ℕ) : Type 0 where
   -- code 0 exactly when nothing is wrong, with the number of wish records
-  pub taken : GoodList N list (length cells) → r ≡ Done (planCounts (length list / 8) 0 0)
-  pub only-then : answer.codeOf r ≡ 0 → GoodList N list (length cells)
+  pub taken : GoodList E N list (length cells) → r ≡ Done (planCounts (length list / 8) 0 0)
+  pub only-then : answer.codeOf r ≡ 0 → GoodList E N list (length cells)
   -- then each named pair has its wish's slots, and every other pair 0
   pub demand : answer.codeOf r ≡ 0 → Demanded N list (length list / 8) after
   -- and else it has its reason, and no cell is changed
-  pub refuses : (f : Refusal) → r ≡ Refused f → Untaken N list (length cells) f
+  pub refuses : (f : Refusal) → r ≡ Refused f → Untaken E N list (length cells) f
   pub unchanged : (answer.codeOf r ≡ 0 → ⊥) → after ≡ cells

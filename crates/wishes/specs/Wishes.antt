@@ -6,9 +6,10 @@ use lib.Dec.{eqb}
 use lib.ListN.{length, set, replicate}
 use Rattle.switch.specs.Check.{portsFine}
 use Rattle.switch.specs.Answer.{planCounts}
-use Rattle.switch.specs.Result.{unless}
+use Rattle.switch.specs.Result.{Result, unless}
 use Rattle.switch.specs.Demand.{cell}
 use Rattle.switch.specs.declared.Refusal.the-variants.{Ports, Cells, Torn}
+use Rattle.switch.specs.declared.Edition.{Edition}
 use Rattle.switch.specs.declared.Outcome.{Outcome}
 use Rattle.switch.specs.declared.Outcome.the-variants.{Done, Refused}
 use Rattle.wish.specs.Wish.{wishBits, slotsOf}
@@ -53,3 +54,7 @@ cellsOf N s cells (Refused r) = cells
 -- the cells after the call
 unfoldable pub cellsAfter : ℕ → ℕ → List ℕ → List ℕ → List ℕ
 cellsAfter most N s cells = cellsOf N s cells (outcome most N s (length cells))
+
+-- both, for an edition's switches: a wish list knows no more of an edition than how many ports it has
+abbrev pub wishing : Edition → (N : ℕ) (s cells : List ℕ) → Result
+wishing E N s cells = record { outcome = outcome (E .ports) N s (length cells); bytes = cellsAfter (E .ports) N s cells }

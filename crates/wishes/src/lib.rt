@@ -1,5 +1,5 @@
 // A wish list to a demand: 8-byte records, each a pair of ports and a binary32 value, to N × N cells.
-// `wishes` answers for every list, of any length and any bytes: codes 1, 2 and 9, then the first faulty record's 11, 12, 6, 7 or 8.
+// Each call answers for every list, of any length and any bytes: codes 1, 2 and 9, then the first faulty record's 11, 12, 6, 7 or 8.
 // A refusal changes no cell; a success makes the cell of each named pair its wish's slots, and every other 0.
 // What one wish is worth is the crate `wish`'s matter, and whether the lines are too long is for whoever plans the demand.
 use labels::put_row;
@@ -14,10 +14,12 @@ ghost use mathlib.Core.Path.{_≡_};
 ghost use mathlib.Core.Bool.{true};
 ghost use Prim.Native.Nat.{_+_, _*_, _≤_, _<_};
 ghost use lib.ListN.{length, replicate};
+ghost use Rattle.switch.specs.Editions.{firstEdition, secondEdition};
+ghost use Rattle.switch.specs.Result.{Gives};
 ghost use Rattle.wishes.specs.Record.{recordAt, word, wellFormed};
 ghost use Rattle.wishes.specs.Fault.{wishFault, faultOf, firstFault};
 ghost use Rattle.wishes.specs.Seen.{Room, Empty, Marks, seenPair};
-ghost use Rattle.wishes.specs.Wishes.{put, demandOf, outcome, cellsAfter};
+ghost use Rattle.wishes.specs.Wishes.{put, demandOf, outcome, cellsAfter, wishing};
 
 // A wish record and where its parts stand (§4.5).
 const RECORD: usize = 8;
@@ -47,11 +49,20 @@ pub enum Fault {
 
 // Makes a demand of a wish list.
 pub fn wishes(n: usize, list: &[u8], cells: &mut [u32]) -> Outcome
-    ensures { λ r. ⌜ (r ≡ outcome 64 n (now (list .entry)) (length (now (cells .entry)))) × (now (cells .exit) ≡ cellsAfter 64 n (now (list .entry)) (now (cells .entry))) ⌝ }
+    ensures { λ r. ⌜ Gives (wishing firstEdition n (now (list .entry)) (now (cells .entry))) r (now (cells .exit)) ⌝ }
 {
     let mut lows = [0u64; switch::PORTS];
     let mut highs = [0u64; switch::PORTS];
     list_to_demand(n, switch::PORTS, list, cells, &mut lows, &mut highs)
+}
+
+// The same in the second edition.
+pub fn wishes_second(n: usize, list: &[u8], cells: &mut [u32]) -> Outcome
+    ensures { λ r. ⌜ Gives (wishing secondEdition n (now (list .entry)) (now (cells .entry))) r (now (cells .exit)) ⌝ }
+{
+    let mut lows = [0u64; switch::WIDE_PORTS];
+    let mut highs = [0u64; switch::WIDE_PORTS];
+    list_to_demand(n, switch::WIDE_PORTS, list, cells, &mut lows, &mut highs)
 }
 
 // The same for a switch of up to `most` ports; `lows` and `highs` are room for a set of outputs for each input.

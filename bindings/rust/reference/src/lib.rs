@@ -6,6 +6,7 @@
 //! same plans once more in the plainest words, to test the fast ones.
 
 mod console;
+pub mod editions;
 mod exact;
 mod grating;
 mod join;

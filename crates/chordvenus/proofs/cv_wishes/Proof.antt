@@ -1,6 +1,5 @@
 -- The call's own answer, flattened, and what it leaves in the lent memory.
-use mathlib.Core.Path.{ap, _∙_}
-use Rattle.chordvenus.specs.Flat.{flat}
+use Rattle.chordvenus.proofs.Edge.{crosses}
 use borrow.Author.Needs.{needs}
 use Rattle.chordvenus.proofs.cv_wishes.Statement.{statement}
 use Rattle.chordvenus.proofs.cv_wishes.Tie as tie
@@ -15,7 +14,7 @@ same-length : tie.Need-same-length
 same-length c = search needs
 
 returns : tie.Need-returns
-returns c = (c .flatten .ensures ∙ ap flat (c .before .before .before .wishes .ensures .0), c .before .before .before .wishes .ensures .1)
+returns c = crosses (c .flatten .ensures) (c .before .before .before .wishes .ensures)
 
 pub cv-wishes-spec : {M : Type 1} → statement M
 cv-wishes-spec = tie.close (tie.spec wishes-requires flatten-requires same-length returns)

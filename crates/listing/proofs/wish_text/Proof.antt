@@ -34,7 +34,7 @@ returns : tie.Need-returns
 returns c =
     let s = c .before .before .before .before .before .before .before .before .before .before .before .before .before .before in
     let p = c .before .before .put-refusal in
-    let e = wish-refused (s .args .n) (s .args .list .now) (s .args .cells .now) (s .pre .0) (s .pre .1) (s .pre .2) _ (sym (sym (c .before .before .before .before .before .before .before .before .before .wishes .ensures .0) ∙ c .before .before .before .before .before .outcome .given .1)) in
+    let e = wish-refused (s .args .n) (s .args .list .now) (s .args .cells .now) (s .pre .0) (s .pre .1) (s .pre .2) _ (sym (sym (c .before .before .before .before .before .before .before .before .before .wishes .ensures .outcome) ∙ c .before .before .before .before .before .outcome .given .1)) in
     subst (λ (x : List ℕ). Put x (s .args .text .now) 0 (p .last .0) (p .result)) e (p .ensures)
 
 same-length-3 : tie.Need-same-length-3
@@ -48,8 +48,8 @@ returns-2 c =
     let s = c .before .before .before .before .before .before .before .before .before .before .before .before .before .before in
     let w = c .before .before .before .before .before .before .before .before .before .wishes in
     let p = c .before .before .demand-text in
-    let e = wish-done (s .args .n) (s .args .list .now) (s .args .cells .now) (s .pre .0) (s .pre .1) (s .pre .2) _ (sym (sym (w .ensures .0) ∙ c .before .before .before .before .before .enum-told .given .1)) in
-    subst (λ (x : List ℕ). Put x (s .args .text .now) 0 (p .last .1 .1 .0) (p .result)) (ap (demandText (s .args .n)) (w .ensures .1) ∙ e) (p .ensures)
+    let e = wish-done (s .args .n) (s .args .list .now) (s .args .cells .now) (s .pre .0) (s .pre .1) (s .pre .2) _ (sym (sym (w .ensures .outcome) ∙ c .before .before .before .before .before .enum-told .given .1)) in
+    subst (λ (x : List ℕ). Put x (s .args .text .now) 0 (p .last .1 .1 .0) (p .result)) (ap (demandText (s .args .n)) (w .ensures .bytes) ∙ e) (p .ensures)
 
 pub wish-text-spec : {M : Type 1} → statement M
 wish-text-spec =

@@ -18,7 +18,7 @@ same-length : tie.Need-same-length
 same-length c = search needs
 
 returns : tie.Need-returns
-returns c = search needs
+returns c = let j = c .before .before .before .before .list-to-demand .ensures in record { outcome = j .0; bytes = j .1 }
 
 pub wishes-spec : {M : Type 1} → statement M
 wishes-spec =
