@@ -26,7 +26,8 @@ fn asked(rng: &mut Rng) -> (u64, Vec<u32>, u64) {
         _ => (),
     }
     let ports = if rng.one_in(16) { cases::wild_ports(rng, n) } else { n as u64 };
-    let limit = rng.pick(&[1, 1, 2, 3, n as u64, n as u64 + 1, rng.draw(), u64::MAX, u64::MAX - 1]);
+    let any = rng.draw();
+    let limit = rng.pick(&[1, 1, 2, 3, n as u64, n as u64 + 1, any, u64::MAX - 1, u64::MAX]);
     (ports, cells, if rng.one_in(16) { 0 } else { limit })
 }
 
