@@ -5,9 +5,11 @@ use mathlib.Core.List.{List}
 use Prim.Native.Nat.{ℕ, _+_, _*_, _-_, _/_, _%_, _≤_, _<_, min}
 use native.Mathlib.Omega.{arith}
 use native.Mathlib.Decide.{ℕ-discrete, decLt}
+use native.Mathlib.Nat.{add-mul}
 use native.Mathlib.Numerals.{add-one}
 use lib.ListN.{length, getD, set, length-set}
 use lib.Seq.{getD-set-same, getD-set-other}
+use lib.Arith.{digits-div, digits-mod}
 use Rattle.counting.specs.Matrix.{row, col}
 use Rattle.counting.proofs.Sum.{sum-at}
 use Rattle.counting.proofs.Matrix.{Raised, raised-row, raised-col, raised-other-row, raised-other-col}
@@ -41,9 +43,16 @@ pub fillTo-zero : (N T : ℕ) (d : List ℕ) → d ≡ fillTo N T d 0
 unfolding fillTo
 fillTo-zero N T d = refl
 
-pub fillTo-next : (N T : ℕ) (d : List ℕ) (k : ℕ) → fillCell N T (fillTo N T d k) (k / N) (k % N) ≡ fillTo N T d (k + 1)
+fillTo-next : (N T : ℕ) (d : List ℕ) (k : ℕ) → fillCell N T (fillTo N T d k) (k / N) (k % N) ≡ fillTo N T d (k + 1)
 unfolding fillTo
 fillTo-next N T d k = rw (add-one k)
+
+-- the pair (i, j) has cell i × N + j; behind the last of a row comes the first of the next
+fillTo-pair : (N T : ℕ) (d : List ℕ) (i j : ℕ) → j < N → fillCell N T (fillTo N T d (i * N + j)) i j ≡ fillTo N T d (i * N + j + 1)
+fillTo-pair N T d i j l = ap₂ (fillCell N T (fillTo N T d (i * N + j))) (sym (digits-div i l)) (sym (digits-mod i l)) ∙ fillTo-next N T d (i * N + j)
+
+pub next-row : (N i j : ℕ) → j + 1 ≡ N → (i + 1) * N + 0 ≡ i * N + j + 1
+next-row N i j e = omega (arith, add-mul i 1 N)
 
 -- ---- a line's lack is noted
 
@@ -81,7 +90,7 @@ module _ (N T : ℕ) (w l : List ℕ) (h : Within N T w) (p : Lacking N T w l) (
   unfolding lack row
   fill-fits = omega (arith, both-lack, sum-at N (λ b. cell N w i b) j lj, h .rows i li, h .small)
 
-  pub filled-cell : set w (i * N + j) (cell N w i j + both N l i j) ≡ fillCell N T w i j
+  filled-cell : set w (i * N + j) (cell N w i j + both N l i j) ≡ fillCell N T w i j
   unfolding fillCell
   filled-cell = ap (λ v. set w (i * N + j) (cell N w i j + v)) both-lack
 
@@ -113,7 +122,7 @@ module _ (N T : ℕ) (w l : List ℕ) (h : Within N T w) (p : Lacking N T w l) (
           ∙ sym (line-col N w (k - N)) ∙ ap (line N w) (sym e)
 
   -- so the lines lack that much less, and the others as much as before
-  pub lacking-filled : Lacking N T (fillCell N T w i j) (lessBoth N l i j)
+  lacking-filled : Lacking N T (fillCell N T w i j) (lessBoth N l i j)
   lacking-filled = record { size = omega (arith, long, length-set first (N + j) (getD l (N + j) 0 - both N l i j)); is = λ k lk. unfold w' in go k lk (ℕ-discrete k i) (ℕ-discrete k (N + j)) }
     where
       first : List ℕ
@@ -131,3 +140,12 @@ module _ (N T : ℕ) (w l : List ℕ) (h : Within N T w) (p : Lacking N T w l) (
       go k lk (no a) (no b) = getD-set-other first (N + j) k (getD l (N + j) 0 - both N l i j) 0 b
           ∙ getD-set-other l i k (getD l i 0 - both N l i j) 0 a
           ∙ p .is k lk ∙ ap (λ x. T - x) (sym (line-other k lk a b))
+
+-- the pair's cell is filled, behind all those before it
+pub fill-step : (N T : ℕ) (d w l : List ℕ) (i j : ℕ) → Within N T d → i < N → j < N → i * N + j ≤ N * N → w ≡ fillTo N T d (i * N + j) → Lacking N T w l
+    → (w' l' : List ℕ) → w' ≡ set w (i * N + j) (cell N w i j + both N l i j) → l' ≡ lessBoth N l i j
+    → (w' ≡ fillTo N T d (i * N + j + 1)) × Lacking N T w' l'
+fill-step N T d w l i j h li lj k e p w' l' f g =
+    let x = within-so-far h (i * N + j) k e in
+    let c : w' ≡ fillCell N T w i j = f ∙ filled-cell N T w l x p i j li lj in
+    (c ∙ ap (λ (y : List ℕ). fillCell N T y i j) e ∙ fillTo-pair N T d i j lj, rw (c, g) (lacking-filled N T w l x p i j li lj))

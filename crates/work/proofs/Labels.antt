@@ -1,6 +1,6 @@
 -- The labels of the rows: marked cell by cell, and after a cell falls only its own row's label can change.
 use mathlib.Core.Path.{_≡_, sym, ap, subst, _∙_}
-use mathlib.Core.Logic.{_≢_, inl, inr}
+use mathlib.Core.Logic.{_≢_, _⊎_, inl, inr}
 use mathlib.Core.List.{List}
 use Prim.Native.Nat.{ℕ, _+_, _-_, _*_, _<_, _≤_}
 use native.Mathlib.Decide.{ℕ-discrete}
@@ -28,7 +28,7 @@ module _ (w : List ℕ) (row l : ℕ) where
   pub part-none : ((k : ℕ) → In l k → ⊥) → Part w row l 0
   part-none e = record { all = λ k h _. absurd (omega arith); only = λ k h. absurd (e k h) }
 
-  pub part-mark : (j r : ℕ) → getD w (row + j) 0 ≢ 0 → Marked l j r → Part w row l j → Part w row r (j + 1)
+  part-mark : (j r : ℕ) → getD w (row + j) 0 ≢ 0 → Marked l j r → Part w row l j → Part w row r (j + 1)
   part-mark j r e m p = record { all = all; only = only }
     where
       all : (k : ℕ) → k < j + 1 → getD w (row + k) 0 ≢ 0 → In r k
@@ -41,7 +41,7 @@ module _ (w : List ℕ) (row l : ℕ) where
       only : (k : ℕ) → In r k → (k < j + 1) × (getD w (row + k) 0 ≢ 0)
       only k h = elim (m .only k h) [ inl z ↦ (omega (arith, p .only k z .0), p .only k z .1) | inr z ↦ (omega arith, subst (λ x. getD w (row + x) 0 ≢ 0) (sym z) e) ]
 
-  pub part-skip : (j : ℕ) → getD w (row + j) 0 ≡ 0 → Part w row l j → Part w row l (j + 1)
+  part-skip : (j : ℕ) → getD w (row + j) 0 ≡ 0 → Part w row l j → Part w row l (j + 1)
   part-skip j e p = record { all = all; only = λ k h. (omega (arith, p .only k h .0), p .only k h .1) }
     where
       all : (k : ℕ) → k < j + 1 → getD w (row + k) 0 ≢ 0 → In l k
@@ -50,6 +50,23 @@ module _ (w : List ℕ) (row l : ℕ) where
           go : Dec (k ≡ j) → In l k
           go (yes z) = absurd (q (ap (λ x. getD w (row + x) 0) z ∙ e))
           go (no z) = p .all k (omega arith) q
+
+  -- marked, and cleared again where the cell is zero
+  pub part-next : (j m r : ℕ) → Marked l j m → ClearedIf (eqb (getD w (row + j) 0) 0) m j r → Part w row l j → Part w row r (j + 1)
+  part-next j m r mk c p = by (ℕ-discrete (getD w (row + j) 0) 0)
+    where
+      zero : getD w (row + j) 0 ≡ 0 → Cleared m j r → Part w row r (j + 1)
+      zero e g =
+          let s = part-skip j e p in
+          record { all = λ k h q. g .kept k (mk .more k (s .all k h q)) (λ z. q (ap (λ x. getD w (row + x) 0) z ∙ e)); only = λ k h. only k h (mk .only k (g .less k h)) }
+        where
+          only : (k : ℕ) → In r k → In l k ⊎ (k ≡ j) → (k < j + 1) × (getD w (row + k) 0 ≢ 0)
+          only k h (inl z) = part-skip j e p .only k z
+          only k h (inr z) = absurd (g .gone (subst (In r) z h))
+
+      by : Dec (getD w (row + j) 0 ≡ 0) → Part w row r (j + 1)
+      by (yes e) = zero e (c .cleared (eq-eqb _ _ e))
+      by (no n) = subst (λ (x : ℕ). Part w row x (j + 1)) (sym (c .same (ne-eqb _ _ n))) (part-mark j m n mk p)
 
   pub part-row : (N i : ℕ) → row ≡ i * N → Part w row l N → RowOf N w i l
   unfolding cell

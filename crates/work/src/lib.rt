@@ -33,17 +33,23 @@ pub fn copy(demand: &[u32], cells: &mut [u32])
     }
 }
 
-// Cells in order are topped up, each by as much as its row and its column both allow (§6.2).
+// Cells in order are topped up, each by as much as its row and its column both allow (§6.2). The pair is counted on from cell to cell: a
+// division for each would cost more than the rest.
 pub fn fill_up(cells: &mut [u32], n: usize, longest: u64)
     requires { ⌜ Within n longest (now cells) ⌝ }
     ensures { λ _. ⌜ now (cells .exit) ≡ fill n longest (now (cells .entry)) ⌝ }
 {
     let mut lacking = [0u32; LINES];
     measure(cells, n, longest, &mut lacking);
-    for k in 0..n * n {
-        let i = k / n;
-        let j = k % n;
+    let mut i = 0;
+    let mut j = 0;
+    while i < n {
         fill_cell(cells, &mut lacking, n, InputPort(i), OutputPort(j));
+        j += 1;
+        if j == n {
+            i += 1;
+            j = 0;
+        }
     }
 }
 
@@ -92,7 +98,7 @@ pub fn label_rows(cells: &[u32], n: usize, lows: &mut [u64], highs: &mut [u64])
     }
 }
 
-// The label of one input.
+// The label of one input. Nobody can foresee which cells are zero, so each output is marked and where its cell is zero cleared again.
 fn label_row(cells: &[u32], n: usize, i: InputPort) -> Outputs
     requires { ⌜ Sized n (now cells) × (i .0 < n) ⌝ }
     ensures { λ r. ⌜ RowOf n (now (cells .entry)) (i .0) (outputsOf r) ⌝ }
@@ -100,9 +106,8 @@ fn label_row(cells: &[u32], n: usize, i: InputPort) -> Outputs
     let row = i.0 * n;
     let mut label = Outputs::none();
     for j in 0..n {
-        if cells[row + j] != 0 {
-            label = label.mark(OutputPort(j));
-        }
+        let marked = label.mark(OutputPort(j));
+        label = marked.without_if(OutputPort(j), cells[row + j] == 0);
     }
     label
 }

@@ -1,24 +1,24 @@
--- After k turns the first k cells are filled in order, and what each line still lacks is noted beside them.
-use mathlib.Core.Path.{_≡_, refl, sym, ap, _∙_}
-use mathlib.Core.List.{List}
-use Prim.Native.Nat.{ℕ, _*_, _-_, _/_, _%_, _≤_}
+-- The cells before that of the pair (i, j) are filled in order, and what each line still lacks is noted beside them.
+use mathlib.Core.Path.{_≡_, sym, ap, _∙_}
+use Prim.Native.Nat.{_+_, _*_, _-_, _<_, _≤_}
+use native.Mathlib.Nat.{mul-le-mul-right}
 use native.Mathlib.Omega.{arith}
+use lib.Arith.{digits-lt}
 use lib.ListN.{length, length-set}
-use Rattle.rules.specs.Fill.{fill, fillTo, fillCell}
-use Rattle.switch.proofs.Demand.{place-in}
+use Rattle.rules.specs.Fill.{fill, fillTo}
 use Rattle.rules.proofs.Fill.{length-fillTo}
 use Rattle.work.specs.Level.{Lacking}
-use Rattle.work.proofs.Cells.{square-small}
-use Rattle.work.proofs.Filling.{within-so-far, fillTo-zero, fillTo-next, fill-fits, filled-cell, lacking-filled}
+use Rattle.work.proofs.Filling.{within-so-far, fillTo-zero, next-row, fill-fits, fill-step}
 use borrow.Author.Needs.{needs}
 use Rattle.work.proofs.fill_up.Statement.{statement}
 use Rattle.work.proofs.fill_up.Tie as tie
 
 abbrev Inv-loop : tie.InvT-loop
-Inv-loop cells₀ n longest lacking₀ k₀ k-end cells lacking k = (k-end ≡ n * n) × (k ≤ n * n) × (cells ≡ fillTo n longest cells₀ k) × Lacking n longest cells lacking × (length lacking ≡ 256)
+Inv-loop cells₀ n longest lacking₀ i₀ j₀ cells lacking i j =
+    (j < n) × (i * n + j ≤ n * n) × (cells ≡ fillTo n longest cells₀ (i * n + j)) × Lacking n longest cells lacking × (length lacking ≡ 256)
 
 abbrev μ-loop : tie.MeasureT-loop
-μ-loop cells₀ n longest lacking₀ k₀ k-end cells lacking k = n * n - k
+μ-loop cells₀ n longest lacking₀ i₀ j₀ cells lacking i j = n * n - (i * n + j)
 
 slice-aggregate-measure : tie.Need-slice-aggregate-measure Inv-loop μ-loop
 slice-aggregate-measure c = search needs
@@ -26,17 +26,12 @@ slice-aggregate-measure c = search needs
 measure-requires : tie.Need-measure-requires Inv-loop μ-loop
 measure-requires c κs = search needs
 
-mul-k-end : tie.Need-mul-k-end Inv-loop μ-loop
-mul-k-end c = omega (arith, square-small _ _ (c .before .before .before .before .before .pre .sized))
-
 loop-holds : tie.Need-loop-holds Inv-loop μ-loop
-loop-holds c = (refl, omega arith, fillTo-zero _ _ _, c .before .measure .ensures, search needs)
-
-div-i : tie.Need-div-i Inv-loop μ-loop
-div-i c = search needs
-
-rem-j : tie.Need-rem-j Inv-loop μ-loop
-rem-j c = search needs
+loop-holds c =
+    let s = c .before .before .before .before .before in
+    let a = s .args in
+    let z : 0 ≡ 0 * a .n + 0 = omega arith in
+    (s .pre .sized .some, omega arith, fillTo-zero _ _ _ ∙ ap (fillTo (a .n) (a .longest) (a .cells .now)) z, c .before .measure .ensures, search needs)
 
 slice-aggregate-fill-cell : tie.Need-slice-aggregate-fill-cell Inv-loop μ-loop
 slice-aggregate-fill-cell c = sym (c .before .before .before .loop .inv .4)
@@ -44,30 +39,57 @@ slice-aggregate-fill-cell c = sym (c .before .before .before .loop .inv .4)
 fill-cell-requires : tie.Need-fill-cell-requires Inv-loop μ-loop
 fill-cell-requires c κs =
     let l = c .before .before .before .loop in
-    let w = within-so-far (c .before .before .before .before .before .before .before .before .before .pre) (l .k) (l .inv .1) (l .inv .2) in
-    let q = place-in (c .before .before .before .before .before .before .before .before .before .args .n) (l .k) (omega arith) in
-    record { sized = w .sized; input = q .0; output = q .1; lines = l .inv .3 .size; fits = fill-fits _ _ _ _ w (l .inv .3) _ _ (q .0) (q .1) }
+    let here = c .before .before .loop-test .taken in
+    let w = within-so-far (c .before .before .before .before .before .before .before .before .before .pre) (l .i * c .before .before .before .before .before .before .before .before .before .args .n + l .j) (l .inv .1) (l .inv .2) in
+    record { sized = w .sized; input = here; output = l .inv .0; lines = l .inv .3 .size; fits = fill-fits _ _ _ _ w (l .inv .3) _ _ here (l .inv .0) }
 
-add-k : tie.Need-add-k Inv-loop μ-loop
-add-k c = search needs
+add-j : tie.Need-add-j Inv-loop μ-loop
+add-j c = omega (arith, c .before .before .before .before .before .before .before .loop .inv .0, c .before .before .before .before .before .before .before .before .before .before .before .before .before .pre .sized .few)
+
+add-i : tie.Need-add-i Inv-loop μ-loop
+add-i c = omega (arith, c .before .before .before .before .before .before .before .loop-test .taken, c .before .before .before .before .before .before .before .before .before .before .before .before .before .before .pre .sized .few)
 
 loop-less : tie.Need-loop-less Inv-loop μ-loop
-loop-less c = omega arith
+loop-less c =
+    let s = c .before .before .before .before .before .before .before .before .before .before .before .before .before .before in
+    let a = s .args in
+    let l = c .before .before .before .before .before .before .before .before .loop in
+    let here = c .before .before .before .before .before .before .before .loop-test .taken in
+    let inside = digits-lt {q = l .i} {m = a .n} {r = l .j} {c = a .n} here (l .inv .0) in
+    omega (arith, inside, next-row (a .n) (l .i) (l .j) (c .if1 .taken))
 
 loop-again : tie.Need-loop-again Inv-loop μ-loop
 loop-again c =
-    let a = c .before .before .before .before .before .before .before .before .before .before .before .before .before .args in
-    let l = c .before .before .before .before .before .before .before .loop in
-    let w = within-so-far (c .before .before .before .before .before .before .before .before .before .before .before .before .before .pre) (l .k) (l .inv .1) (l .inv .2) in
-    let q = place-in (a .n) (l .k) (omega arith) in
-    let s = c .before .before .before .fill-cell .ensures in
-    let e = s .0 ∙ filled-cell _ _ _ _ w (l .inv .3) _ _ (q .0) (q .1) in (
-      refl,
-      omega arith,
-      e ∙ ap (λ (d : List ℕ). fillCell (a .n) (a .longest) d (l .k / a .n) (l .k % a .n)) (l .inv .2) ∙ fillTo-next _ _ _ _,
-      rw (e, s .1) (lacking-filled _ _ _ _ w (l .inv .3) _ _ (q .0) (q .1)),
-      ap length (s .1) ∙ simp length-set (l .inv .4),
-    )
+    let s = c .before .before .before .before .before .before .before .before .before .before .before .before .before .before in
+    let a = s .args in
+    let l = c .before .before .before .before .before .before .before .before .loop in
+    let here = c .before .before .before .before .before .before .before .loop-test .taken in
+    let inside = digits-lt {q = l .i} {m = a .n} {r = l .j} {c = a .n} here (l .inv .0) in
+    let q = c .before .before .before .before .fill-cell .ensures in
+    let g = fill-step (a .n) (a .longest) (a .cells .now) _ _ (l .i) (l .j) (s .pre) here (l .inv .0) (l .inv .1) (l .inv .2) (l .inv .3) _ _ (q .0) (q .1) in
+    let e = next-row (a .n) (l .i) (l .j) (c .if1 .taken) in
+    (s .pre .sized .some, omega (arith, inside, e), g .0 ∙ ap (fillTo (a .n) (a .longest) (a .cells .now)) (sym e), g .1, ap length (q .1) ∙ simp length-set (l .inv .4))
+
+loop-less-2 : tie.Need-loop-less-2 Inv-loop μ-loop
+loop-less-2 c =
+    let s = c .before .before .before .before .before .before .before .before .before .before .before .before .before .before in
+    let a = s .args in
+    let l = c .before .before .before .before .before .before .before .before .loop in
+    let here = c .before .before .before .before .before .before .before .loop-test .taken in
+    let inside = digits-lt {q = l .i} {m = a .n} {r = l .j} {c = a .n} here (l .inv .0) in
+    omega (arith, inside)
+
+loop-again-2 : tie.Need-loop-again-2 Inv-loop μ-loop
+loop-again-2 c =
+    let s = c .before .before .before .before .before .before .before .before .before .before .before .before .before .before in
+    let a = s .args in
+    let l = c .before .before .before .before .before .before .before .before .loop in
+    let here = c .before .before .before .before .before .before .before .loop-test .taken in
+    let inside = digits-lt {q = l .i} {m = a .n} {r = l .j} {c = a .n} here (l .inv .0) in
+    let q = c .before .before .before .before .fill-cell .ensures in
+    let g = fill-step (a .n) (a .longest) (a .cells .now) _ _ (l .i) (l .j) (s .pre) here (l .inv .0) (l .inv .1) (l .inv .2) (l .inv .3) _ _ (q .0) (q .1) in
+    let e : l .i * a .n + l .j + 1 ≡ l .i * a .n + (l .j + 1) = omega arith in
+    (omega (arith, l .inv .0, c .if1 .left), omega (arith, inside), g .0 ∙ ap (fillTo (a .n) (a .longest) (a .cells .now)) e, g .1, ap length (q .1) ∙ simp length-set (l .inv .4))
 
 same-length : tie.Need-same-length Inv-loop μ-loop
 same-length c = ap length (c .before .loop .inv .2) ∙ length-fillTo _ _ _ _
@@ -77,7 +99,7 @@ unfolding fill
 returns c =
     let l = c .before .loop in
     let a = c .before .before .before .before .before .before .before .args in
-    let e : l .k ≡ a .n * a .n = omega arith in
+    let e : l .i * a .n + l .j ≡ a .n * a .n = omega (arith, l .inv .1, mul-le-mul-right (a .n) (c .loop-test .left)) in
     l .inv .2 ∙ ap (fillTo (a .n) (a .longest) (a .cells .now)) e
 
 pub fill-up-spec : {M : Type 1} → statement M
@@ -88,14 +110,14 @@ fill-up-spec =
     μ-loop
     slice-aggregate-measure
     measure-requires
-    mul-k-end
     loop-holds
-    div-i
-    rem-j
     slice-aggregate-fill-cell
     fill-cell-requires
-    add-k
+    add-j
+    add-i
     loop-less
     loop-again
+    loop-less-2
+    loop-again-2
     same-length
     returns)
