@@ -2,36 +2,10 @@
 
 Answers are numbers by the names of cv_answer, those that are 0 left out; a refusal changes nothing.
 """
+
+
 def side(word):
     return {"": 0, "input": 1, "output": 2}[word]
-
-
-# ---- The quiet plan
-
-
-def quiet_list(n, cells, limit):
-    """§24: inputs in order, each the lowest free output with slots left whose wavelength fewer than the limit use."""
-    left, plan = list(cells), []
-    while any(left):
-        outputs, used = [255] * n, [0] * n
-        for i in range(n):
-            for j in range(n):
-                if left[i * n + j] and j not in outputs and used[(j - i) % n] < limit:
-                    outputs[i] = j
-                    used[(j - i) % n] += 1
-                    break
-        hold = min(left[i * n + j] for i, j in enumerate(outputs) if j != 255)
-        for i, j in enumerate(outputs):
-            if j != 255:
-                left[i * n + j] -= hold
-        plan.append((hold, outputs))
-    return plan
-
-
-def least(n, cells, limit, longest):
-    """The larger of T and the busiest wavelength's slots by the limit, rounded up."""
-    busiest = max(sum(cells[i * n + (i + w) % n] for i in range(n)) for w in range(n))
-    return max(longest, -(-busiest // limit))
 
 
 # ---- The open shop

@@ -213,7 +213,8 @@ class Demands(Compared):
             n, cells = cases.demand(rng, FIRST)
             limit = rng.choice([0, 1, 1, 2, 3, n, n + 1, 2**64 - 1])
             memory = bytearray([170] * (FIRST.RECORD * (16 if k % 4 else rng.randint(0, 6))))
-            answer, buffer = self.quiet_plan(n, cells, limit, bytes(memory))
+            answer, buffer = FIRST.grating_quiet(n, cells, limit, bytes(memory))
+            answer = numbers(answer)
             if k % 4:
                 got, refused = tried(cv.plan, made(n, cells), "quiet", limit=limit)
                 self.same(refused, answer if answer.get("code") else {}, n, cells, limit)
@@ -228,24 +229,11 @@ class Demands(Compared):
 
         self.compare("cv_grating_quiet", one, 8)
 
-    @staticmethod
-    def quiet_plan(n, cells, limit, buffer):
-        refused = FIRST.refused_demand(n, cells)
-        if refused or limit == 0:
-            return numbers(refused or {"code": 17}), buffer
-        answer, buffer = FIRST.planned(n, cells, more.quiet_list(n, cells, limit), buffer)
-        return numbers(answer), buffer
-
     def test_least(self):
         def one(rng, k):
             n, cells = cases.demand(rng, FIRST)
             limit = rng.choice([0, 1, 1, 2, 3, n, 2**64 - 1])
-            refused = FIRST.refused_demand(n, cells)
-            if refused or limit == 0:
-                answer = numbers(refused or {"code": 17})
-            else:
-                longest = FIRST.longest_line(n, cells)
-                answer = numbers({"total": more.least(n, cells, limit, longest), "longest": longest})
+            answer = numbers(FIRST.grating_least(n, cells, limit))
             if k % 4:
                 got, told = tried(cv.least, made(n, cells), limit)
                 self.same((got, told), (None, answer) if answer.get("code") else (answer.get("total", 0), {}), n, cells, limit)
