@@ -33,7 +33,7 @@ pub fn choose(n: usize, limit: u64, lows: &[u64], out: &mut [u8])
         taken: Label::none(),
         full: Label::none(),
     };
-    for i in 1..n {
+    for i in 0..n {
         busy = visit(n, limit, lows, InputPort(i), busy, out, &mut counts);
     }
 }
