@@ -1,10 +1,14 @@
-// The grating fabric: what a plan does to the wavelengths.
+// The grating fabric: what a plan does to the wavelengths, and the least total within a limit.
+use crate::plan::LIMIT;
 use crate::show;
 use crate::tape;
 use records::RECORD;
 use switch::Outcome;
 ghost use Prim.Native.Nat.{_≤_};
 ghost use lib.ListN.{length};
+
+// The most cells that are lent.
+const CELLS: usize = 4225;
 
 // The most bytes that are lent for a report.
 const ROOM: usize = 8448;
@@ -20,6 +24,15 @@ pub fn report_written(n: usize, outcome: Outcome, lent: &[u8])
     let size = tape::within(count * RECORD, lent);
     show::text(b"reported:");
     report(n, &lent[..size], SHORT);
+}
+
+// The least total of a plan of the cells within the wavelength limit that is laid before them.
+pub fn least(n: usize, laid: &[u8]) {
+    let mut cells = [0u32; CELLS];
+    let from = tape::within(LIMIT, laid);
+    let count = tape::load_cells(&laid[from..], &mut cells);
+    let limit = tape::long_at(laid, 0);
+    show::line(least::least_within(n, &cells[..count], limit));
 }
 
 // Reports a plan, into so many bytes.

@@ -61,6 +61,8 @@ fn run(step: Step, laid: &[u8])
     let letter = step.letter;
     match letter {
         b'x' | b'd' | b'e' | b'q' | b'g' => plan::plan(step, laid),
+        b'u' => plan::plan_limited(step, laid),
+        b'y' => fabric::least(step.first, laid),
         b'k' => check::check(step.first, laid, step.second),
         b'l' => check::length(step.first, laid, step.second as u16),
         b'j' => join::join(step, laid),

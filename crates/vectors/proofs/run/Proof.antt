@@ -4,6 +4,12 @@ use borrow.Author.Needs.{needs}
 use Rattle.vectors.proofs.run.Statement.{statement}
 use Rattle.vectors.proofs.run.Tie as tie
 
+plan-limited-requires : tie.Need-plan-limited-requires
+plan-limited-requires c κs = search needs
+
+least-requires : tie.Need-least-requires
+least-requires c κs = tt
+
 check-requires : tie.Need-check-requires
 check-requires c κs = search needs
 
@@ -94,10 +100,18 @@ returns-13 c = tt
 returns-14 : tie.Need-returns-14
 returns-14 c = tt
 
+returns-15 : tie.Need-returns-15
+returns-15 c = tt
+
+returns-16 : tie.Need-returns-16
+returns-16 c = tt
+
 pub run-spec : {M : Type 1} → statement M
 run-spec =
     tie.close
     (tie.spec
+    plan-limited-requires
+    least-requires
     check-requires
     cast-length
     length-requires
@@ -127,4 +141,6 @@ run-spec =
     returns-11
     returns-12
     returns-13
-    returns-14)
+    returns-14
+    returns-15
+    returns-16)

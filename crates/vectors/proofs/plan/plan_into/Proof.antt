@@ -15,6 +15,9 @@ written-requires c κs = tt
 plan-requires : tie.Need-plan-requires
 plan-requires c κs = tt
 
+grates-requires : tie.Need-grates-requires
+grates-requires c κs = tt
+
 report-written-requires : tie.Need-report-written-requires
 report-written-requires c κs = search needs
 
@@ -38,6 +41,7 @@ plan-into-spec =
     planned-requires
     written-requires
     plan-requires
+    grates-requires
     report-written-requires
     same-length
     returns

@@ -1,7 +1,7 @@
 -- N is small, so cells and buffer are parts of the arrays, and their sizes do not wrap.
 use borrow.Author.Needs.{needs}
-use Rattle.vectors.proofs.plan.plan.Statement.{statement}
-use Rattle.vectors.proofs.plan.plan.Tie as tie
+use Rattle.vectors.proofs.plan.plan_cells.Statement.{statement}
+use Rattle.vectors.proofs.plan.plan_cells.Tie as tie
 
 slice-aggregate-load-cells : tie.Need-slice-aggregate-load-cells
 slice-aggregate-load-cells c = search needs
@@ -27,8 +27,8 @@ plan-within-requires c κs = tt
 returns : tie.Need-returns
 returns c = tt
 
-pub plan-spec : {M : Type 1} → statement M
-plan-spec =
+pub plan-cells-spec : {M : Type 1} → statement M
+plan-cells-spec =
     tie.close
     (tie.spec
     slice-aggregate-load-cells
