@@ -125,6 +125,10 @@ enum {
 #define CV_STACK_DOUBLED 40960
 #define CV_STACK_DOUBLED_EVERY_ROTATION 40960
 #define CV_STACK_QUICK 20480
+#define CV2_STACK_EXACT 98304
+#define CV2_STACK_DOUBLED 98304
+#define CV2_STACK_DOUBLED_EVERY_ROTATION 98304
+#define CV2_STACK_QUICK 73728
 #define CV_STACK_EXACT_ROOM 256
 #define CV_STACK_DOUBLED_ROOM 256
 #define CV_STACK_QUICK_ROOM 256
@@ -341,6 +345,16 @@ CV_NODISCARD cv_answer cv_doubled_every_rotation(uint64_t n, const uint32_t *cel
  * Done:   records, longest, total, empty.
  */
 CV_NODISCARD cv_answer cv_quick(uint64_t n, const uint32_t *cells, size_t cells_len, uint8_t *plan, size_t plan_len);
+
+/*
+ * The same plans in the second edition (§18), where N is 1 to 128: a record has CV2_RECORD_SIZE bytes,
+ * hold, N, the byte 2 and 128 outputs. Codes in the same order, code 5 by that size.
+ * Codes, writes, done: as cv_exact, cv_doubled, cv_doubled_every_rotation and cv_quick.
+ */
+CV_NODISCARD cv_answer cv2_exact(uint64_t n, const uint32_t *cells, size_t cells_len, uint8_t *plan, size_t plan_len);
+CV_NODISCARD cv_answer cv2_doubled(uint64_t n, const uint32_t *cells, size_t cells_len, uint8_t *plan, size_t plan_len);
+CV_NODISCARD cv_answer cv2_doubled_every_rotation(uint64_t n, const uint32_t *cells, size_t cells_len, uint8_t *plan, size_t plan_len);
+CV_NODISCARD cv_answer cv2_quick(uint64_t n, const uint32_t *cells, size_t cells_len, uint8_t *plan, size_t plan_len);
 
 /* ---- chordvenus-room: the room of a plan beforehand ---- */
 

@@ -8,6 +8,7 @@ laid. Tapes may be put one after the other, and so may the lines that they give.
 | letter | call | first | second | small | laid |
 |---|---|---|---|---|---|
 | x, d, e, q, g | exact, doubled, doubled with every rotation, quick, grating | N | whole records of room | bytes of room more | cells |
+| X, D, E, Q | exact, doubled, doubled with every rotation and quick of the second edition | N | whole records of room | bytes of room more | cells |
 | k | check | N | cells, of those laid the first | 0 | cells, then the plan |
 | l | length | N | d | 0 | the plan |
 | j | join | N | whole records of room | bytes of room more | the plan |

@@ -1,10 +1,10 @@
 //! Each call of the library, on one demand.
 
-use crate::demands::{Demand, ROOM};
+use crate::demands::{Demand, ROOM, ROOM_SECOND};
 use crate::same;
 use crate::timing::Pair;
 use cases::Rng;
-use reference::{MOST_RECORDS, RECORD_SIZE, TASK_SIZE};
+use reference::{MOST_RECORDS, RECORD_SIZE, RECORD_SIZE_SECOND, TASK_SIZE};
 use std::hint::black_box;
 
 #[cfg(feature = "proved")]
@@ -138,6 +138,41 @@ pub fn same<'a>(call: &str, words: usize, demand: &'a Demand) -> Pair<'a> {
     let mut pair = pair(call, demand);
     pair.reference = Box::new(move || run(planner(n, black_box(cells), &mut plan)));
     pair
+}
+
+/// The planners of the second edition.
+pub const SECOND: [&str; 4] = ["exact", "doubled", "doubled_every_rotation", "quick"];
+
+/// The second edition's planner of this name.
+pub fn second<'a>(call: &str, demand: &'a Demand) -> Pair<'a> {
+    type Unproved = fn(u64, &[u32], &mut [u8]) -> reference::Outcome;
+    #[cfg(feature = "proved")]
+    use chordvenus::second as edition;
+    #[cfg(feature = "proved")]
+    type Proved = fn(u64, &[u32], &mut [u8]) -> chordvenus::Answer;
+    #[cfg(feature = "proved")]
+    let proved: Proved = match call {
+        "exact" => edition::exact,
+        "doubled" => edition::doubled,
+        "doubled_every_rotation" => edition::doubled_every_rotation,
+        _ => edition::quick,
+    };
+    let unproved: Unproved = match call {
+        "exact" => reference::exact_second,
+        "doubled" => reference::doubled_second,
+        "doubled_every_rotation" => reference::doubled_every_rotation_second,
+        _ => reference::quick_second,
+    };
+    #[cfg(not(feature = "proved"))]
+    let proved = unproved;
+    let n = demand.n as u64;
+    let cells = if call == "quick" { demand.quick_cells() } else { demand.cells.clone() };
+    let (same, room) = (cells.clone(), vec![0; ROOM_SECOND * RECORD_SIZE_SECOND]);
+    let (mut made, mut wanted) = (room.clone(), room);
+    Pair {
+        proved: Box::new(move || run(proved(n, black_box(&cells), &mut made))),
+        reference: Box::new(move || run(unproved(n, black_box(&same), &mut wanted))),
+    }
 }
 
 /// A plan of 8,192 records: this one over and over.

@@ -1,31 +1,42 @@
 //! The seeded demands that are timed.
 
 use cases::Rng;
-use reference::{MOST_QUICK, RECORD_SIZE};
+use reference::{MOST_PORTS, MOST_QUICK, RECORD_SIZE, RECORD_SIZE_SECOND};
 
 const SEED: u64 = 2;
-/// Records of the longest exact plan there is, and more than any other plan here has.
+/// Records of the longest exact plan there is, and more than any other plan here has; and of the second
+/// edition's.
 pub const ROOM: usize = 4_096;
+pub const ROOM_SECOND: usize = 16_384;
 
 pub struct Demand {
     pub kind: &'static str,
     pub n: usize,
     pub cells: Vec<u32>,
     pub longest: u64,
-    /// Its exact plan.
+    /// Its exact plan, of the second edition where N takes that.
     pub plan: Vec<u8>,
+    /// Bytes of a record of it.
+    pub record: usize,
 }
+
+type Planner = fn(u64, &[u32], &mut [u8]) -> reference::Outcome;
 
 impl Demand {
     fn new(kind: &'static str, n: usize, cells: Vec<u32>) -> Demand {
-        let mut plan = vec![0; ROOM * RECORD_SIZE];
-        let counts = reference::exact(n as u64, &cells, &mut plan).expect("a sound demand");
-        plan.truncate(counts.records as usize * RECORD_SIZE);
-        Demand { kind, n, cells, longest: counts.longest, plan }
+        let (record, room, exact): (_, _, Planner) = if n <= MOST_PORTS {
+            (RECORD_SIZE, ROOM, reference::exact)
+        } else {
+            (RECORD_SIZE_SECOND, ROOM_SECOND, reference::exact_second)
+        };
+        let mut plan = vec![0; room * record];
+        let counts = exact(n as u64, &cells, &mut plan).expect("a sound demand");
+        plan.truncate(counts.records as usize * record);
+        Demand { kind, n, cells, longest: counts.longest, plan, record }
     }
 
     pub fn records(&self) -> usize {
-        self.plan.len() / RECORD_SIZE
+        self.plan.len() / self.record
     }
 
     /// The demand, made smaller where its T is too large for the quick cover.

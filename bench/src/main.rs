@@ -22,6 +22,7 @@ use timing::{Times, SAMPLES};
 /// Whether this was built with the archive.
 const PROVED: bool = cfg!(feature = "proved");
 const SIZES: [usize; 3] = [16, 32, 64];
+const WIDE_SIZES: [usize; 2] = [96, 128];
 
 fn main() -> io::Result<()> {
     let out = PathBuf::from(option("--out").expect("--out FILE"));
@@ -33,7 +34,8 @@ fn main() -> io::Result<()> {
     each_call(&mut report);
     joining(&mut report);
     same_search(&mut report);
-    exact_and_peers(&mut report, &work);
+    exact_and_peers(&mut report, &work, "The exact plan and its peers", &demands(&SIZES), calls::pair);
+    second_edition(&mut report, &work);
     growth(&mut report);
     gate_time(&mut report);
     fs::write(&out, report.text)
@@ -94,14 +96,15 @@ fn processor() -> String {
     format!("{} ({})", model.trim(), env::consts::ARCH)
 }
 
-fn demands() -> Vec<Demand> {
-    [demands::dense, demands::sparse, demands::small].iter().flat_map(|kind| SIZES.map(kind)).collect()
+fn demands(sizes: &[usize]) -> Vec<Demand> {
+    let kinds = [demands::dense, demands::sparse, demands::small];
+    kinds.iter().flat_map(|kind| sizes.iter().map(|&n| kind(n))).collect()
 }
 
 fn each_call(report: &mut Report) {
     report.say("## Each call\n");
     report.say("Proved time over Rust's time (below 1 the proved code is faster), then both times.\n");
-    let demands = demands();
+    let demands = demands(&SIZES);
     let mut rows = Vec::new();
     for (call, _) in calls::CALLS {
         for of_kind in demands.chunks(SIZES.len()) {
@@ -138,7 +141,7 @@ fn same_search(report: &mut Report) {
          switches of 128 ports; the peer is timed with one and with two. Proved time over its time, then \
          both times.\n",
     );
-    let demands = demands();
+    let demands = demands(&SIZES);
     let mut rows = Vec::new();
     for (call, words) in [("exact", 1), ("doubled", 1), ("exact", 2), ("doubled", 2)] {
         for of_kind in demands.chunks(SIZES.len()) {
@@ -160,22 +163,40 @@ fn compared(times: Times) -> String {
     }
 }
 
-fn exact_and_peers(report: &mut Report, work: &Path) {
-    report.say("## The exact plan and its peers\n");
+/// A planner of a demand, beside the reference's.
+type PairOf = for<'a> fn(&str, &'a Demand) -> timing::Pair<'a>;
+
+fn second_edition(report: &mut Report, work: &Path) {
+    report.say("## The second edition's planners\n");
+    report.say("Switches of 96 and 128 ports. Proved time over Rust's time, then both times.\n");
+    let demands = demands(&WIDE_SIZES);
+    let mut rows = Vec::new();
+    for call in calls::SECOND {
+        for of_kind in demands.chunks(WIDE_SIZES.len()) {
+            let mut row = vec![call.to_string(), of_kind[0].kind.to_string()];
+            row.extend(of_kind.iter().map(|demand| compared(calls::second(call, demand).time())));
+            rows.push(row);
+        }
+    }
+    report.table(&["call", "demand", "N = 96", "N = 128"], &rows);
+    exact_and_peers(report, work, "The second edition's exact plan and its peers", &demands, calls::second);
+}
+
+fn exact_and_peers(report: &mut Report, work: &Path, title: &str, demands: &[Demand], pair: PairOf) {
+    report.say(&format!("## {title}\n"));
     report.say(
         "LEMON and scipy run the same fill and peel loop and may take any full setting; the exact plan \
          takes the first in dictionary order, which is harder. *Kept* starts each matching from what is \
          left of the one before; *anew*, and scipy, from nothing.\n",
     );
-    let demands = demands();
     let peers = peers(work);
     let mut columns: Vec<(&str, Vec<String>)> = Vec::new();
-    let times: Vec<Times> = demands.iter().map(|demand| calls::pair("exact", demand).time()).collect();
+    let times: Vec<Times> = demands.iter().map(|demand| pair("exact", demand).time()).collect();
     let proved = |times: &Times| times.proved.map_or("not timed".to_string(), shown);
     columns.push(("proved", times.iter().map(proved).collect()));
     columns.push(("Rust", times.iter().map(|times| shown(times.reference)).collect()));
     for peer in &peers {
-        let cells = match peer.time(&demands) {
+        let cells = match peer.time(demands) {
             Ok(times) => times.into_iter().map(shown).collect(),
             Err(error) => {
                 eprintln!("{}: {error}", peer.name);

@@ -14,11 +14,11 @@
 #include <string.h>
 #include <sys/mman.h>
 
-enum { N = CV_MOST_PORTS, RECORDS = CV_MOST_RECORDS, ROOM = RECORDS * CV_RECORD_SIZE };
+enum { N = CV_MOST_PORTS, WIDE = CV2_MOST_PORTS, RECORDS = CV_MOST_RECORDS, ROOM = RECORDS * CV_RECORD_SIZE };
 enum { TASKS = CV_SHOP_ROOM(N) };
 enum { FENCE = 64 * 1024, LARGEST = 512 * 1024, PAINT = 0x5a };
 
-static uint32_t cells[N * N], renewed[N * N];
+static uint32_t cells[N * N], renewed[N * N], wide[WIDE * WIDE];
 static uint8_t plan[ROOM], made[ROOM], list[N * N * CV_WISH_SIZE], tasked[CV_SHOP_ROOM(N)];
 enum { WIDE_ROOM = CV2_MOST_RECORDS * CV2_RECORD_SIZE };
 static uint32_t wide_cells[4 * N * N];
@@ -44,6 +44,10 @@ static void exact(void) { answer = cv_exact(N, cells, N * N, made, room); }
 static void doubled(void) { answer = cv_doubled(N, cells, N * N, made, room); }
 static void every(void) { answer = cv_doubled_every_rotation(N, cells, N * N, made, room); }
 static void quick(void) { answer = cv_quick(N, cells, N * N, made, room); }
+static void wide_exact(void) { answer = cv2_exact(WIDE, wide, WIDE * WIDE, made, room); }
+static void wide_doubled(void) { answer = cv2_doubled(WIDE, wide, WIDE * WIDE, made, room); }
+static void wide_every(void) { answer = cv2_doubled_every_rotation(WIDE, wide, WIDE * WIDE, made, room); }
+static void wide_quick(void) { answer = cv2_quick(WIDE, wide, WIDE * WIDE, made, room); }
 static void exact_room(void) { answer = cv_exact_room(N, 65535); }
 static void doubled_room(void) { answer = cv_doubled_room(N, 65535); }
 static void quick_room(void) { answer = cv_quick_room(N, CV_MOST_QUICK); }
@@ -101,28 +105,28 @@ static size_t taken(void (*call)(void), size_t bytes)
 }
 
 /*
- * A demand whose lines all sum to 64 times `by`. Once its first setting is taken off, input 1 has lost
- * its output and can have another only if all the inputs after it move on by one.
+ * A demand of n ports whose lines all sum to n times `by`. Once its first setting is taken off, input 1
+ * has lost its output and can have another only if all the inputs after it move on by one.
  */
-static void chain(uint32_t by)
+static void chain(uint32_t *demand, uint32_t n, uint32_t by)
 {
-    memset(cells, 0, sizeof cells);
-    cells[0] = 63 * by;
-    cells[1] = cells[N] = cells[N + 1] = by;
-    cells[N + 2] = 62 * by;
-    for (int i = 2; i < N; i++) {
-        cells[i * N + i] = 2 * by;
-        cells[i * N + (i + 1 < N ? i + 1 : 1)] = 62 * by;
+    memset(demand, 0, n * n * sizeof *demand);
+    demand[0] = (n - 1) * by;
+    demand[1] = demand[n] = demand[n + 1] = by;
+    demand[n + 2] = (n - 2) * by;
+    for (uint32_t i = 2; i < n; i++) {
+        demand[i * n + i] = 2 * by;
+        demand[i * n + (i + 1 < n ? i + 1 : 1)] = (n - 2) * by;
     }
 }
 
-/* Cells of 0 to 15, the same in every run. */
-static void mixed(void)
+/* Cells of 0 to 15, or of 0 to 7 for twice the ports, the same in every run. */
+static void mixed(uint32_t *demand, uint32_t n)
 {
     uint32_t state = 1;
-    for (int k = 0; k < N * N; k++) {
+    for (uint32_t k = 0; k < n * n; k++) {
         state = state * 1664525 + 1013904223;
-        cells[k] = state >> 28;
+        demand[k] = (state >> 28) * N / n;
     }
 }
 
@@ -151,12 +155,12 @@ static void fill_lists(void)
 }
 
 /* The most that a call takes, with room to spare and with just the room it needs. */
-static size_t most_taken(void (*call)(void), size_t bytes)
+static size_t most_taken(void (*call)(void), size_t bytes, size_t record)
 {
     room = ROOM;
     size_t first = taken(call, bytes + way_in);
-    if (answer.code == CV_DONE && answer.records * CV_RECORD_SIZE < ROOM)
-        room = answer.records * CV_RECORD_SIZE;
+    if (answer.code == CV_DONE && answer.records * record < ROOM)
+        room = answer.records * record;
     size_t second = taken(call, bytes + way_in);
     return first > second ? first : second;
 }
@@ -167,6 +171,9 @@ int main(void)
         {"cv_version", version, CV_STACK_VERSION}, {"cv_wish", wish, CV_STACK_WISH},
         {"cv_exact", exact, CV_STACK_EXACT},       {"cv_doubled", doubled, CV_STACK_DOUBLED},
         {"cv_doubled_every_rotation", every, CV_STACK_DOUBLED_EVERY_ROTATION},
+        {"cv2_exact", wide_exact, CV2_STACK_EXACT}, {"cv2_doubled", wide_doubled, CV2_STACK_DOUBLED},
+        {"cv2_doubled_every_rotation", wide_every, CV2_STACK_DOUBLED_EVERY_ROTATION},
+        {"cv2_quick", wide_quick, CV2_STACK_QUICK},
         {"cv_exact_room", exact_room, CV_STACK_EXACT_ROOM},
         {"cv_doubled_room", doubled_room, CV_STACK_DOUBLED_ROOM},
         {"cv_quick_room", quick_room, CV_STACK_QUICK_ROOM},
@@ -198,14 +205,16 @@ int main(void)
     way_in = taken(way, LARGEST / 2) - sizeof(void *);
     for (size_t k = 0; k < sizeof calls / sizeof *calls; k++) {
         size_t most = 0;
-        for (int demand = 0; demand < 3; demand++) {
-            if (demand == 0)
-                chain(1);
-            else if (demand == 1)
-                chain(2);
-            else
-                mixed();
-            size_t bytes = most_taken(calls[k].call, calls[k].bytes);
+        for (uint32_t by = 0; by < 3; by++) {
+            if (by == 0) {
+                mixed(cells, N);
+                mixed(wide, WIDE);
+            } else {
+                chain(cells, N, by);
+                chain(wide, WIDE, by);
+            }
+            size_t record = strncmp(calls[k].name, "cv2_", 4) == 0 ? CV2_RECORD_SIZE : CV_RECORD_SIZE;
+            size_t bytes = most_taken(calls[k].call, calls[k].bytes, record);
             most = bytes > most ? bytes : most;
         }
         printf("%s: took %zu of %zu bytes\n", calls[k].name, most > way_in ? most - way_in : 0, calls[k].bytes);

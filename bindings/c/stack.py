@@ -12,7 +12,7 @@ import shutil
 import subprocess
 import sys
 
-ROUNDS = 64  # CV_MOST_PORTS
+ROUNDS = {"cv_": 64, "cv2_": 128}  # CV_MOST_PORTS, and the second edition's
 PAGE = 4096
 
 
@@ -79,7 +79,7 @@ def walked(name, code):
     return max(kept.values()) + max(below, default=0), calls
 
 
-def need(name, walks, above=()):
+def need(name, walks, ports, above=()):
     """The most that a function and what it calls keep; a circle counts once for each port."""
     if name not in walks:
         return 0
@@ -89,9 +89,9 @@ def need(name, walks, above=()):
             continue
         if callee in above:
             raise SystemExit(f"stack.py: {name} and {callee} call each other, and it knows circles of one function alone")
-        most = max(most, kept + need(callee, walks, (*above, name)))
+        most = max(most, kept + need(callee, walks, ports, (*above, name)))
     rounds = [kept for callee, kept in calls if callee == name]
-    return most + (ROUNDS - 1) * max(rounds, default=0)
+    return most + (ports - 1) * max(rounds, default=0)
 
 
 def main():
@@ -102,7 +102,8 @@ def main():
     short = False
     calls = [name for name in walks if name.startswith(("cv_", "cv2_")) and not name.startswith("cv_interface_")]  # a name that nobody calls
     for name in sorted(calls):
-        needed, figure = need(name, walks) + 8, figures.get(name, 0)
+        ports = ROUNDS[name[: name.index("_") + 1]]
+        needed, figure = need(name, walks, ports) + 8, figures.get(name, 0)
         short |= figure < needed
         print(f"{name}: at most {needed:,} of {figure:,} bytes{'' if needed <= figure else ', TOO SMALL'}")
     sys.exit(short)

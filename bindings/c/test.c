@@ -492,6 +492,77 @@ static void limit_refusals(void)
     ANSWERS(least_within(2, 4, 1), .code = CV_LINE, .side = CV_OUTPUT, .place = 0);
 }
 
+/* ---- planners of the second edition ---- */
+
+static uint32_t wide[(CV2_MOST_PORTS + 1) * (CV2_MOST_PORTS + 1)];
+
+static cv_answer wide_planned(planner *call, uint64_t n, size_t count, size_t room)
+{
+    const uint8_t *from = lend_bytes(CELLS, (const uint8_t *)wide, count * sizeof *wide);
+    return call(n, (const uint32_t *)(const void *)from, count, lend(RESULT, room), room);
+}
+
+static void wide_refused(int line, planner *call, uint64_t n, size_t count, size_t room, cv_answer wanted)
+{
+    answered(wide_planned(call, n, count, room), wanted, "a refused plan of the second edition", line);
+    told(untouched(RESULT, 0), "a refused plan writes nothing", line);
+}
+#define WIDE_REFUSED(call, n, count, room, ...) wide_refused(__LINE__, call, n, count, room, (cv_answer){__VA_ARGS__})
+
+/* One slot for each input of the output of its own number: one record by every rule. */
+static void wide_diagonal(planner *call, unsigned n)
+{
+    uint8_t wanted[CV2_RECORD_SIZE];
+    memset(wide, 0, sizeof wide);
+    memset(wanted, CV_IDLE, sizeof wanted);
+    memcpy(wanted, (uint8_t[]){1, 0, (uint8_t)n, 2}, 4);
+    for (unsigned i = 0; i < n; i++) {
+        wide[i * n + i] = 1;
+        wanted[4 + i] = (uint8_t)i;
+    }
+    for (size_t more = 0; more < 2; more++) {
+        ANSWERS(wide_planned(call, n, n * n, sizeof wanted + more), .records = 1, .longest = 1, .total = 1);
+        CHECK(memcmp(lent_at(RESULT), wanted, sizeof wanted) == 0);
+        CHECK(untouched(RESULT, sizeof wanted));
+    }
+    WIDE_REFUSED(call, n, n * n, sizeof wanted - 1, .code = CV_ROOM, .place = 1);
+    WIDE_REFUSED(call, n, n * n + 1, sizeof wanted, .code = CV_CELLS, .place = n * n);
+    WIDE_REFUSED(call, n, n * n - 1, 0, .code = CV_CELLS, .place = n * n);
+}
+
+/* What the second edition refuses at its own edges, and all ones at its most ports. */
+static void wide_switch(planner *call)
+{
+    const uint64_t none[] = {0, 129, 256, UINT64_C(1) << 32, UINT64_MAX};
+    for (size_t k = 0; k < sizeof none / sizeof *none; k++)
+        WIDE_REFUSED(call, none[k], 129 * 129, 4 * CV2_RECORD_SIZE, .code = CV_PORTS);
+    memset(wide, 0, sizeof wide);
+    wide[127 * 128 + 5] = 65536;
+    WIDE_REFUSED(call, 128, 128 * 128, 0, .code = CV_LINE, .side = CV_INPUT, .place = 127);
+    memset(wide, 0, sizeof wide);
+    wide[5 * 128 + 127] = 65535;
+    wide[6 * 128 + 127] = 1;
+    WIDE_REFUSED(call, 128, 128 * 128, 0, .code = CV_LINE, .side = CV_OUTPUT, .place = 127);
+    for (int k = 0; k < 128 * 128; k++)
+        wide[k] = 1;
+    ANSWERS(wide_planned(call, 128, 128 * 128, 128 * CV2_RECORD_SIZE), .records = 128, .longest = 128, .total = 128);
+    WIDE_REFUSED(call, 128, 128 * 128, 128 * CV2_RECORD_SIZE - 1, .code = CV_ROOM, .place = 128);
+}
+
+static void second_plans(void)
+{
+    planner *const planners[] = {cv2_exact, cv2_doubled, cv2_doubled_every_rotation, cv2_quick};
+    const unsigned ports[] = {1, 64, 65, 127, 128};
+    for (size_t k = 0; k < sizeof planners / sizeof *planners; k++) {
+        for (size_t n = 0; n < sizeof ports / sizeof *ports; n++)
+            wide_diagonal(planners[k], ports[n]);
+        wide_switch(planners[k]);
+    }
+    memset(wide, 0, sizeof wide);
+    wide[64] = 1025;
+    WIDE_REFUSED(cv2_quick, 65, 65 * 65, 0, .code = CV_LONGEST); /* before 5 */
+}
+
 /* ---- plans that are read ---- */
 
 /* A call that reads a plan, in one form for all: plan's first so many bytes, and room for a result. */
@@ -1217,6 +1288,7 @@ int main(void)
     quick_alone();
     quiet_plans();
     limit_refusals();
+    second_plans();
     reading_refusals(checked, 1);
     reading_refusals(measured, 1);
     reading_refusals(joined, 1);

@@ -78,6 +78,46 @@ impl reading::Edition<128> for reading::Of<128> {
     }
 }
 
+/// The largest N.
+pub const MOST_PORTS: usize = 128;
+/// Bytes of a plan record: hold, N, the byte 2, an output for each possible input.
+pub const RECORD_SIZE: usize = 132;
+
+/// The exact plan, as [`crate::exact`].
+///
+/// Codes: 1, 2, 3, 5. Writes: the plan's records, at the start of `plan`. Done: `records`, `longest`, `total`,
+/// `empty`.
+#[must_use]
+pub fn exact(n: u64, cells: &[u32], plan: &mut [u8]) -> Answer {
+    // SAFETY: a slice has as many elements as its length says, and a mutable one overlaps no other;
+    // the same holds for each planner below.
+    unsafe { sys::cv2_exact(n, cells.as_ptr(), cells.len(), plan.as_mut_ptr(), plan.len()) }
+}
+
+/// The doubled plan, as [`crate::doubled`].
+///
+/// Codes, writes, done: as [`exact`].
+#[must_use]
+pub fn doubled(n: u64, cells: &[u32], plan: &mut [u8]) -> Answer {
+    unsafe { sys::cv2_doubled(n, cells.as_ptr(), cells.len(), plan.as_mut_ptr(), plan.len()) }
+}
+
+/// The doubled plan by the rule of every rotation, as [`crate::doubled_every_rotation`].
+///
+/// Codes, writes, done: as [`exact`].
+#[must_use]
+pub fn doubled_every_rotation(n: u64, cells: &[u32], plan: &mut [u8]) -> Answer {
+    unsafe { sys::cv2_doubled_every_rotation(n, cells.as_ptr(), cells.len(), plan.as_mut_ptr(), plan.len()) }
+}
+
+/// The quick cover, as [`crate::quick`].
+///
+/// Codes: 1, 2, 3, 4, 5. Writes, done: as [`exact`].
+#[must_use]
+pub fn quick(n: u64, cells: &[u32], plan: &mut [u8]) -> Answer {
+    unsafe { sys::cv2_quick(n, cells.as_ptr(), cells.len(), plan.as_mut_ptr(), plan.len()) }
+}
+
 /// The records of the second edition that suffice for the exact plan of any demand of N ports, N up to 128,
 /// whose lines sum to `longest` or less: that many, or N * N - 2 * N + 2, whichever is less.
 ///

@@ -23,6 +23,18 @@ pub const DOUBLED_EVERY_ROTATION: usize = 40_960;
 /// Of [`crate::quick`].
 pub const QUICK: usize = 20_480;
 
+/// Of [`crate::second::exact`].
+pub const SECOND_EXACT: usize = 98_304;
+
+/// Of [`crate::second::doubled`].
+pub const SECOND_DOUBLED: usize = 98_304;
+
+/// Of [`crate::second::doubled_every_rotation`].
+pub const SECOND_DOUBLED_EVERY_ROTATION: usize = 98_304;
+
+/// Of [`crate::second::quick`].
+pub const SECOND_QUICK: usize = 73_728;
+
 /// Of [`crate::exact_room`].
 pub const EXACT_ROOM: usize = 256;
 

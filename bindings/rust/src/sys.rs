@@ -125,6 +125,25 @@ extern "C" {
     /// What [`crate::quick`] calls.
     #[must_use]
     pub fn cv_quick(n: u64, cells: *const u32, cells_len: usize, plan: *mut u8, plan_len: usize) -> Answer;
+    /// What [`crate::second::exact`] calls.
+    #[must_use]
+    pub fn cv2_exact(n: u64, cells: *const u32, cells_len: usize, plan: *mut u8, plan_len: usize) -> Answer;
+    /// What [`crate::second::doubled`] calls.
+    #[must_use]
+    pub fn cv2_doubled(n: u64, cells: *const u32, cells_len: usize, plan: *mut u8, plan_len: usize)
+        -> Answer;
+    /// What [`crate::second::doubled_every_rotation`] calls.
+    #[must_use]
+    pub fn cv2_doubled_every_rotation(
+        n: u64,
+        cells: *const u32,
+        cells_len: usize,
+        plan: *mut u8,
+        plan_len: usize,
+    ) -> Answer;
+    /// What [`crate::second::quick`] calls.
+    #[must_use]
+    pub fn cv2_quick(n: u64, cells: *const u32, cells_len: usize, plan: *mut u8, plan_len: usize) -> Answer;
     /// What [`crate::exact_room`] calls.
     #[must_use]
     pub fn cv_exact_room(n: u64, longest: u64) -> Answer;

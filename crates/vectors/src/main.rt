@@ -12,6 +12,7 @@ mod record;
 mod rooms;
 mod show;
 mod tape;
+mod wide;
 mod wished;
 
 use libc::STDIN_FILENO;
@@ -63,6 +64,7 @@ fn run(step: Step, laid: &[u8])
         b'x' | b'd' | b'e' | b'q' | b'g' => plan::plan(step, laid),
         b'u' => plan::plan_limited(step, laid),
         b'y' => fabric::least(step.first, laid),
+        b'X' | b'D' | b'E' | b'Q' => wide::plan(step, laid),
         b'k' => check::check(step.first, laid, step.second),
         b'l' => check::length(step.first, laid, step.second as u16),
         b'j' => join::join(step, laid),

@@ -23,10 +23,10 @@ fn exact_of<L: Label, const W: usize>(byte: u8, n: u64, cells: &[u32], plan: &mu
 
 /// Writes the exact plan of a demand, each hold multiplied by `factor`.
 pub(crate) fn peel<L: Label, const W: usize>(n: usize, cells: &[u32], factor: u32, written: &mut Writer<W>) {
-    let mut filled = [[0; W]; W];
-    let filled = &mut filled.as_flattened_mut()[..n * n];
-    let line = fill::<W>(n, cells, filled);
-    Peel::<L, W>::new(n, filled, line).each(|hold, outputs| written.push((hold * factor) as u16, n, outputs));
+    let mut filled = vec![0; n * n];
+    let line = fill::<W>(n, cells, &mut filled);
+    Peel::<L, W>::new(n, &filled, line)
+        .each(|hold, outputs| written.push((hold * factor) as u16, n, outputs));
 }
 
 /// Copies a demand and tops it up: each cell in order grows by as much as both its lines allow.

@@ -40,12 +40,8 @@ fn doubled_by<L: Label, const W: usize>(
     let mut written = Writer::new(byte);
     if longest > 0 {
         let unit = (longest as u32).div_ceil(n as u32);
-        let mut quotients = [[0; W]; W];
-        let quotients = &mut quotients.as_flattened_mut()[..n * n];
-        for (quotient, &cell) in quotients.iter_mut().zip(cells) {
-            *quotient = cell / unit;
-        }
-        peel::<L, W>(n, quotients, unit, &mut written);
+        let quotients: Vec<u32> = cells.iter().map(|cell| cell / unit).collect();
+        peel::<L, W>(n, &quotients, unit, &mut written);
         rotations(n, &holds(n, cells, unit), &mut written);
     }
     written.lend(cells, longest, plan)

@@ -58,6 +58,9 @@ text-requires c κs = tt
 plan-requires : tie.Need-plan-requires
 plan-requires c κs = search needs
 
+plan-requires-2 : tie.Need-plan-requires-2
+plan-requires-2 c κs = search needs
+
 returns : tie.Need-returns
 returns c = tt
 
@@ -106,6 +109,9 @@ returns-15 c = tt
 returns-16 : tie.Need-returns-16
 returns-16 c = tt
 
+returns-17 : tie.Need-returns-17
+returns-17 c = tt
+
 pub run-spec : {M : Type 1} → statement M
 run-spec =
     tie.close
@@ -128,6 +134,7 @@ run-spec =
     slice-aggregate-text
     text-requires
     plan-requires
+    plan-requires-2
     returns
     returns-2
     returns-3
@@ -143,4 +150,5 @@ run-spec =
     returns-13
     returns-14
     returns-15
-    returns-16)
+    returns-16
+    returns-17)
