@@ -29,3 +29,4 @@ pub mod Lookup
 pub mod Carry
 pub mod SecondReaders
 pub mod Moved
+pub mod Shop

@@ -122,6 +122,12 @@ carry-over-one-result N asked plan first wished cells a b l m p q =
     let same : a ≡ b = one _ a b (p .answer) (q .answer) in
     (same, p .cells ∙ ap (λ (x : Carried). cellsAfter x (newCells firstEdition N asked plan first wished) cells) same ∙ sym (q .cells))
 
+pub shop-one-result : (N : ℕ) (cells : List ℕ) (d : ℕ) (buf : List ℕ) → OneResult (call.ShopPlan N cells d buf)
+shop-one-result N cells d buf = gives-one-result _
+
+pub tasks-one-answer : (N : ℕ) (tasks : List ℕ) → OneAnswer (call.ReadTasks N tasks)
+tasks-one-answer N tasks = one _
+
 pub exact-room-one-answer : (E : Edition) (N T : ℕ) → OneAnswer (call.RoomFor E Exact N T)
 exact-room-one-answer E N T = one _
 
@@ -207,3 +213,9 @@ cv-in-force-one-answer N tonight standby slot = one _
 
 pub cv-carry-over-one-result : (N : ℕ) (asked plan : List ℕ) (first : ℕ) (wished cells : List ℕ) → OneResult (call.CvCarryOver N asked plan first wished cells)
 cv-carry-over-one-result N asked plan first wished cells a b l m p q = (one _ a b (p .answer) (q .answer), one _ l m (p .cells) (q .cells))
+
+pub cv-shop-one-result : (N : ℕ) (cells : List ℕ) (d : ℕ) (buf : List ℕ) → OneResult (call.CvShop N cells d buf)
+cv-shop-one-result N cells d buf = crosses-one-result _
+
+pub cv-tasks-one-answer : (N : ℕ) (tasks : List ℕ) → OneAnswer (call.CvTasks N tasks)
+cv-tasks-one-answer N tasks = one _

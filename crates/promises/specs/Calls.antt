@@ -37,6 +37,8 @@ use Rattle.wavelengths.specs.Report.{reported}
 use Rattle.grating.specs.Grating.{gratingPlanned}
 use Rattle.quiet.specs.Planned.{quietPlanned}
 use Rattle.least.specs.Least.{leastOf}
+use Rattle.tasks.specs.Read.{reading}
+use Rattle.shop.specs.Shopped.{shopped}
 use Rattle.listing.specs.Listing.{listingOf}
 use Rattle.chordvenus.specs.declared.CvAnswer.{CvAnswer}
 use Rattle.chordvenus.specs.declared.CvStep.{CvStep}
@@ -157,6 +159,14 @@ PartInForce N tonight standby slot r = r ≡ partOf firstEdition (spotOf firstEd
 abbrev pub CarryOver : ℕ → List ℕ → List ℕ → ℕ → List ℕ → List ℕ → Carried → List ℕ → Type 0
 CarryOver N asked plan first wished cells = Carries firstEdition N asked plan first wished cells
 
+-- shop::shop_plan(n, cells, d, tasks)
+abbrev pub ShopPlan : ℕ → List ℕ → ℕ → List ℕ → Outcome → List ℕ → Type 0
+ShopPlan N cells d buf = Gives (shopped N d cells buf)
+
+-- tasks::read_tasks(n, tasks)
+abbrev pub ReadTasks : ℕ → List ℕ → Outcome → Type 0
+ReadTasks N tasks r = r ≡ reading N tasks
+
 -- ---- room::exact_room(n, longest), doubled_room(n, longest) and quick_room(n, longest), and those of the second edition
 abbrev pub RoomFor : Edition → Planner → ℕ → ℕ → Outcome → Type 0
 RoomFor E planner N T r = r ≡ roomed E planner N T
@@ -262,3 +272,11 @@ CvInForce N tonight standby slot r = r ≡ flatPart (foundOf firstEdition (spotO
 -- cv_carry_over(n, asked, plan, first, wished, cells)
 abbrev pub CvCarryOver : ℕ → List ℕ → List ℕ → ℕ → List ℕ → List ℕ → CvAnswer → List ℕ → Type 0
 CvCarryOver N asked plan first wished cells = CarriesFlat firstEdition N asked plan first wished cells
+
+-- cv_shop(n, cells, d, tasks)
+abbrev pub CvShop : ℕ → List ℕ → ℕ → List ℕ → CvAnswer → List ℕ → Type 0
+CvShop N cells d buf = Crosses (shopped N d cells buf)
+
+-- cv_tasks(n, tasks)
+abbrev pub CvTasks : ℕ → List ℕ → CvAnswer → Type 0
+CvTasks N tasks r = r ≡ flat (reading N tasks)

@@ -23,3 +23,4 @@ pub mod Lookup
 pub mod Carry
 pub mod SecondReaders
 pub mod Moved
+pub mod Shop
