@@ -109,6 +109,9 @@ enum {
 #define CV_EXACT_ROOM(n) (((n) * (n) - 2 * (n) + 2) * CV_RECORD_SIZE)
 #define CV_DOUBLED_ROOM(n) (2 * (n) * CV_RECORD_SIZE)
 #define CV_QUICK_ROOM(longest) (((longest) == 0 ? 0 : 2 * (longest) - 1) * CV_RECORD_SIZE)
+#define CV2_EXACT_ROOM(n) (((n) * (n) - 2 * (n) + 2) * CV2_RECORD_SIZE)
+#define CV2_DOUBLED_ROOM(n) (2 * (n) * CV2_RECORD_SIZE)
+#define CV2_QUICK_ROOM(longest) (((longest) == 0 ? 0 : 2 * (longest) - 1) * CV2_RECORD_SIZE)
 
 /* Bytes that hold the tasks of every demand of n ports. */
 #define CV_SHOP_ROOM(n) ((n) * (n) * CV_TASK_SIZE)

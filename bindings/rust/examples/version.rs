@@ -4,7 +4,7 @@ use chordvenus::Code;
 
 fn main() {
     assert_eq!(chordvenus::version(), chordvenus::sys::VERSION);
-    for code in Code::ALL {
+    for &code in Code::ALL {
         println!("{} {code}", code as u64);
     }
     println!("else {}", Code::of(u64::MAX));

@@ -53,7 +53,7 @@ pub enum Code {
 
 impl Code {
     /// All codes that a call answers, by number.
-    pub const ALL: [Code; 17] = [
+    pub const ALL: &'static [Code] = &[
         Code::Done,
         Code::Ports,
         Code::Cells,
@@ -75,7 +75,7 @@ impl Code {
 
     /// The code with this number.
     pub fn of(number: u64) -> Code {
-        Code::ALL.into_iter().find(|&code| code as u64 == number).unwrap_or(Code::Unknown)
+        Code::ALL.iter().copied().find(|&code| code as u64 == number).unwrap_or(Code::Unknown)
     }
 
     /// What the code means, in one sentence.

@@ -19,6 +19,26 @@ pub type Reader<'a> = reading::Reader<'a, 128>;
 /// The records of a plan that was opened, for a `for` loop.
 pub type Plan<'a> = reading::Plan<'a, 128>;
 
+/// Bytes that hold the exact plan of every demand of N ports, for arrays: N * N - 2 * N + 2 records, as many as
+/// [`exact_room`] answers for lines of any length. N is 1 or more.
+pub const fn exact_bytes(n: usize) -> usize {
+    (n * n + 2 - 2 * n) * RECORD_SIZE
+}
+
+/// Bytes that hold the doubled plan of every demand of N ports, by either rule: 2 * N records.
+pub const fn doubled_bytes(n: usize) -> usize {
+    2 * n * RECORD_SIZE
+}
+
+/// Bytes that hold the quick cover of every demand whose lines sum to `longest` or less: 2 * `longest` - 1 records,
+/// and none where that is 0.
+pub const fn quick_bytes(longest: usize) -> usize {
+    match longest {
+        0 => 0,
+        _ => (2 * longest - 1) * RECORD_SIZE,
+    }
+}
+
 /// As [`crate::wishes`], N up to 128.
 #[must_use]
 pub fn wishes(n: u64, list: &[u8], cells: &mut [u32]) -> Answer {

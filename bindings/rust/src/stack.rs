@@ -123,7 +123,7 @@ pub const SHOP: usize = 2_048;
 pub const TASKS: usize = 1_024;
 
 /// All of them, by name.
-pub const ALL: [(&str, usize); 34] = [
+pub const ALL: &[(&str, usize)] = &[
     ("VERSION", VERSION),
     ("WISH", WISH),
     ("WISHES", WISHES),

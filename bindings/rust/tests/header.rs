@@ -115,6 +115,19 @@ fn room_of_arrays() {
 }
 
 #[test]
+fn room_of_arrays_in_the_second_edition() {
+    use cv::second::{self, MOST_PORTS, RECORD_SIZE};
+    let room = |answer: cv::Answer| answer.done().expect("in range").records as usize * RECORD_SIZE;
+    for n in 1..=MOST_PORTS {
+        assert_eq!(second::exact_bytes(n), room(second::exact_room(n as u64, cv::MOST_LINE)));
+        assert_eq!(second::doubled_bytes(n), room(second::doubled_room(n as u64, cv::MOST_LINE)));
+    }
+    for longest in 0..=cv::MOST_QUICK {
+        assert_eq!(second::quick_bytes(longest as usize), room(second::quick_room(1, longest)));
+    }
+}
+
+#[test]
 fn calls_that_make_their_memory_refuse_as_the_others_do() {
     let refused =
         |made: Result<cv::owned::Planned, cv::Refused>| made.map_err(|refused| refused.0).unwrap_err();
