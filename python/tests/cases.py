@@ -21,15 +21,12 @@ def reference(name):
 
 
 def second_edition():
-    """The reference with the second edition's numbers: 128 ports, 132 bytes with a 2 in the fourth, 32,768 records."""
+    """The reference with the second edition wherever it takes one, so that both are called alike."""
     ref = reference("reference_2")
-    ref.PORTS, ref.RECORD, ref.RECORDS = 128, 132, 32_768
-    for function in vars(ref).values():  # where a function takes an edition, it is the second unless another is named
+    ref.PORTS, ref.RECORD, ref.RECORDS = ref.SECOND.ports, ref.SECOND.record, ref.SECOND.records
+    for function in vars(ref).values():
         if inspect.isfunction(function) and function.__defaults__:
             function.__defaults__ = tuple(ref.SECOND if value is ref.FIRST else value for value in function.__defaults__)
-    if not ref.well_formed(1, ref.record_bytes(1, 1, [0])):  # it takes none, and has a 0 in the fourth byte
-        first_form = ref.well_formed
-        ref.well_formed = lambda n, record: record[3] == 2 and first_form(n, record[:3] + b"\0" + record[4:])
     return ref
 
 

@@ -372,8 +372,6 @@ class Plans(Compared):
             given, _ = ref.step(reader._replace(at=at))
             place = given.place if given.kind == "malformed" else 0
             wanted = (["record", "end", "malformed"].index(given.kind), place, given.hold, bytes(given.outputs))
-            if ref is SECOND and given.kind != "record":
-                wanted = (*wanted[:3], bytes([255] * 128))
             self.same((step.kind, step.place, step.hold, bytes(step.outputs)), wanted, n, data, at)
             return answer.code
 
@@ -393,23 +391,12 @@ class Plans(Compared):
                 outputs[rng.choice([0, n - 1 if n else 0, n, ref.PORTS - 1]) % ref.PORTS] = rng.choice([0, 1, n % 256, 254, 255])
             hold = rng.choice([0, 1, 2, 65_535])
             memory = bytearray([170] * rng.choice([0, ref.RECORD - 1, ref.RECORD, ref.RECORD + 5]))
-            answer, written = self.written(ref, n, hold, outputs, bytes(memory))
+            answer, written = ref.write_record(n, hold, outputs, bytes(memory))
             got = lib.call(prefix(ref) + "write")(hold, n, bytes(outputs), lib.lent(memory), len(memory))
             self.same((of_struct(got), bytes(memory)), (numbers(answer), written), n, hold, outputs)
             return answer.code
 
         self.compare(prefix(ref) + "write", one, 16)
-
-    @staticmethod
-    def written(ref, n, hold, outputs, memory):
-        if ref is FIRST:
-            return ref.write_record(n, hold, outputs, memory)
-        if n == 0 or n > ref.PORTS or len(memory) < ref.RECORD:
-            return ref.Answer(1) if n == 0 or n > ref.PORTS else ref.Answer(5, 1), memory
-        record = bytes([hold % 256, hold // 256, n, 2, *outputs])
-        if not ref.well_formed(n, record):
-            return ref.Answer(11), memory
-        return ref.Answer(records=1, total=hold), record + memory[ref.RECORD :]
 
     def test_writing(self):
         self.writing(FIRST)
@@ -418,21 +405,23 @@ class Plans(Compared):
         self.writing(SECOND)
 
     def moves(self, name, source, target):
+        of, to = (FIRST.FIRST, FIRST.SECOND) if source is FIRST else (FIRST.MOVABLE, FIRST.FIRST)
+
         def one(rng, k):
             n = cases.ports(rng, FIRST)
             data = cases.plan(rng, source, n)
             if k % 4:
-                answer, moved = more.moved(FIRST, source, target, n, data, bytes(len(data) // source.RECORD * target.RECORD))
+                answer, moved = FIRST.move_plan(n, data, bytes(len(data) // source.RECORD * target.RECORD), of, to)
                 got, told = tried(cv.move, data, edition(target), n)
-                self.same(told, numbers(answer) if answer.get("code") else {}, n, data)
-                if not answer.get("code"):
-                    self.same((got.data, got.total, got.edition), (moved, answer.get("total", 0), edition(target)), n, data)
+                self.same(told, numbers(answer) if answer.code else {}, n, data)
+                if not answer.code:
+                    self.same((got.data, got.total, got.edition), (moved, answer.total, edition(target)), n, data)
             else:
                 memory = bytearray([170] * (target.RECORD * rng.randint(0, 5) + rng.randint(0, 70)))
-                answer, moved = more.moved(FIRST, source, target, n, data, bytes(memory))
+                answer, moved = FIRST.move_plan(n, data, bytes(memory), of, to)
                 got = lib.call(name)(n, data, len(data), lib.lent(memory), len(memory))
                 self.same((of_struct(got), bytes(memory)), (numbers(answer), moved), n, data)
-            return answer.get("code", 0)
+            return answer.code
 
         self.compare(name, one, 17)
 
@@ -473,37 +462,30 @@ class Plans(Compared):
         def one(rng, k):
             n, cells = cases.demand(rng, FIRST)
             d = rng.choice([0, 1, 3, 65_535])
-            refused = FIRST.refused_demand(n, cells)
-            tasks = [] if refused else more.shop_list(n, cells, d)
-            data = b"".join(more.task_bytes(task) for task in tasks)
-            end = max((task[3] for task in tasks), default=0)
+            lent, memory = array("I", cells), bytearray([170] * (12 * 16 if k % 4 else rng.randint(0, 130)))
+            answer, after = FIRST.shop_plan(n, cells, d, bytes(memory))
             if k % 4:
                 got, told = tried(cv.shop, made(n, cells), d)
-                self.same(told, numbers(refused) if refused else {}, n, cells, d)
-                if not refused:
-                    self.same((got.data, got.records, got.total), (data, len(tasks), end), n, cells, d)
-                return refused.code if refused else 0
-            lent, memory = array("I", cells), bytearray([170] * rng.randint(0, 130))
-            answer = numbers(refused or {"records": len(tasks), "total": end})
-            after = bytes(memory) if refused else data + bytes(memory)[len(data) :]
-            if not refused and len(memory) // 12 < len(tasks):
-                answer, after = {"code": 5, "place": len(tasks)}, bytes(memory)
+                self.same(told, numbers(answer) if answer.code else {}, n, cells, d)
+                if not answer.code:
+                    self.same((got.data, got.records, got.total), (after[: 12 * answer.records], answer.records, answer.total), n, cells, d)
+                return answer.code
             got = lib.call("cv_shop")(n, lib.lent(lent, c_uint32), len(lent), d, lib.lent(memory), len(memory))
-            self.same((of_struct(got), bytes(memory)), (answer, after), n, cells, d)
-            return answer.get("code", 0)
+            self.same((of_struct(got), bytes(memory)), (numbers(answer), after), n, cells, d)
+            return answer.code
 
         self.compare("cv_shop", one, 19)
 
     def test_tasks(self):
         def one(rng, k):
             n, cells = cases.demand(rng, FIRST)
-            tasks = [] if FIRST.refused_demand(n, cells) else more.shop_list(n, cells, rng.choice([0, 1, 9]))
-            records = [bytearray(more.task_bytes(task)) for task in tasks]
+            tasks = [] if FIRST.refused_demand(n, cells) else FIRST.shop_list(n, cells, rng.choice([0, 1, 9]))
+            records = [bytearray(FIRST.task_bytes(task)) for task in tasks]
             if records and rng.random() < 0.6:
                 record = rng.choice(records)
                 record[rng.randrange(12)] = rng.choice([0, 1, 2, 5, n % 256, 255])
             data = b"".join(records) + bytes(rng.choice([0] * 12 + [1, 11]))
-            answer = numbers(more.tasks(FIRST, n, data))
+            answer = numbers(FIRST.read_tasks(n, data))
             got, told = tried(cv.Schedule.from_bytes, data, n)
             self.same(told, answer if answer.get("code") else {}, n, data)
             if not answer.get("code"):

@@ -7,7 +7,6 @@ import unittest
 from xml.etree import ElementTree
 
 import cases
-import more_reference as more
 
 import chordvenus as cv
 from chordvenus import _library as lib
@@ -87,9 +86,9 @@ class Pictures(unittest.TestCase):
         stored = (STORED / "schedule.svg").read_text("utf-8")
         wishes, d = MAKER.batch(), MAKER.SWITCHING
         cells = [cell for row in wishes.rows() for cell in row]
-        tasks = more.shop_list(wishes.ports, cells, d)
-        data = b"".join(more.task_bytes(task) for task in tasks)
-        due = cv.Schedule(wishes.ports, data, max(task[3] for task in tasks), d, wishes)
+        tasks = cases.FIRST.shop_list(wishes.ports, cells, d)
+        data = b"".join(cases.FIRST.task_bytes(task) for task in tasks)
+        due = cv.Schedule(wishes.ports, data, max(task.end for task in tasks), d, wishes)
         self.assertEqual(stored, cv.picture(due))
         picture = Measured(stored)
         carried = {(i, j): slots for (j, i), slots in picture.bars("used").items()}
