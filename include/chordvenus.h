@@ -88,6 +88,7 @@ enum {
     CV_RECORD_SIZE = 68,      /* bytes of a plan record */
     CV_WISH_SIZE = 8,         /* bytes of a wish record */
     CV_TASK_SIZE = 12,        /* bytes of a task record */
+    CV_ENTRY_SIZE = 4,        /* bytes of an entry of cv_rescue's list */
     CV_IDLE = 255,            /* the output of an idle input */
     CV_MOST_LINE = 65535,     /* the largest line sum, and the largest wish */
     CV_MOST_QUICK = 1024,     /* the largest T of the quick cover */
@@ -161,6 +162,7 @@ enum {
 #define CV_STACK_CARRY_OVER 20480
 #define CV_STACK_SHOP 2048
 #define CV_STACK_TASKS 1024
+#define CV_STACK_RESCUE 65536
 
 /* cv_answer.code (§9.7): when it is given, and what cv_answer.place then is. */
 enum {
@@ -176,14 +178,15 @@ enum {
     CV_BELOW_ZERO = 7,  /* the wish is less than 0; its record */
     CV_ABOVE_MOST = 8,  /* the wish is more than 65,535; its record */
     CV_TORN = 9,        /* bytes are left over after the last whole record; whole records */
-    CV_RECORDS = 10,    /* a plan that is read has more than 8,192 records, or in cv2_ calls 32,768;
-                           so many */
+    CV_RECORDS = 10,    /* a plan that is read, or that cv_rescue would write, has more than 8,192
+                           records, or in cv2_ calls 32,768; so many */
     CV_MALFORMED = 11,  /* a record is not well formed, or a wish has a port that is not below N or a
                            third or fourth byte other than 0; its number. Of tasks: cv_tasks says */
     CV_NAMED = 12,      /* the wish names a pair that a record before it named; its record */
     CV_UNCOVERED = 13,  /* the plan does not cover the demand; the first cell granted too little */
     CV_NOT_IN_FORCE = 14, /* tonight's plan is over, and the standby plan has no records; 0 */
     CV_FIRST_OVER = 15, /* more first records than the plan has; the records it has */
+    CV_LIST_ROOM = 16,  /* there is less room than the list takes; the entries it has */
     CV_LIMIT = 17       /* at most 0 inputs may share a wavelength; 0 */
 };
 
@@ -192,6 +195,17 @@ enum { CV_NO_SIDE = 0, CV_INPUT = 1, CV_OUTPUT = 2 };
 
 /* cv_answer.about, with codes 3, 9, 10 and 11 of cv_in_force and cv_carry_over; and cv_part.plan */
 enum { CV_TONIGHT = 1, CV_STANDBY = 2, CV_PLAN = 3, CV_DEMAND = 4, CV_WISHED = 5, CV_SUM = 6 };
+
+/* The third byte of an entry of cv_rescue's list (§19.2): why the record was dropped. */
+enum {
+    CV_BAD_HOLD = 1,      /* its hold is 0 */
+    CV_BAD_PORTS = 2,     /* its N is another */
+    CV_BAD_SPARE = 3,     /* its fourth byte is not 0 */
+    CV_BAD_OUTPUT = 4,    /* one of its first N outputs is neither idle nor below N */
+    CV_OUTPUT_TWICE = 5,  /* two of its first N inputs have one output */
+    CV_PAST_PORTS = 6,    /* an output behind the first N is not idle */
+    CV_TORN_TAIL = 7      /* the bytes behind the last whole record are no record */
+};
 
 /* cv_step.kind */
 enum { CV_STEP_RECORD = 0, CV_STEP_END = 1, CV_STEP_MALFORMED = 2 };
@@ -206,8 +220,8 @@ typedef struct {
     uint64_t total;    /* total hold of the plan; of tasks the latest end */
     uint64_t length;   /* length of the plan */
     uint64_t empty;    /* empty slots of the plan */
-    uint64_t added;    /* records added to a plan: 0 in every call of this version */
-    uint64_t dropped;  /* records dropped from a plan: 0 in every call of this version */
+    uint64_t added;    /* cv_rescue alone: the records added to the plan; else 0 */
+    uint64_t dropped;  /* cv_rescue alone: the records dropped from the plan; else 0 */
     uint64_t about;    /* which of several plans or demands the code is about, CV_TONIGHT to CV_SUM;
                           else 0 */
 } cv_answer;
@@ -279,6 +293,7 @@ static inline const char *cv_words(uint64_t code)
     case CV_UNCOVERED: return "The plan does not cover the demand.";
     case CV_NOT_IN_FORCE: return "Tonight's plan is over, and the standby plan has no records.";
     case CV_FIRST_OVER: return "There are more first records than the plan has.";
+    case CV_LIST_ROOM: return "The list has more entries than there is room for.";
     case CV_LIMIT: return "At most 0 inputs may share a wavelength.";
     default: return "There is no such code.";
     }
@@ -512,6 +527,23 @@ CV_NODISCARD cv2_step cv2_step_at(uint64_t n, const uint8_t *plan, size_t plan_l
  */
 CV_NODISCARD cv_answer cv_to_second(uint64_t n, const uint8_t *plan, size_t plan_len, uint8_t *moved, size_t moved_len);
 CV_NODISCARD cv_answer cv_to_first(uint64_t n, const uint8_t *plan, size_t plan_len, uint8_t *moved, size_t moved_len);
+
+/* ---- chordvenus-rescue: a damaged plan rescued ---- */
+
+/*
+ * A plan for the demand out of a damaged one (§19): its well-formed records as they stand, and behind
+ * them the exact plan of what those leave uncovered. cv_check takes the result. The list tells of each
+ * record that was dropped, in order: its number in two bytes, low byte first; a reason, CV_BAD_HOLD
+ * and the like, the first that applies; a zero byte. A torn tail is the last, with the number of whole
+ * records for its own. Where the buffer has no room for every plan that could come out, what is to be
+ * added is planned twice, once to count its records.
+ * Codes:  1, 2, 3; 10 for the damaged plan, whose torn tail counts as a record, and for the rescued
+ *         one; 5 for the plan; 16 for the list.
+ * Writes: the records of the rescued plan, and an entry for each record dropped.
+ * Done:   records, total and empty of the rescued plan, longest of the demand; added, the records of
+ *         the appended plan; dropped, the entries written.
+ */
+CV_NODISCARD cv_answer cv_rescue(uint64_t n, const uint32_t *cells, size_t cells_len, const uint8_t *damaged, size_t damaged_len, uint8_t *plan, size_t plan_len, uint8_t *dropped, size_t dropped_len);
 
 /* ---- chordvenus-console: the record in force, and what a stopped batch leaves ---- */
 

@@ -533,6 +533,62 @@ def carry_over(n, asked, plan, first, wished, cells):
     return Answer(), 0, new
 
 
+# ---- Rescue
+
+
+class Rescued(NamedTuple):
+    """A rescue's answer, the records added and dropped, and both lent buffers afterwards."""
+
+    answer: Answer
+    added: int
+    dropped: int
+    plan: bytes
+    listed: bytes
+
+
+def reason(n, record):
+    """Why a record is dropped, by the first rule that it breaks; 0 where it is well formed."""
+    first, later = record[4 : 4 + n], record[4 + n :]
+    joined = [j for j in first if j < n]
+    broken = [
+        record[0] + 256 * record[1] == 0,
+        record[2] != n,
+        record[3] != 0,
+        any(j >= n and j != IDLE for j in first),
+        len(set(joined)) < len(joined),
+        any(j != IDLE for j in later),
+    ]
+    return broken.index(True) + 1 if any(broken) else 0
+
+
+def rescue(n, cells, damaged, plan, listed):
+    """Keeps the well-formed records, adds the exact plan of what they leave uncovered, and lists what was dropped."""
+    whole, torn = len(damaged) // RECORD, len(damaged) % RECORD > 0
+    refused = refused_demand(n, cells)
+    if not refused and whole + torn > RECORDS:
+        refused = Answer(10, RECORDS)
+    if refused:
+        return Rescued(refused, 0, 0, plan, listed)
+    records = [damaged[k * RECORD : (k + 1) * RECORD] for k in range(whole)]
+    why = [reason(n, record) for record in records]
+    kept = [(record[0] + 256 * record[1], list(record[4:])) for record, broken in zip(records, why) if not broken]
+    entries = [(k, broken) for k, broken in enumerate(why) if broken] + [(whole, 7)] * torn
+    added = exact_list(n, [max(asked - granted, 0) for asked, granted in zip(cells, grants(n, kept))])
+    everything = kept + added
+    if len(everything) > RECORDS:
+        refused = Answer(10, RECORDS)
+    elif len(plan) // RECORD < len(everything):
+        refused = Answer(5, len(everything))
+    elif len(listed) // 4 < len(entries):
+        refused = Answer(16, len(entries))
+    if refused:
+        return Rescued(refused, 0, 0, plan, listed)
+    written = b"".join(record_bytes(hold, n, outputs) for hold, outputs in everything)
+    told = b"".join(bytes([k % 256, k // 256, broken, 0]) for k, broken in entries)
+    counts = counted(n, cells, everything)
+    return Rescued(counts, len(added), len(entries), written + plan[len(written) :], told + listed[len(told) :])
+
+
 # ---- The room beforehand
 
 
@@ -963,6 +1019,24 @@ def console_laws(rng, n):
         same("the books balance", [a + w for a, w in zip(asked, wished)], [c + u for c, u in zip(new, useful)])
 
 
+def rescue_laws(rng, n):
+    """What §19 promises of a plan with some bytes changed."""
+    cells = random_demand(rng, n, 9, 0.6)
+    damaged = bytearray(b"".join(record_bytes(hold, n, outputs) for hold, outputs in exact_list(n, cells)))
+    for _ in range(rng.randint(0, 3) if damaged else 0):
+        damaged[rng.randrange(len(damaged))] = rng.randint(0, 255)
+    damaged = bytes(damaged[: rng.choice([len(damaged), len(damaged) - len(damaged) % 5])])
+    room, listed = bytes([170] * (2 * len(damaged) + RECORD * n * n)), bytes([170] * len(damaged))
+    given = rescue(n, cells, damaged, room, listed)
+    written = given.plan[: given.answer.records * RECORD]
+    same("the checker takes the rescued plan", check_plan(n, cells, written), given.answer)
+    same("rescued again", rescue(n, cells, written, written, b""), Rescued(given.answer, 0, 0, written, b""))
+    records = [damaged[k : k + RECORD] for k in range(0, len(damaged) - RECORD + 1, RECORD)]
+    kept = b"".join(record for record in records if well_formed(n, record))
+    same("kept bytes", written[: len(kept)], kept)
+    same("the numbers listed", [k for k, record in enumerate(records) if not well_formed(n, record)], [given.listed[4 * k] + 256 * given.listed[4 * k + 1] for k in range(given.dropped) if given.listed[4 * k + 2] < 7])
+
+
 def grating_laws(n, cells):
     """What §13 promises of one demand."""
     longest, plan = longest_line(n, cells), grating_list(n, cells)
@@ -1039,6 +1113,7 @@ def selftest():
         join_laws(rng, rng.choice([1, 2, 3, 5, 8, 64]))
         move_laws(rng, rng.choice([1, 2, 3, 5, 8, 63, 64]))
         console_laws(rng, rng.choice([1, 2, 3, 5, 8, 64]))
+        rescue_laws(rng, rng.choice([1, 2, 3, 5, 8]))
     print("the examples, the edges and the laws on 402 demands and 400 plans hold")
 
 

@@ -14,7 +14,7 @@ use chordvenus as proved;
 use reference as proved;
 
 /// The calls in the order of the header, with what one timed run does.
-pub const CALLS: [(&str, &str); 18] = [
+pub const CALLS: [(&str, &str); 21] = [
     ("wish", "one call for each pair with slots"),
     ("wishes", "a list of the pairs with slots"),
     ("exact", "one plan"),
@@ -35,6 +35,7 @@ pub const CALLS: [(&str, &str); 18] = [
     ("carry_over", "the exact plan stopped half way"),
     ("shop", "one schedule, d = 5; Rust by the same method"),
     ("tasks", "that schedule"),
+    ("rescue", "the exact plan, every tenth record without its hold"),
 ];
 
 /// The wavelength limit of the timed quiet plans.
@@ -107,6 +108,18 @@ fn tasks<'a>(demand: &'a Demand) -> Pair<'a> {
     both!(library => {
         let tasks = tasks.clone();
         move || run(library::tasks(n, black_box(&tasks)))
+
+/// Rescuing a demand's plan, every tenth record of which has lost its hold, with room for all that can come of it.
+fn rescue<'a>(demand: &'a Demand) -> Pair<'a> {
+    let mut damaged = demand.plan.clone();
+    for record in damaged.chunks_mut(RECORD_SIZE).step_by(10) {
+        record[..2].fill(0);
+    }
+    both!(library => {
+        let (n, cells, damaged) = (demand.n as u64, &demand.cells, damaged.clone());
+        let mut plan = vec![0; damaged.len() + ROOM * RECORD_SIZE];
+        let mut dropped = vec![0; demand.records() * reference::ENTRY_SIZE];
+        move || run(library::rescue(n, black_box(cells), &damaged, &mut plan, &mut dropped))
     })
 }
 
@@ -207,6 +220,7 @@ pub fn pair<'a>(call: &str, demand: &'a Demand) -> Pair<'a> {
             move || run(library::shop(n, black_box(cells), 5, &mut tasks))
         }),
         "tasks" => tasks(demand),
+        "rescue" => rescue(demand),
         "open" => both!(library => move || run(library::open(n, black_box(plan)))),
         "step_at" => both!(library => move || {
             for at in 0..demand.records() as u64 {

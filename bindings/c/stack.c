@@ -77,6 +77,7 @@ static void in_force(void) { part = cv_in_force(N, plan, ROOM, plan, ROOM, UINT6
 static void shop(void) { answer = cv_shop(N, cells, N * N, 65535, made, room); }
 static void tasks(void) { answer = cv_tasks(N, tasked, TASKS); }
 static void carry_over(void) { answer = cv_carry_over(N, cells, N * N, plan, ROOM, RECORDS, cells, N * N, renewed, N * N); }
+static void rescue(void) { answer = cv_rescue(N, cells, N * N, plan, 1, made, room, list, CV_ENTRY_SIZE); }
 
 /* Takes the thread's stack but for the bytes that are to be left, and calls the function there. */
 static void *at_the_end(void *call)
@@ -195,6 +196,7 @@ int main(void)
         {"cv2_write", wide_write, CV2_STACK_WRITE},        {"cv2_open", wide_open, CV2_STACK_OPEN},
         {"cv2_step_at", wide_step_at, CV2_STACK_STEP_AT},  {"cv_to_second", to_second, CV_STACK_TO_SECOND},
         {"cv_to_first", to_first, CV_STACK_TO_FIRST},
+        {"cv_rescue", rescue, CV_STACK_RESCUE},
         {"cv_wishes", wishes, CV_STACK_WISHES},
     };
     uint8_t *fence = mmap(NULL, FENCE + LARGEST, PROT_READ | PROT_WRITE, MAP_PRIVATE | MAP_ANONYMOUS, -1, 0);

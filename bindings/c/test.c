@@ -494,11 +494,11 @@ static void limit_refusals(void)
 
 /* ---- planners of the second edition ---- */
 
-static uint32_t wide[(CV2_MOST_PORTS + 1) * (CV2_MOST_PORTS + 1)];
+static uint32_t wide_cells[(CV2_MOST_PORTS + 1) * (CV2_MOST_PORTS + 1)];
 
 static cv_answer wide_planned(planner *call, uint64_t n, size_t count, size_t room)
 {
-    const uint8_t *from = lend_bytes(CELLS, (const uint8_t *)wide, count * sizeof *wide);
+    const uint8_t *from = lend_bytes(CELLS, (const uint8_t *)wide_cells, count * sizeof *wide_cells);
     return call(n, (const uint32_t *)(const void *)from, count, lend(RESULT, room), room);
 }
 
@@ -513,11 +513,11 @@ static void wide_refused(int line, planner *call, uint64_t n, size_t count, size
 static void wide_diagonal(planner *call, unsigned n)
 {
     uint8_t wanted[CV2_RECORD_SIZE];
-    memset(wide, 0, sizeof wide);
+    memset(wide_cells, 0, sizeof wide_cells);
     memset(wanted, CV_IDLE, sizeof wanted);
     memcpy(wanted, (uint8_t[]){1, 0, (uint8_t)n, 2}, 4);
     for (unsigned i = 0; i < n; i++) {
-        wide[i * n + i] = 1;
+        wide_cells[i * n + i] = 1;
         wanted[4 + i] = (uint8_t)i;
     }
     for (size_t more = 0; more < 2; more++) {
@@ -536,15 +536,15 @@ static void wide_switch(planner *call)
     const uint64_t none[] = {0, 129, 256, UINT64_C(1) << 32, UINT64_MAX};
     for (size_t k = 0; k < sizeof none / sizeof *none; k++)
         WIDE_REFUSED(call, none[k], 129 * 129, 4 * CV2_RECORD_SIZE, .code = CV_PORTS);
-    memset(wide, 0, sizeof wide);
-    wide[127 * 128 + 5] = 65536;
+    memset(wide_cells, 0, sizeof wide_cells);
+    wide_cells[127 * 128 + 5] = 65536;
     WIDE_REFUSED(call, 128, 128 * 128, 0, .code = CV_LINE, .side = CV_INPUT, .place = 127);
-    memset(wide, 0, sizeof wide);
-    wide[5 * 128 + 127] = 65535;
-    wide[6 * 128 + 127] = 1;
+    memset(wide_cells, 0, sizeof wide_cells);
+    wide_cells[5 * 128 + 127] = 65535;
+    wide_cells[6 * 128 + 127] = 1;
     WIDE_REFUSED(call, 128, 128 * 128, 0, .code = CV_LINE, .side = CV_OUTPUT, .place = 127);
     for (int k = 0; k < 128 * 128; k++)
-        wide[k] = 1;
+        wide_cells[k] = 1;
     ANSWERS(wide_planned(call, 128, 128 * 128, 128 * CV2_RECORD_SIZE), .records = 128, .longest = 128, .total = 128);
     WIDE_REFUSED(call, 128, 128 * 128, 128 * CV2_RECORD_SIZE - 1, .code = CV_ROOM, .place = 128);
 }
@@ -558,8 +558,8 @@ static void second_plans(void)
             wide_diagonal(planners[k], ports[n]);
         wide_switch(planners[k]);
     }
-    memset(wide, 0, sizeof wide);
-    wide[64] = 1025;
+    memset(wide_cells, 0, sizeof wide_cells);
+    wide_cells[64] = 1025;
     WIDE_REFUSED(cv2_quick, 65, 65 * 65, 0, .code = CV_LONGEST); /* before 5 */
 }
 
@@ -1271,6 +1271,76 @@ static void moves(void)
     CHECK(answer.code == CV_DONE && answer.records == CV_MOST_RECORDS);
 }
 
+/* The demand is in cells, the damaged plan's bytes are in plan. */
+static cv_answer rescued(uint64_t n, size_t count, size_t bytes, size_t room, size_t entries)
+{
+    const uint8_t *damaged = lend_bytes(PLAN, plan, bytes);
+    uint8_t *into = lend(RESULT, room), *dropped = lend(LIST, entries);
+    return cv_rescue(n, lend_cells(cells, count), count, damaged, bytes, into, room, dropped, entries);
+}
+
+/* Of two ports, with three bytes more than the plan and the list take. */
+static void rescues(int line, size_t bytes, const char *into, const uint8_t *entries, cv_answer wanted)
+{
+    size_t room = wanted.records * CV_RECORD_SIZE, size = wanted.dropped * CV_ENTRY_SIZE;
+    answered(rescued(2, 4, bytes, room + 3, size + 3), wanted, "a rescue", line);
+    read_plan(2, into);
+    told(memcmp(lent_at(RESULT), plan, room) == 0, "the rescued plan", line);
+    told(memcmp(lent_at(LIST), entries, size) == 0, "the list", line);
+    told(untouched(RESULT, room) && untouched(LIST, size), "no other byte", line);
+}
+#define RESCUES(bytes, into, list, ...) rescues(__LINE__, bytes, into, (const uint8_t *)list, (cv_answer){__VA_ARGS__})
+
+static void rescue(void)
+{
+    read_cells("2 1 / 1 2");
+    read_plan(2, "2:0 1;0:1 0;1:- -");
+    RESCUES(139, "2:0 1;1:1 0", "\1\0\1\0\2\0\7", .records = 2, .longest = 3, .total = 3, .added = 1, .dropped = 2);
+    read_plan(2, "2:0 1;1:1 0");
+    RESCUES(136, "2:0 1;1:1 0", "", .records = 2, .longest = 3, .total = 3);
+    read_plan(2, "9:0 1");
+    RESCUES(68, "9:0 1;1:1 0", "", .records = 2, .longest = 3, .total = 10, .empty = 14, .added = 1);
+    read_plan(2, "5:- -;1:- 0");
+    RESCUES(136, "5:- -;1:- 0;2:0 1;1:1 0", "", .records = 4, .longest = 3, .total = 9, .empty = 1, .added = 2);
+    RESCUES(0, "2:0 1;1:1 0", "", .records = 2, .longest = 3, .total = 3, .added = 2);
+    RESCUES(67, "2:0 1;1:1 0", "\0\0\7", .records = 2, .longest = 3, .total = 3, .added = 2, .dropped = 1);
+    /* one record for each reason, and one with all faults but the first */
+    read_cells("0 0 / 0 0");
+    read_plan(2, "0:0 1;1:0 1;1:0 1;1:0 2;1:1 1;1:0 1 0;7:2 2 2");
+    plan[1 * CV_RECORD_SIZE + 2] = 3;
+    plan[2 * CV_RECORD_SIZE + 3] = 1;
+    plan[6 * CV_RECORD_SIZE + 2] = plan[6 * CV_RECORD_SIZE + 3] = 1;
+    RESCUES(476, "", "\0\0\1\0\1\0\2\0\2\0\3\0\3\0\4\0\4\0\5\0\5\0\6\0\6\0\2", .dropped = 7);
+}
+
+static void not_rescued(int line, uint64_t n, size_t count, size_t bytes, size_t room, size_t entries, cv_answer wanted)
+{
+    answered(rescued(n, count, bytes, room, entries), wanted, "a refused rescue", line);
+    told(untouched(RESULT, 0) && untouched(LIST, 0), "a refused rescue writes nothing", line);
+}
+#define NOT_RESCUED(n, count, bytes, room, entries, ...) not_rescued(__LINE__, n, count, bytes, room, entries, (cv_answer){__VA_ARGS__})
+
+static void rescue_refusals(void)
+{
+    const size_t most = CV_MOST_RECORDS * (size_t)CV_RECORD_SIZE;
+    read_cells("2 1 / 1 65535");
+    for (int k = 0; k < NO_PORTS; k++)
+        NOT_RESCUED(no_ports[k], 3, 3, 0, 0, .code = CV_PORTS);
+    NOT_RESCUED(2, 3, 3, 0, 0, .code = CV_CELLS, .place = 4);
+    for (size_t k = 0; k < CV_MOST_RECORDS + 1; k++)
+        put_record(k, 1, 2);
+    NOT_RESCUED(2, 4, most + 1, 0, 0, .code = CV_LINE, .place = 1, .side = CV_INPUT);
+    read_cells("2 1 / 1 2");
+    NOT_RESCUED(2, 4, most + 1, most, 4, .code = CV_RECORDS, .place = 8192); /* in, the tail counted */
+    NOT_RESCUED(2, 4, most + 68, most, 4, .code = CV_RECORDS, .place = 8192);
+    NOT_RESCUED(2, 4, most - 68, 0, 0, .code = CV_RECORDS, .place = 8192); /* out: 8,191 and 2 */
+    NOT_RESCUED(2, 4, most - 136, 0, 0, .code = CV_ROOM, .place = 8192);
+    read_plan(2, "2:0 1;0:1 0");
+    NOT_RESCUED(2, 4, 137, 135, 0, .code = CV_ROOM, .place = 2); /* before 16 */
+    NOT_RESCUED(2, 4, 137, 136, 7, .code = CV_LIST_ROOM, .place = 2);
+    NOT_RESCUED(2, 4, 136, 136, 0, .code = CV_LIST_ROOM, .place = 1);
+}
+
 int main(void)
 {
     planner *const planners[] = {cv_exact, cv_doubled, cv_doubled_every_rotation, cv_quick, cv_grating_doubled, quiet_any};
@@ -1312,6 +1382,8 @@ int main(void)
     task_reading();
     second_edition();
     moves();
+    rescue();
+    rescue_refusals();
     printf("%d passed, %d failed\n", passed, failed);
     return failed != 0;
 }

@@ -39,6 +39,7 @@ static void join(void) { answer = cv_join(N, plan, sizeof plan, none, sizeof pla
 static void write_one(void) { answer = cv_write(1, N, plan + 4, none, CV_RECORD_SIZE); }
 static void step_at(void) { step = cv_step_at(N, none, CV_RECORD_SIZE, 0); }
 static void in_force(void) { part = cv_in_force(N, plan, sizeof plan, none, CV_RECORD_SIZE, 0); }
+static void rescue(void) { answer = cv_rescue(N, cells, N * N, none, CV_RECORD_SIZE, plan, sizeof plan, plan, 0); }
 static void carry_over(void) { answer = cv_carry_over(N, cells, N * N, plan, sizeof plan, 1, cells, N * N, (uint32_t *)(void *)none, N * N); }
 
 /* One frame of the walk: in which function it is. */
@@ -69,6 +70,7 @@ int main(void)
         {"cv_length", (uintptr_t)cv_length, length}, {"cv_join", (uintptr_t)cv_join, join},
         {"cv_write", (uintptr_t)cv_write, write_one}, {"cv_step_at", (uintptr_t)cv_step_at, step_at},
         {"cv_in_force", (uintptr_t)cv_in_force, in_force}, {"cv_carry_over", (uintptr_t)cv_carry_over, carry_over},
+        {"cv_rescue", (uintptr_t)cv_rescue, rescue},
     };
     const struct sigaction on_fault = {.sa_handler = stopped};
     none = mmap(NULL, 8 * CV_RECORD_SIZE, PROT_NONE, MAP_PRIVATE | MAP_ANONYMOUS, -1, 0);

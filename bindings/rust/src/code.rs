@@ -47,6 +47,8 @@ pub enum Code {
     FirstOver = 15,
     /// At most 0 inputs may share a wavelength. The place is 0.
     Limit = 17,
+    /// There is less room than the list takes. The place is how many entries it has.
+    ListRoom = 16,
     /// A number that is none of the others: no call of this version answers one.
     Unknown = u64::MAX,
 }
@@ -70,6 +72,7 @@ impl Code {
         Code::Uncovered,
         Code::NotInForce,
         Code::FirstOver,
+        Code::ListRoom,
         Code::Limit,
     ];
 
@@ -98,6 +101,7 @@ impl Code {
             Code::NotInForce => "Tonight's plan is over, and the standby plan has no records.",
             Code::FirstOver => "There are more first records than the plan has.",
             Code::Limit => "At most 0 inputs may share a wavelength.",
+            Code::ListRoom => "The list has more entries than there is room for.",
             Code::Unknown => "There is no such code.",
         }
     }
@@ -225,6 +229,7 @@ impl fmt::Display for Refused {
             Code::NotInForce => write!(f, "tonight's plan is over, and there is no standby plan"),
             Code::FirstOver => write!(f, "the plan has only {place} records"),
             Code::Limit => write!(f, "at most 0 inputs may share a wavelength"),
+            Code::ListRoom => write!(f, "the list takes {place} entries, and the buffer has room for fewer"),
             Code::Done | Code::Unknown => write!(f, "place {place}"),
         }
     }

@@ -69,6 +69,8 @@ pub const WISH_SIZE: usize = 8;
 
 /// Bytes of a task record.
 pub const TASK_SIZE: usize = 12;
+/// Bytes of an entry of the list that a rescue writes.
+pub const ENTRY_SIZE: usize = 4;
 /// The output of an idle input.
 pub const IDLE: u8 = 255;
 /// The largest sum of a line, and the largest wish.
@@ -451,5 +453,61 @@ impl Task {
         let word =
             |at: usize| u32::from_le_bytes([record[at], record[at + 1], record[at + 2], record[at + 3]]);
         Task { input: record[0], output: record[1], start: word(4), end: word(8) }
+    }
+}
+
+/// A plan for a demand out of a damaged one: its well-formed records as they stand, and behind them the exact
+/// plan of what those leave uncovered. The list tells of each record that was dropped, in order, in
+/// [`ENTRY_SIZE`] bytes, which [`Entry::read`] takes apart.
+///
+/// Codes: 1, 2, 3; 10 for the damaged plan, whose torn tail counts as a record, and for the rescued one; 5 for
+/// the plan; 16 for the list. Writes: the rescued plan's records, and an entry for each record dropped. Done:
+/// `records`, `total` and `empty` of the rescued plan, `longest` of the demand, `added`, `dropped`.
+#[must_use]
+pub fn rescue(n: u64, cells: &[u32], damaged: &[u8], plan: &mut [u8], dropped: &mut [u8]) -> Answer {
+    unsafe {
+        sys::cv_rescue(
+            n,
+            cells.as_ptr(),
+            cells.len(),
+            damaged.as_ptr(),
+            damaged.len(),
+            plan.as_mut_ptr(),
+            plan.len(),
+            dropped.as_mut_ptr(),
+            dropped.len(),
+        )
+    }
+}
+
+/// A record that a rescue dropped.
+#[derive(Clone, Copy, Debug, PartialEq, Eq)]
+pub struct Entry {
+    /// Its number in the damaged plan; of a torn tail the number of whole records.
+    pub number: u16,
+    /// Why: [`Entry::BAD_HOLD`] and the like, the first that is true of it.
+    pub reason: u8,
+}
+
+impl Entry {
+    /// Its hold is 0.
+    pub const BAD_HOLD: u8 = 1;
+    /// Its N is another.
+    pub const BAD_PORTS: u8 = 2;
+    /// Its fourth byte is not 0.
+    pub const BAD_SPARE: u8 = 3;
+    /// One of its first N outputs is neither idle nor a port.
+    pub const BAD_OUTPUT: u8 = 4;
+    /// Two of its first N inputs have one output.
+    pub const OUTPUT_TWICE: u8 = 5;
+    /// An output behind the first N is not idle.
+    pub const PAST_PORTS: u8 = 6;
+    /// The bytes behind the last whole record are no record.
+    pub const TORN_TAIL: u8 = 7;
+
+    /// The entries of a list of [`rescue`]'s.
+    pub fn read(list: &[u8]) -> impl Iterator<Item = Entry> + '_ {
+        list.chunks_exact(ENTRY_SIZE)
+            .map(|entry| Entry { number: u16::from_le_bytes([entry[0], entry[1]]), reason: entry[2] })
     }
 }

@@ -14,7 +14,7 @@
 use alloc::vec;
 use alloc::vec::Vec;
 
-use crate::{Answer, Refused, MOST_LINE, MOST_QUICK, RECORD_SIZE, TASK_SIZE};
+use crate::{Answer, Entry, Refused, ENTRY_SIZE, MOST_LINE, MOST_QUICK, RECORD_SIZE, TASK_SIZE};
 
 /// A plan that a call made, or tasks, and their counts.
 #[derive(Clone, Debug, PartialEq, Eq)]
@@ -96,6 +96,17 @@ pub fn shop(n: u64, cells: &[u32], d: u16) -> Result<Planned, Refused> {
     let mut bytes = vec![0; cells.iter().filter(|&&cell| cell != 0).count() * TASK_SIZE];
     let answer = crate::shop(n, cells, d, &mut bytes).done()?;
     Ok(Planned { bytes, answer })
+}
+
+/// The rescued plan and the list of what was dropped, as [`crate::rescue`] writes them.
+pub fn rescue(n: u64, cells: &[u32], damaged: &[u8]) -> Result<(Planned, Vec<Entry>), Refused> {
+    let records = damaged.len().div_ceil(RECORD_SIZE);
+    let mut list = vec![0; records * ENTRY_SIZE];
+    let room = crate::exact_room(n, longest(n, cells).min(MOST_LINE));
+    let room = Answer { records: room.records + records as u64, ..room };
+    let plan = planned(room, |plan| crate::rescue(n, cells, damaged, plan, &mut list))?;
+    list.truncate(plan.answer.dropped as usize * ENTRY_SIZE);
+    Ok((plan, Entry::read(&list).collect()))
 }
 
 /// Runs a planner on a `Vec` of that room. Where the room is refused the planner is asked all the same, with

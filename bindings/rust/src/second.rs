@@ -98,11 +98,6 @@ impl reading::Edition<128> for reading::Of<128> {
     }
 }
 
-/// The largest N.
-pub const MOST_PORTS: usize = 128;
-/// Bytes of a plan record: hold, N, the byte 2, an output for each possible input.
-pub const RECORD_SIZE: usize = 132;
-
 /// The exact plan, as [`crate::exact`].
 ///
 /// Codes: 1, 2, 3, 5. Writes: the plan's records, at the start of `plan`. Done: `records`, `longest`, `total`,

@@ -122,6 +122,9 @@ pub const SHOP: usize = 2_048;
 /// Of [`crate::tasks`].
 pub const TASKS: usize = 1_024;
 
+/// Of [`crate::rescue`].
+pub const RESCUE: usize = 65_536;
+
 /// All of them, by name.
 pub const ALL: &[(&str, usize)] = &[
     ("VERSION", VERSION),
@@ -160,4 +163,5 @@ pub const ALL: &[(&str, usize)] = &[
     ("CARRY_OVER", CARRY_OVER),
     ("SHOP", SHOP),
     ("TASKS", TASKS),
+    ("RESCUE", RESCUE),
 ];

@@ -34,9 +34,9 @@ pub struct Answer {
     pub length: u64,
     /// Empty slots of the plan: what it grants beyond what is asked, over all pairs.
     pub empty: u64,
-    /// Records added to a plan.
+    /// Of a rescue: the records added to the plan.
     pub added: u64,
-    /// Records dropped from a plan.
+    /// Of a rescue: the records dropped from the plan.
     pub dropped: u64,
     /// The number of the [`crate::About`] that the code is about, where the call takes several plans or
     /// demands; else 0.
@@ -277,4 +277,17 @@ extern "C" {
     /// What [`crate::tasks`] calls.
     #[must_use]
     pub fn cv_tasks(n: u64, tasks: *const u8, tasks_len: usize) -> Answer;
+    /// What [`crate::rescue`] calls.
+    #[must_use]
+    pub fn cv_rescue(
+        n: u64,
+        cells: *const u32,
+        cells_len: usize,
+        damaged: *const u8,
+        damaged_len: usize,
+        plan: *mut u8,
+        plan_len: usize,
+        dropped: *mut u8,
+        dropped_len: usize,
+    ) -> Answer;
 }

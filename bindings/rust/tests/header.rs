@@ -2,7 +2,7 @@
 
 use std::collections::BTreeMap;
 
-use chordvenus::{self as cv, stack, sys, About, Code};
+use chordvenus::{self as cv, stack, sys, About, Code, Entry};
 
 /// The header's numbers by name: its macros and its enumerators.
 fn in_header() -> BTreeMap<String, u64> {
@@ -54,6 +54,14 @@ fn in_crate() -> BTreeMap<String, u64> {
             ("RECORD_SIZE", cv::RECORD_SIZE as u64),
             ("WISH_SIZE", cv::WISH_SIZE as u64),
             ("TASK_SIZE", cv::TASK_SIZE as u64),
+            ("ENTRY_SIZE", cv::ENTRY_SIZE as u64),
+            ("BAD_HOLD", u64::from(Entry::BAD_HOLD)),
+            ("BAD_PORTS", u64::from(Entry::BAD_PORTS)),
+            ("BAD_SPARE", u64::from(Entry::BAD_SPARE)),
+            ("BAD_OUTPUT", u64::from(Entry::BAD_OUTPUT)),
+            ("OUTPUT_TWICE", u64::from(Entry::OUTPUT_TWICE)),
+            ("PAST_PORTS", u64::from(Entry::PAST_PORTS)),
+            ("TORN_TAIL", u64::from(Entry::TORN_TAIL)),
             ("IDLE", u64::from(cv::IDLE)),
             ("MOST_LINE", cv::MOST_LINE),
             ("MOST_QUICK", cv::MOST_QUICK),

@@ -15,6 +15,8 @@ use Rattle.lookup.specs.declared.Found.{Found}
 use Rattle.carry.specs.declared.Carried.{Carried}
 use Rattle.carry.specs.declared.Carried.the-variants as carried
 use Rattle.carry.specs.Carry.{newCells, carryOver, cellsAfter}
+use Rattle.rescue.specs.declared.Answer.{Answer}
+use Rattle.rescue.specs.Rescue.{Saved}
 use Rattle.wish.specs.declared.Wish.{Wish}
 use Rattle.wish.specs.Wish as wish
 use Rattle.plans.specs.declared.Step.{Step}
@@ -103,3 +105,26 @@ flatCarried (carried.Refused a r) = flatAbout (Refused r) a
 pub record CarriesFlat (E : Edition) (N : ℕ) (asked plan : List ℕ) (first : ℕ) (wished before : List ℕ) (r : CvAnswer) (after : List ℕ) : Type 0 where
   pub answer : r ≡ flatCarried (carryOver E N asked plan first wished before)
   pub cells : after ≡ cellsAfter (carryOver E N asked plan first wished before) (newCells E N asked plan first wished) before
+
+-- a rescue tells besides how many records were added and dropped
+abbrev pub flatRescue : Answer → CvAnswer
+flatRescue a =
+    record {
+      code = codeOf (a .outcome);
+      place = placeOf (a .outcome);
+      side = sideOf (a .outcome);
+      records = countsOf (a .outcome) .records;
+      longest = countsOf (a .outcome) .longest;
+      total = countsOf (a .outcome) .total;
+      length = countsOf (a .outcome) .length;
+      empty = countsOf (a .outcome) .empty;
+      added = a .added;
+      dropped = a .dropped;
+      about = 0;
+    }
+
+-- a rescue's answer in numbers, and the two lent buffers
+pub record RescuesFlat (given : Saved) (r : CvAnswer) (after listed : List ℕ) : Type 0 where
+  pub answer : r ≡ flatRescue (given .answer)
+  pub plan : after ≡ given .plan
+  pub list : listed ≡ given .list

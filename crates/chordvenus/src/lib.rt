@@ -28,7 +28,8 @@ ghost use Rattle.room.specs.Room.{roomed};
 ghost use Rattle.lookup.specs.Lookup.{spotOf, foundOf};
 ghost use Rattle.shop.specs.Shopped.{shopped};
 ghost use Rattle.tasks.specs.Read.{reading};
-ghost use Rattle.chordvenus.specs.Flat.{version, flat, flatAbout, kindOf, flatStep, flatWish, flatPart, flatCarried, Crosses, CarriesFlat, flatWide};
+ghost use Rattle.chordvenus.specs.Flat.{version, flat, flatAbout, kindOf, flatStep, flatWish, flatPart, flatCarried, Crosses, CarriesFlat, flatWide, flatRescue, RescuesFlat};
+ghost use Rattle.rescue.specs.Rescue.{rescuing};
 
 // The version of the structs and functions below. A struct that is returned by value cannot grow: whoever adds a field makes it one more.
 const VERSION: u64 = 1;
@@ -456,6 +457,20 @@ pub extern "C" fn cv_to_first(n: usize, plan: &[u8], moved: &mut [u8]) -> CvAnsw
     flatten(moving::to_first(n, plan, moved))
 }
 
+// A damaged plan rescued, and the list of what was dropped.
+#[no_mangle]
+pub extern "C" fn cv_rescue(
+    n: usize,
+    cells: &[u32],
+    damaged: &[u8],
+    plan: &mut [u8],
+    dropped: &mut [u8],
+) -> CvAnswer
+    ensures { λ r. ⌜ RescuesFlat (rescuing firstEdition n (now (cells .entry)) (now (damaged .entry)) (now (plan .entry)) (now (dropped .entry))) r (now (plan .exit)) (now (dropped .exit)) ⌝ }
+{
+    flatten_rescue(rescue::rescue_plan(n, cells, damaged, plan, dropped))
+}
+
 // A step's kind.
 fn kind_of(step: Step) -> u64
     ensures { λ r. ⌜ r ≡ kindOf step ⌝ }
@@ -493,6 +508,17 @@ fn flatten_carried(c: Carried) -> CvAnswer
         Carried::Done => flatten(Outcome::Done(plans::counted(0, 0, 0))),
         Carried::Refused(about, r) => flatten_about(Outcome::Refused(r), about),
     }
+}
+
+// A rescue's answer in numbers.
+fn flatten_rescue(a: rescue::Answer) -> CvAnswer
+    ensures { λ r. ⌜ r ≡ flatRescue a ⌝ }
+{
+    let outcome = a.outcome;
+    let mut told = flatten(outcome);
+    told.added = a.added as u64;
+    told.dropped = a.dropped as u64;
+    told
 }
 
 // An outcome in numbers, and what it is about.

@@ -15,6 +15,7 @@ mod more_plans;
 mod peel;
 mod plan;
 mod quiet;
+mod rescue;
 mod room;
 mod shop;
 pub mod slow;
@@ -29,6 +30,7 @@ pub use more_plans::{
 };
 pub use plan::{check, length, open, step_at, write, Reader, Record, Step};
 pub use quiet::{grating_least, grating_quiet};
+pub use rescue::{rescue, Rescued, ENTRY_SIZE};
 pub use room::{doubled_room, exact_room, quick_room};
 pub use shop::{shop, tasks};
 pub use wishes::{wish, wishes};
@@ -62,7 +64,7 @@ pub enum Side {
     Output(usize),
 }
 
-/// Why a call was refused, with its place where it has one, in the order of the codes 1 to 15, and 17.
+/// Why a call was refused, with its place where it has one, in the order of the codes 1 to 17.
 #[derive(Clone, Copy, Debug, PartialEq, Eq)]
 pub enum Refusal {
     Ports,
@@ -82,6 +84,7 @@ pub enum Refusal {
     Uncovered(usize),
     NotInForce,
     FirstOver(usize),
+    ListRoom(usize),
     /// Code 17: a wavelength limit of 0.
     Limit,
 }
@@ -129,6 +132,7 @@ impl From<Outcome> for Numbers {
             Err(Refusal::NotInForce) => (14, 0, 0),
             Err(Refusal::FirstOver(records)) => (15, records, 0),
             Err(Refusal::Limit) => (17, 0, 0),
+            Err(Refusal::ListRoom(entries)) => (16, entries, 0),
         };
         Numbers { code, place: place as u64, side, counts: Counts::default() }
     }
