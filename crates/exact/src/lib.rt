@@ -53,13 +53,7 @@ pub fn exact_plan_second(n: usize, cells: &[u32], plan: &mut [u8]) -> Outcome
 }
 
 // The exact plan of an edition. Lent beside the plan are the cells of its largest switch, for the working copy.
-pub fn plan_for(
-    e: Edition,
-    n: usize,
-    cells: &[u32],
-    work: &mut [u32],
-    plan: &mut [u8],
-) -> Outcome
+pub fn plan_for(e: Edition, n: usize, cells: &[u32], work: &mut [u32], plan: &mut [u8]) -> Outcome
     requires { ⌜ Bounded e × (e .ports * e .ports ≤ length (now work)) ⌝ }
     ensures { λ r. ⌜ Gives (planned e n (now (cells .entry)) (exactPlan (e .width) n (now (cells .entry))) (now (plan .entry))) r (now (plan .exit)) ⌝ }
 {

@@ -175,7 +175,14 @@ fn lay_first(e: Edition, n: usize, unit: u32, first: &[u8], records: usize, plan
     for k in 0..records {
         let rec = record_at(first, width, k);
         let hold = wide(hold_of(rec)) * unit;
-        put_record(plan, k * (width + HEAD), e.byte, hold as u16, n, &rec[HEAD..]);
+        put_record(
+            plan,
+            k * (width + HEAD),
+            e.byte,
+            hold as u16,
+            n,
+            &rec[HEAD..],
+        );
     }
 }
 

@@ -37,8 +37,7 @@ plan-fine-requires : tie.Need-plan-fine-requires
 plan-fine-requires c κs =
     let s = c .before .before .before .before .before .before .before .before .before .before .before in
     let p = s .pre in
-    let e = sym (c .before .before .before .before .before .before .check-demand .ensures) ∙ c .before .before .before .before .longest .given .1 in
-    (
+    let e = sym (c .before .before .before .before .before .before .check-demand .ensures) ∙ c .before .before .before .before .longest .given .1 in (
       e,
       p .0,
       length-take-le _ (s .args .work .now) (cells-fit _ _ _ _ e (s .args .work .now) (p .1)),

@@ -17,7 +17,7 @@ returns c =
     let p = c .before .before .before .pre in
     let a = c .before .before .before .args in
     λ W wide narrow. fits-room _ _
-        (omega (arith, exact-records W (a .n) (p .some) wide (a .work .now) (p .room), p .longest-is, c .before .exact-records .ensures, c .if1 .taken))
+    (omega (arith, exact-records W (a .n) (p .some) wide (a .work .now) (p .room), p .longest-is, c .before .exact-records .ensures, c .if1 .taken))
 
 count-requires : tie.Need-count-requires
 count-requires c κs = search needs

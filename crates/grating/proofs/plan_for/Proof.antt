@@ -34,8 +34,7 @@ plan-fine-requires : tie.Need-plan-fine-requires
 plan-fine-requires c κs =
     let s = c .before .before .before .before .before .before .before .before .before .before .before .before .before .before .before in
     let p = s .pre in
-    let e = sym (c .before .before .before .before .before .before .before .before .check-demand .ensures) ∙ c .before .before .before .before .before .before .longest .given .1 in
-    (
+    let e = sym (c .before .before .before .before .before .before .before .before .check-demand .ensures) ∙ c .before .before .before .before .before .before .longest .given .1 in (
       e,
       p .bounded,
       length-take-le _ (s .args .quotients .now) (cells-fit _ _ _ _ e (s .args .quotients .now) (p .divided)),
