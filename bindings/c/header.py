@@ -61,7 +61,8 @@ def main():
     defined, wanted = names_in(library)
     in_c, in_rust, stack = text_of("examples/**/*.c"), text_of("bindings/rust/examples/*.rs"), text_of("bindings/c/stack.c")
     in_sys = set(re.findall(r"pub fn (cv2?_\w+)\(", text_of("bindings/rust/src/sys.rs")))
-    owned = re.findall(r"^pub fn (\w+)", text_of("bindings/rust/src/owned.rs"), re.M)
+    owned = [f"{module}::{name}" for module, path in (("owned", "owned.rs"), ("second::owned", "second/owned.rs"))
+             for name in re.findall(r"^pub fn (\w+)", text_of(f"bindings/rust/src/{path}"), re.M)]
     faults = {
         "declared without CV_NODISCARD": re.findall(r"^(?:uint64_t|cv2?_\w+) (cv2?_\w+)\(", HEADER, re.M),
         "declared, and not in the library": set(declared) - defined,
@@ -72,7 +73,7 @@ def main():
         "without a run on its own stack": [name for name in declared if f'"{name}"' not in stack],
         "without an example in C": [name for name in declared if f"{name}(" not in in_c and not re.search(rf"\b{name}\b[,)]", in_c)],
         "without an example in Rust": [name for name in declared if rust_name(name) not in in_rust],
-        "of owned without an example": [name for name in owned if f"owned::{name}(" not in in_rust],
+        "of owned without an example": [name for name in owned if f"{name}(" not in in_rust],
     }
     for what, names in faults.items():
         if names:

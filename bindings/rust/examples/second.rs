@@ -1,7 +1,7 @@
 //! A switch of 100 ports: wishes, a record, a plan read, checked, measured and joined; and a small plan
 //! moved between the editions.
 
-use chordvenus::{outputs, second, Refused};
+use chordvenus::{outputs, owned, second, Refused};
 
 const N: u64 = 100;
 
@@ -10,6 +10,7 @@ fn main() -> Result<(), Refused> {
     let list = [0, N as u8 - 1, 0, 0, 0x00, 0x00, 0x82, 0x42];
     let mut cells = vec![0; (N * N) as usize];
     second::wishes(N, &list, &mut cells).done()?;
+    assert_eq!(second::owned::wishes(N, &list)?, cells);
 
     // input i has output N - 1 - i, for 40 slots, twice
     let setting: Vec<Option<u8>> = (0..N as u8).rev().map(Some).collect();
@@ -32,6 +33,7 @@ fn main() -> Result<(), Refused> {
     let mut joined = vec![0; plan.len()];
     let answer = second::join(N, &plan, &mut joined).done()?;
     println!("joined: records {}, total {}", answer.records, answer.total);
+    assert_eq!(second::owned::join(N, &plan)?.bytes, joined[..second::RECORD_SIZE]);
 
     let mut first = [0; chordvenus::RECORD_SIZE];
     chordvenus::write(7, 2, &outputs(&[Some(1), None]), &mut first).done()?;
@@ -39,6 +41,8 @@ fn main() -> Result<(), Refused> {
     chordvenus::to_second(2, &first, &mut moved).done()?;
     let mut back = [0; chordvenus::RECORD_SIZE];
     chordvenus::to_first(2, &moved, &mut back).done()?;
+    assert_eq!(owned::to_second(2, &first)?.bytes, moved);
+    assert_eq!(owned::to_first(2, &moved)?.bytes, back);
     let same = if back == first { "is the same" } else { "differs" };
     println!("moved: the byte behind N is {}, and there and back {same}", moved[3]);
     let answer = chordvenus::to_first(N, &plan, &mut back);

@@ -14,7 +14,7 @@
 use alloc::vec;
 use alloc::vec::Vec;
 
-use crate::{Answer, Entry, Refused, ENTRY_SIZE, MOST_LINE, MOST_QUICK, RECORD_SIZE, TASK_SIZE};
+use crate::{second, Answer, Entry, Refused, ENTRY_SIZE, MOST_LINE, MOST_QUICK, RECORD_SIZE, TASK_SIZE};
 
 /// A plan that a call made, or tasks, and their counts.
 #[derive(Clone, Debug, PartialEq, Eq)]
@@ -34,27 +34,31 @@ pub fn wishes(n: u64, list: &[u8]) -> Result<Vec<u32>, Refused> {
 
 /// The exact plan, as [`crate::exact`] writes it.
 pub fn exact(n: u64, cells: &[u32]) -> Result<Planned, Refused> {
-    planned(crate::exact_room(n, longest(n, cells).min(MOST_LINE)), |plan| crate::exact(n, cells, plan))
+    planned(RECORD_SIZE, crate::exact_room(n, longest(n, cells).min(MOST_LINE)), |plan| {
+        crate::exact(n, cells, plan)
+    })
 }
 
 /// The doubled plan, as [`crate::doubled`] writes it.
 pub fn doubled(n: u64, cells: &[u32]) -> Result<Planned, Refused> {
-    planned(crate::doubled_room(n, 0), |plan| crate::doubled(n, cells, plan))
+    planned(RECORD_SIZE, crate::doubled_room(n, 0), |plan| crate::doubled(n, cells, plan))
 }
 
 /// The doubled plan with every rotation, as [`crate::doubled_every_rotation`] writes it.
 pub fn doubled_every_rotation(n: u64, cells: &[u32]) -> Result<Planned, Refused> {
-    planned(crate::doubled_room(n, 0), |plan| crate::doubled_every_rotation(n, cells, plan))
+    planned(RECORD_SIZE, crate::doubled_room(n, 0), |plan| crate::doubled_every_rotation(n, cells, plan))
 }
 
 /// The quick cover, as [`crate::quick`] writes it.
 pub fn quick(n: u64, cells: &[u32]) -> Result<Planned, Refused> {
-    planned(crate::quick_room(n, longest(n, cells).min(MOST_QUICK)), |plan| crate::quick(n, cells, plan))
+    planned(RECORD_SIZE, crate::quick_room(n, longest(n, cells).min(MOST_QUICK)), |plan| {
+        crate::quick(n, cells, plan)
+    })
 }
 
 /// The grating fabric's doubled plan, as [`crate::grating_doubled`] writes it.
 pub fn grating_doubled(n: u64, cells: &[u32]) -> Result<Planned, Refused> {
-    planned(crate::doubled_room(n, 0), |plan| crate::grating_doubled(n, cells, plan))
+    planned(RECORD_SIZE, crate::doubled_room(n, 0), |plan| crate::grating_doubled(n, cells, plan))
 }
 
 /// The quiet plan, as [`crate::grating_quiet`] writes it: each record empties a cell, so there are no more of
@@ -62,7 +66,7 @@ pub fn grating_doubled(n: u64, cells: &[u32]) -> Result<Planned, Refused> {
 pub fn grating_quiet(n: u64, cells: &[u32], limit: u64) -> Result<Planned, Refused> {
     let asked = cells.iter().filter(|&&cell| cell != 0).count();
     let room = Answer { records: asked as u64, ..Answer::default() };
-    planned(room, |plan| crate::grating_quiet(n, cells, limit, plan))
+    planned(RECORD_SIZE, room, |plan| crate::grating_quiet(n, cells, limit, plan))
 }
 
 /// For each record the most inputs that share a wavelength, as [`crate::grating_report`] writes them.
@@ -74,8 +78,17 @@ pub fn grating_report(n: u64, plan: &[u8]) -> Result<Vec<u8>, Refused> {
 
 /// The plan with equal settings joined, as [`crate::join`] writes it.
 pub fn join(n: u64, plan: &[u8]) -> Result<Planned, Refused> {
-    let room = Answer { records: (plan.len() / RECORD_SIZE) as u64, ..Answer::default() };
-    planned(room, |joined| crate::join(n, plan, joined))
+    planned(RECORD_SIZE, as_many(plan, RECORD_SIZE), |joined| crate::join(n, plan, joined))
+}
+
+/// The plan in the second edition's records, as [`crate::to_second`] writes it.
+pub fn to_second(n: u64, plan: &[u8]) -> Result<Planned, Refused> {
+    planned(second::RECORD_SIZE, as_many(plan, RECORD_SIZE), |moved| crate::to_second(n, plan, moved))
+}
+
+/// The plan in the first edition's records, as [`crate::to_first`] writes it.
+pub fn to_first(n: u64, plan: &[u8]) -> Result<Planned, Refused> {
+    planned(RECORD_SIZE, as_many(plan, second::RECORD_SIZE), |moved| crate::to_first(n, plan, moved))
 }
 
 /// What a stopped batch leaves to ask, as [`crate::carry_over`] writes it.
@@ -111,11 +124,20 @@ pub fn rescue(n: u64, cells: &[u32], damaged: &[u8]) -> Result<(Planned, Vec<Ent
 
 /// Runs a planner on a `Vec` of that room. Where the room is refused the planner is asked all the same, with
 /// no memory: it has the refusal that comes first.
-fn planned(room: Answer, plan: impl FnOnce(&mut [u8]) -> Answer) -> Result<Planned, Refused> {
-    let mut bytes = vec![0; room.records as usize * RECORD_SIZE];
+pub(crate) fn planned(
+    record: usize,
+    room: Answer,
+    plan: impl FnOnce(&mut [u8]) -> Answer,
+) -> Result<Planned, Refused> {
+    let mut bytes = vec![0; room.records as usize * record];
     let answer = plan(&mut bytes).done()?;
-    bytes.truncate(answer.records as usize * RECORD_SIZE);
+    bytes.truncate(answer.records as usize * record);
     Ok(Planned { bytes, answer })
+}
+
+/// Room for as many records as these bytes have whole ones.
+pub(crate) fn as_many(plan: &[u8], record: usize) -> Answer {
+    Answer { records: (plan.len() / record) as u64, ..Answer::default() }
 }
 
 /// N * N where the archive takes such an N, else none: the call refuses then.

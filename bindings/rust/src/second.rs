@@ -3,6 +3,9 @@
 
 use crate::{reading, sys, Answer};
 
+#[cfg(feature = "alloc")]
+pub mod owned;
+
 /// The largest N.
 pub const MOST_PORTS: usize = 128;
 /// Bytes of a plan record: hold in two, N, the byte 2, 128 outputs.

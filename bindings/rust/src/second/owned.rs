@@ -1,0 +1,28 @@
+//! Calls of the second edition that make the memory they write, as those of [`crate::owned`] do in the first.
+
+use alloc::vec;
+use alloc::vec::Vec;
+
+use super::RECORD_SIZE;
+use crate::owned::{as_many, planned, Planned};
+use crate::{second, Refused};
+
+/// The cells of a wish list, as [`second::wishes`] writes them.
+pub fn wishes(n: u64, list: &[u8]) -> Result<Vec<u32>, Refused> {
+    let mut cells = vec![0; cells_of(n)];
+    second::wishes(n, list, &mut cells).done()?;
+    Ok(cells)
+}
+
+/// The plan with equal settings joined, as [`second::join`] writes it.
+pub fn join(n: u64, plan: &[u8]) -> Result<Planned, Refused> {
+    planned(RECORD_SIZE, as_many(plan, RECORD_SIZE), |joined| second::join(n, plan, joined))
+}
+
+/// N * N where the archive takes such an N, else none: the call refuses then.
+fn cells_of(n: u64) -> usize {
+    match second::exact_room(n, 0).code {
+        0 => n as usize * n as usize,
+        _ => 0,
+    }
+}
