@@ -40,6 +40,14 @@ static void write_one(void) { answer = cv_write(1, N, plan + 4, none, CV_RECORD_
 static void step_at(void) { step = cv_step_at(N, none, CV_RECORD_SIZE, 0); }
 static void in_force(void) { part = cv_in_force(N, plan, sizeof plan, none, CV_RECORD_SIZE, 0); }
 static void rescue(void) { answer = cv_rescue(N, cells, N * N, none, CV_RECORD_SIZE, plan, sizeof plan, plan, 0); }
+static void shop(void) { answer = cv_shop(N, cells, N * N, 1, none, 8 * CV_RECORD_SIZE); }
+static void tasks(void) { answer = cv_tasks(N, none, CV_TASK_SIZE); }
+static void wide_wishes(void) { answer = cv2_wishes(N, none, CV_WISH_SIZE, cells, N * N); }
+static void wide_check(void) { answer = cv2_check(N, cells, N * N, none, CV2_RECORD_SIZE); }
+static void wide_length(void) { answer = cv2_length(N, none, CV2_RECORD_SIZE, 1); }
+static void wide_join(void) { answer = cv2_join(N, none, CV2_RECORD_SIZE, plan, sizeof plan); }
+static void to_second(void) { answer = cv_to_second(N, plan, sizeof plan, none, 2 * CV2_RECORD_SIZE); }
+static void to_first(void) { answer = cv_to_first(N, none, CV2_RECORD_SIZE, plan, sizeof plan); }
 static void carry_over(void) { answer = cv_carry_over(N, cells, N * N, plan, sizeof plan, 1, cells, N * N, (uint32_t *)(void *)none, N * N); }
 
 /* One frame of the walk: in which function it is. */
@@ -69,6 +77,10 @@ int main(void)
         {"cv_grating_report", (uintptr_t)cv_grating_report, report}, {"cv_check", (uintptr_t)cv_check, check},
         {"cv_length", (uintptr_t)cv_length, length}, {"cv_join", (uintptr_t)cv_join, join},
         {"cv_write", (uintptr_t)cv_write, write_one}, {"cv_step_at", (uintptr_t)cv_step_at, step_at},
+        {"cv_shop", (uintptr_t)cv_shop, shop}, {"cv_tasks", (uintptr_t)cv_tasks, tasks},
+        {"cv2_wishes", (uintptr_t)cv2_wishes, wide_wishes}, {"cv2_check", (uintptr_t)cv2_check, wide_check},
+        {"cv2_length", (uintptr_t)cv2_length, wide_length}, {"cv2_join", (uintptr_t)cv2_join, wide_join},
+        {"cv_to_second", (uintptr_t)cv_to_second, to_second}, {"cv_to_first", (uintptr_t)cv_to_first, to_first},
         {"cv_in_force", (uintptr_t)cv_in_force, in_force}, {"cv_carry_over", (uintptr_t)cv_carry_over, carry_over},
         {"cv_rescue", (uintptr_t)cv_rescue, rescue},
     };
