@@ -28,6 +28,8 @@ use Rattle.room.specs.declared.Planner.{Planner}
 use Rattle.room.specs.Room.{roomed}
 use Rattle.carry.specs.declared.Carried.{Carried}
 use Rattle.carry.specs.Carry.{Carries}
+use Rattle.rescue.specs.declared.Answer.{Answer}
+use Rattle.rescue.specs.Rescue.{rescuing, Saves}
 use Rattle.lookup.specs.declared.Found.{Found}
 use Rattle.lookup.specs.Lookup.{spotOf, partOf, foundOf}
 use Rattle.checker.specs.Check.{checkPlan}
@@ -43,7 +45,7 @@ use Rattle.listing.specs.Listing.{listingOf}
 use Rattle.chordvenus.specs.declared.CvAnswer.{CvAnswer}
 use Rattle.chordvenus.specs.declared.CvStep.{CvStep}
 use Rattle.chordvenus.specs.declared.CvPart.{CvPart}
-use Rattle.chordvenus.specs.Flat.{version, flat, flatWish, flatStep, flatPart, Crosses, CarriesFlat}
+use Rattle.chordvenus.specs.Flat.{version, flat, flatWish, flatStep, flatPart, Crosses, CarriesFlat, RescuesFlat}
 
 -- ---- wishes
 
@@ -166,6 +168,9 @@ ShopPlan N cells d buf = Gives (shopped N d cells buf)
 -- tasks::read_tasks(n, tasks)
 abbrev pub ReadTasks : ℕ → List ℕ → Outcome → Type 0
 ReadTasks N tasks r = r ≡ reading N tasks
+-- rescue::rescue_plan(n, cells, damaged, plan, list)
+abbrev pub RescuePlan : ℕ → List ℕ → List ℕ → List ℕ → List ℕ → Answer → List ℕ → List ℕ → Type 0
+RescuePlan N d damaged plan list = Saves (rescuing firstEdition N d damaged plan list)
 
 -- ---- room::exact_room(n, longest), doubled_room(n, longest) and quick_room(n, longest), and those of the second edition
 abbrev pub RoomFor : Edition → Planner → ℕ → ℕ → Outcome → Type 0
@@ -280,3 +285,6 @@ CvShop N cells d buf = Crosses (shopped N d cells buf)
 -- cv_tasks(n, tasks)
 abbrev pub CvTasks : ℕ → List ℕ → CvAnswer → Type 0
 CvTasks N tasks r = r ≡ flat (reading N tasks)
+-- cv_rescue(n, cells, damaged, plan, dropped)
+abbrev pub CvRescue : ℕ → List ℕ → List ℕ → List ℕ → List ℕ → CvAnswer → List ℕ → List ℕ → Type 0
+CvRescue N d damaged plan list = RescuesFlat (rescuing firstEdition N d damaged plan list)

@@ -21,6 +21,7 @@ pub mod Larger
 pub mod Rooms
 pub mod Lookup
 pub mod Carry
+pub mod Rescue
 pub mod SecondReaders
 pub mod Moved
 pub mod Shop
