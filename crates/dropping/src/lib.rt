@@ -136,7 +136,7 @@ fn outputs_reason(outputs: &[u8], n: usize) -> u8
     PAST
 }
 
-// Is each of the first n outputs below n or idle?
+// Has every one of n inputs a port for its output, or none?
 fn in_range(outputs: &[u8], n: usize) -> bool
     requires { ⌜ n ≤ length (now outputs) ⌝ }
     ensures { λ r. ⌜ r ≡ all n (inside n (now (outputs .entry))) ⌝ }
@@ -149,7 +149,7 @@ fn in_range(outputs: &[u8], n: usize) -> bool
     true
 }
 
-// Is an output below n or idle?
+// Is an output a port of n, or idle?
 fn one_in_range(b: u8, n: usize) -> bool
     ensures { λ r. ⌜ r ≡ (ltb b n || eqb b 255) ⌝ }
 {

@@ -83,7 +83,7 @@ restOf N d p = tab (N * N) 0 (λ k. getD d k 0 - grant p (k / N) (k % N))
 abbrev pub added : ℕ → ℕ → List ℕ → List Record → List Record
 added W N d p = exactPlan W N (restOf N d p)
 
--- the kept records, followed by the exact plan of what they leave uncovered
+-- the kept records, then the exact plan of the rest
 unfoldable pub rescued : ℕ → ℕ → ℕ → List ℕ → List ℕ → List Record
 rescued W e N d plan = kept W e N plan ++ added W N d (kept W e N plan)
 
