@@ -247,12 +247,7 @@ pub extern "C" fn cv_grating_doubled(n: usize, cells: &[u32], plan: &mut [u8]) -
 
 // The quiet plan for the grating fabric: no wavelength on more inputs of a setting than the limit.
 #[no_mangle]
-pub extern "C" fn cv_grating_quiet(
-    n: usize,
-    cells: &[u32],
-    limit: u64,
-    plan: &mut [u8],
-) -> CvAnswer
+pub extern "C" fn cv_grating_quiet(n: usize, cells: &[u32], limit: u64, plan: &mut [u8]) -> CvAnswer
     ensures { λ r. ⌜ Crosses (quietPlanned firstEdition n (now (cells .entry)) limit (now (plan .entry))) r (now (plan .exit)) ⌝ }
 {
     flatten(quiet::quiet_plan(n, cells, limit, plan))

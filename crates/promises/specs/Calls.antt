@@ -168,6 +168,7 @@ ShopPlan N cells d buf = Gives (shopped N d cells buf)
 -- tasks::read_tasks(n, tasks)
 abbrev pub ReadTasks : ℕ → List ℕ → Outcome → Type 0
 ReadTasks N tasks r = r ≡ reading N tasks
+
 -- rescue::rescue_plan(n, cells, damaged, plan, list)
 abbrev pub RescuePlan : ℕ → List ℕ → List ℕ → List ℕ → List ℕ → Answer → List ℕ → List ℕ → Type 0
 RescuePlan N d damaged plan list = Saves (rescuing firstEdition N d damaged plan list)
@@ -285,6 +286,7 @@ CvShop N cells d buf = Crosses (shopped N d cells buf)
 -- cv_tasks(n, tasks)
 abbrev pub CvTasks : ℕ → List ℕ → CvAnswer → Type 0
 CvTasks N tasks r = r ≡ flat (reading N tasks)
+
 -- cv_rescue(n, cells, damaged, plan, dropped)
 abbrev pub CvRescue : ℕ → List ℕ → List ℕ → List ℕ → List ℕ → CvAnswer → List ℕ → List ℕ → Type 0
 CvRescue N d damaged plan list = RescuesFlat (rescuing firstEdition N d damaged plan list)
