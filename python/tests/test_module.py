@@ -151,8 +151,9 @@ class Plans(unittest.TestCase):
         self.assertEqual((caught.exception.about, caught.exception.side, caught.exception.place), ("sum", "input", 0))
 
     def test_editions(self):
-        if not lib.has("cv2_exact"):
-            self.skipTest("the library has no cv2_exact yet")
+        for name in ("cv2_wishes", "cv2_exact", "cv2_check", "cv2_length", "cv_to_first"):
+            if not lib.has(name):
+                self.skipTest(f"the library has no {name} yet")
         wide = cv.plan([(0, 99, 3)])
         self.assertEqual((wide.edition, wide.ports, len(wide.data)), (2, 100, 132 * len(wide)))
         self.assertEqual(cv.Plan.from_bytes(wide.data), wide)
