@@ -1,10 +1,11 @@
 //! The second edition's planners on a switch of 65 ports: records of 132 bytes, with the byte 2 behind N.
 
+use chordvenus::owned::Planned;
 use chordvenus::{second, Answer, Refused};
 
 const N: usize = 65;
 
-fn show(name: &str, answer: Answer, plan: &[u8]) -> Result<(), Refused> {
+fn show(name: &str, answer: Answer, plan: &[u8], made: Planned) -> Result<(), Refused> {
     let Answer { records, total, empty, .. } = answer.done()?;
     println!("{name}: records {records} total {total} empty {empty}");
     for record in plan.chunks(second::RECORD_SIZE).take(records as usize) {
@@ -12,6 +13,7 @@ fn show(name: &str, answer: Answer, plan: &[u8]) -> Result<(), Refused> {
         let (first, last) = (record[4], record[4 + 64]);
         println!("hold {hold} N {} byte {} input 0 to {first}, input 64 to {last}", record[2], record[3]);
     }
+    assert_eq!(made.bytes, plan[..records as usize * second::RECORD_SIZE]);
     Ok(())
 }
 
@@ -24,11 +26,11 @@ fn main() -> Result<(), Refused> {
     cells[64 * N + 7] = 1;
     let mut plan = [0; 2 * N * second::RECORD_SIZE];
     let answer = second::exact(N as u64, &cells, &mut plan);
-    show("exact", answer, &plan)?;
+    show("exact", answer, &plan, second::owned::exact(N as u64, &cells)?)?;
     let answer = second::doubled(N as u64, &cells, &mut plan);
-    show("doubled", answer, &plan)?;
+    show("doubled", answer, &plan, second::owned::doubled(N as u64, &cells)?)?;
     let answer = second::doubled_every_rotation(N as u64, &cells, &mut plan);
-    show("every rotation", answer, &plan)?;
+    show("every rotation", answer, &plan, second::owned::doubled_every_rotation(N as u64, &cells)?)?;
     let answer = second::quick(N as u64, &cells, &mut plan);
-    show("quick", answer, &plan)
+    show("quick", answer, &plan, second::owned::quick(N as u64, &cells)?)
 }

@@ -34,7 +34,7 @@ pub fn wishes(n: u64, list: &[u8]) -> Result<Vec<u32>, Refused> {
 
 /// The exact plan, as [`crate::exact`] writes it.
 pub fn exact(n: u64, cells: &[u32]) -> Result<Planned, Refused> {
-    planned(RECORD_SIZE, crate::exact_room(n, longest(n, cells).min(MOST_LINE)), |plan| {
+    planned(RECORD_SIZE, crate::exact_room(n, longest(n, cells_of(n), cells).min(MOST_LINE)), |plan| {
         crate::exact(n, cells, plan)
     })
 }
@@ -51,7 +51,7 @@ pub fn doubled_every_rotation(n: u64, cells: &[u32]) -> Result<Planned, Refused>
 
 /// The quick cover, as [`crate::quick`] writes it.
 pub fn quick(n: u64, cells: &[u32]) -> Result<Planned, Refused> {
-    planned(RECORD_SIZE, crate::quick_room(n, longest(n, cells).min(MOST_QUICK)), |plan| {
+    planned(RECORD_SIZE, crate::quick_room(n, longest(n, cells_of(n), cells).min(MOST_QUICK)), |plan| {
         crate::quick(n, cells, plan)
     })
 }
@@ -148,9 +148,9 @@ fn cells_of(n: u64) -> usize {
     }
 }
 
-/// T of a demand, where the cells are N * N; else 0, and the planner refuses.
-fn longest(n: u64, cells: &[u32]) -> u64 {
-    if cells.is_empty() || cells.len() != cells_of(n) {
+/// T of a demand, where it has as many cells as it should; else 0, and the planner refuses.
+pub(crate) fn longest(n: u64, should: usize, cells: &[u32]) -> u64 {
+    if cells.is_empty() || cells.len() != should {
         return 0;
     }
     let ports = n as usize;

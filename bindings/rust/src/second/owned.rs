@@ -4,14 +4,36 @@ use alloc::vec;
 use alloc::vec::Vec;
 
 use super::RECORD_SIZE;
-use crate::owned::{as_many, planned, Planned};
-use crate::{second, Refused};
+use crate::owned::{as_many, longest, planned, Planned};
+use crate::{second, Refused, MOST_LINE, MOST_QUICK};
 
 /// The cells of a wish list, as [`second::wishes`] writes them.
 pub fn wishes(n: u64, list: &[u8]) -> Result<Vec<u32>, Refused> {
     let mut cells = vec![0; cells_of(n)];
     second::wishes(n, list, &mut cells).done()?;
     Ok(cells)
+}
+
+/// The exact plan, as [`second::exact`] writes it.
+pub fn exact(n: u64, cells: &[u32]) -> Result<Planned, Refused> {
+    let room = second::exact_room(n, longest(n, cells_of(n), cells).min(MOST_LINE));
+    planned(RECORD_SIZE, room, |plan| second::exact(n, cells, plan))
+}
+
+/// The doubled plan, as [`second::doubled`] writes it.
+pub fn doubled(n: u64, cells: &[u32]) -> Result<Planned, Refused> {
+    planned(RECORD_SIZE, second::doubled_room(n, 0), |plan| second::doubled(n, cells, plan))
+}
+
+/// The doubled plan with every rotation, as [`second::doubled_every_rotation`] writes it.
+pub fn doubled_every_rotation(n: u64, cells: &[u32]) -> Result<Planned, Refused> {
+    planned(RECORD_SIZE, second::doubled_room(n, 0), |plan| second::doubled_every_rotation(n, cells, plan))
+}
+
+/// The quick cover, as [`second::quick`] writes it.
+pub fn quick(n: u64, cells: &[u32]) -> Result<Planned, Refused> {
+    let room = second::quick_room(n, longest(n, cells_of(n), cells).min(MOST_QUICK));
+    planned(RECORD_SIZE, room, |plan| second::quick(n, cells, plan))
 }
 
 /// The plan with equal settings joined, as [`second::join`] writes it.
