@@ -44,7 +44,7 @@ module _ (E : Edition) (bounds : Bounded E) (N : ℕ) (plan : List ℕ) (d : ℕ
   abbrev p : List Record
   p = planOf (E .width) plan
 
-  length-measured : Measured E N plan d r
+  pub length-measured : Measured E N plan d r
   unfolding planLength reading
   length-measured = by (checking E N plan) refl
     where
