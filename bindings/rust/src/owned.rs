@@ -115,9 +115,9 @@ pub fn shop(n: u64, cells: &[u32], d: u16) -> Result<Planned, Refused> {
 pub fn rescue(n: u64, cells: &[u32], damaged: &[u8]) -> Result<(Planned, Vec<Entry>), Refused> {
     let records = damaged.len().div_ceil(RECORD_SIZE);
     let mut list = vec![0; records * ENTRY_SIZE];
-    let room = crate::exact_room(n, longest(n, cells).min(MOST_LINE));
+    let room = crate::exact_room(n, longest(n, cells_of(n), cells).min(MOST_LINE));
     let room = Answer { records: room.records + records as u64, ..room };
-    let plan = planned(room, |plan| crate::rescue(n, cells, damaged, plan, &mut list))?;
+    let plan = planned(RECORD_SIZE, room, |plan| crate::rescue(n, cells, damaged, plan, &mut list))?;
     list.truncate(plan.answer.dropped as usize * ENTRY_SIZE);
     Ok((plan, Entry::read(&list).collect()))
 }

@@ -9,7 +9,7 @@ pub const VERSION: usize = 256;
 pub const WISH: usize = 256;
 
 /// Of [`crate::wishes`].
-pub const WISHES: usize = 1_024;
+pub const WISHES: usize = 2_048;
 
 /// Of [`crate::exact`].
 pub const EXACT: usize = 40_960;
@@ -24,13 +24,13 @@ pub const DOUBLED_EVERY_ROTATION: usize = 40_960;
 pub const QUICK: usize = 20_480;
 
 /// Of [`crate::second::exact`].
-pub const SECOND_EXACT: usize = 98_304;
+pub const SECOND_EXACT: usize = 106_496;
 
 /// Of [`crate::second::doubled`].
-pub const SECOND_DOUBLED: usize = 98_304;
+pub const SECOND_DOUBLED: usize = 106_496;
 
 /// Of [`crate::second::doubled_every_rotation`].
-pub const SECOND_DOUBLED_EVERY_ROTATION: usize = 98_304;
+pub const SECOND_DOUBLED_EVERY_ROTATION: usize = 106_496;
 
 /// Of [`crate::second::quick`].
 pub const SECOND_QUICK: usize = 73_728;
@@ -134,6 +134,10 @@ pub const ALL: &[(&str, usize)] = &[
     ("DOUBLED", DOUBLED),
     ("DOUBLED_EVERY_ROTATION", DOUBLED_EVERY_ROTATION),
     ("QUICK", QUICK),
+    ("SECOND_EXACT", SECOND_EXACT),
+    ("SECOND_DOUBLED", SECOND_DOUBLED),
+    ("SECOND_DOUBLED_EVERY_ROTATION", SECOND_DOUBLED_EVERY_ROTATION),
+    ("SECOND_QUICK", SECOND_QUICK),
     ("EXACT_ROOM", EXACT_ROOM),
     ("DOUBLED_ROOM", DOUBLED_ROOM),
     ("QUICK_ROOM", QUICK_ROOM),
