@@ -108,6 +108,8 @@ fn tasks<'a>(demand: &'a Demand) -> Pair<'a> {
     both!(library => {
         let tasks = tasks.clone();
         move || run(library::tasks(n, black_box(&tasks)))
+    })
+}
 
 /// Rescuing a demand's plan, every tenth record of which has lost its hold, with room for all that can come of it.
 fn rescue<'a>(demand: &'a Demand) -> Pair<'a> {
