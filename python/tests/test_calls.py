@@ -11,7 +11,6 @@ from array import array
 from ctypes import c_uint32
 
 import cases
-import more_reference as more
 from cases import FIRST, SECOND, made
 
 import chordvenus as cv
@@ -19,6 +18,7 @@ from chordvenus import _library as lib
 
 CASES = 20_000
 FIELDS = "code place side records longest total length empty added dropped about".split()
+SIDES = {"": 0, "input": 1, "output": 2}
 
 
 def numbers(answer):
@@ -26,8 +26,16 @@ def numbers(answer):
     if isinstance(answer, dict):
         return {name: number for name, number in answer.items() if number}
     given = answer._asdict()
-    given["side"] = more.side(given["side"]) if isinstance(given["side"], str) else given["side"]
+    given["side"] = SIDES.get(given["side"], given["side"])
     return {name: given[name] for name in FIELDS if given.get(name)}
+
+
+def rescued(n, cells, damaged, plan, listed):
+    """A rescue by the reference: all numbers by their names, and both buffers afterwards."""
+    given = FIRST.rescue(n, cells, damaged, plan, listed)
+    answer = dict.fromkeys(FIELDS, 0)
+    answer.update(numbers(given.answer), added=given.added, dropped=given.dropped)
+    return answer, given.plan, given.listed
 
 
 def of_struct(answer):
@@ -437,7 +445,7 @@ class Plans(Compared):
             data = cases.plan(rng, FIRST, n, damaged=0.8)
             if k % 4:
                 room = bytes(FIRST.RECORD * (len(data) // FIRST.RECORD + 20))
-                answer, plan, listed = more.rescue(FIRST, n, cells, data, room, bytes(4 * (len(data) // FIRST.RECORD + 1)))
+                answer, plan, listed = rescued(n, cells, data, room, bytes(4 * (len(data) // FIRST.RECORD + 1)))
                 got, told = tried(cv.rescue, made(n, cells), data)
                 self.same(told, numbers(answer) if answer.get("code") else {}, n, cells, data)
                 if not answer.get("code"):
@@ -449,7 +457,7 @@ class Plans(Compared):
             else:
                 lent, memory = array("I", cells), bytearray([170] * (FIRST.RECORD * rng.randint(0, 9)))
                 listed = bytearray([170] * rng.randint(0, 20))
-                answer, plan, entries = more.rescue(FIRST, n, cells, data, bytes(memory), bytes(listed))
+                answer, plan, entries = rescued(n, cells, data, bytes(memory), bytes(listed))
                 got = lib.call("cv_rescue")(n, lib.lent(lent, c_uint32), len(lent), data, len(data), lib.lent(memory), len(memory), lib.lent(listed), len(listed))
                 self.same((of_struct(got), bytes(memory), bytes(listed)), (numbers(answer), plan, entries), n, cells, data)
             return answer.get("code", 0)
