@@ -11,7 +11,7 @@ ghost use Prim.Native.Nat.{_*_, _-_};
 ghost use lib.ListN.{length};
 ghost use Rattle.switch.specs.Editions.{firstEdition, Bounded};
 ghost use Rattle.demand.specs.Lines.{Sized};
-ghost use Rattle.grants.specs.Grants.{Blank};
+ghost use Rattle.switch.specs.Demand.{Blank};
 ghost use Rattle.carry.specs.Rest.{Renewing, Renewed};
 ghost use Rattle.carry.specs.Carry.{linesOf, afterRecords, faultOf, cellsAfter, Carries};
 

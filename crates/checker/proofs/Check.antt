@@ -8,7 +8,7 @@ use lib.ListN.{length}
 use Rattle.switch.specs.declared.Counts.{Counts}
 use Rattle.switch.specs.declared.Outcome.the-variants.{Done, Refused}
 use Rattle.switch.specs.declared.Refusal.{Refusal}
-use Rattle.switch.specs.Demand.{cell}
+use Rattle.switch.specs.Demand.{cell, Blank}
 use Rattle.switch.specs.Plan.{grant, total}
 use Rattle.demand.specs.declared.Checked.{Checked}
 use Rattle.demand.specs.declared.Checked.the-variants.{Fine, Faulty}
@@ -19,7 +19,7 @@ use Rattle.records.specs.Bytes.{whole, planFrom, planOf}
 use Rattle.plans.specs.Reading.{reading, Passed}
 use Rattle.checker.specs.declared.Meeting.{Meeting}
 use Rattle.checker.specs.Check.{meeting, covering, afterDemand, checkPlan}
-use Rattle.grants.specs.Grants.{Blank, Grants}
+use Rattle.grants.specs.Grants.{Grants}
 use Rattle.plans.proofs.Reading.{reading-whole}
 use Rattle.plans.proofs.Read.{opened-records}
 use Rattle.plans.proofs.Plans.{length-plan}

@@ -6,12 +6,11 @@ use lib.Dec.{ltb}
 use Prim.Native.Nat.{ℕ, zero, suc, _+_, _*_, _-_, _/_, _%_, _<_, _≤_}
 use native.Mathlib.Decide.{decLt}
 use native.Mathlib.Omega.{arith}
-use lib.ListN.{length, getD}
+use lib.ListN.{length}
 use lib.Arith.{digits-div, digits-mod, digits-lt}
 use borrow.Author.Tests.{lt-ltb, le-ltb}
-use Rattle.counting.specs.Sum.{sum}
 use Rattle.counting.specs.Matrix.{row}
-use Rattle.counting.proofs.Sum.{sum-cong, sum-rows}
+use Rattle.counting.proofs.Sum.{sum-cong}
 use Rattle.counting.proofs.Matrix.{row-cong}
 use Rattle.switch.specs.declared.Outcome.{Outcome}
 use Rattle.switch.specs.declared.Outcome.the-variants.{Done, Refused}
@@ -69,11 +68,6 @@ meeting-cong N M G H e = λ i. cond (ltb (uncovered-cong N M G H e i) (N * N)) (
     more = unfold beyond in
         sum-cong N (row N (λ i j. G i j - M i j)) (row N (λ i j. H i j - M i j))
         (row-cong N (λ i j. G i j - M i j) (λ i j. H i j - M i j) (λ i j li lj. ap (λ (x : ℕ). x - M i j) (e i j li lj)))
-
--- over all cells, granted less asked: one pass over the two lists
-pub beyond-cells : (N : ℕ) (d g : List ℕ) → sum (N * N) (λ k. getD g k 0 - getD d k 0) ≡ beyond N (cell N d) (cell N g)
-unfolding beyond row cell
-beyond-cells N d g = sum-rows N N (λ k. getD g k 0 - getD d k 0)
 
 -- ---- what the scan finds
 

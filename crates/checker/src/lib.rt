@@ -10,10 +10,9 @@ use switch::Refusal;
 ghost use mathlib.Core.Path.{_≡_};
 ghost use Prim.Native.Nat.{_*_, _≤_};
 ghost use lib.ListN.{length};
-ghost use Rattle.switch.specs.Demand.{cell};
+ghost use Rattle.switch.specs.Demand.{cell, Blank};
 ghost use Rattle.switch.specs.Editions.{firstEdition, secondEdition, Bounded};
 ghost use Rattle.plans.specs.Reading.{reading};
-ghost use Rattle.grants.specs.Grants.{Blank};
 ghost use Rattle.checker.specs.Check.{meeting, covering, checkPlan};
 
 // The pairs of a switch of 64 ports.

@@ -1,10 +1,10 @@
 // The edge: every public call as a C function, for callers that are not written in Rattle. Each function calls one public function and
-// flattens its answer to the numbers of §9; include/chordvenus.h says what each call does. No thinking stands here: what a
+// has its answer flattened to numbers (crate `answers`); include/chordvenus.h says what each call does. No thinking stands here: what a
 // call promises is its own crate's matter, and every field of an answer is given by that promise.
-use carry::Carried;
-use plans::Step;
-use switch::About;
-use switch::Outcome;
+use answers::Cv2Step;
+use answers::CvAnswer;
+use answers::CvPart;
+use answers::CvStep;
 ghost use mathlib.Core.Path.{_≡_};
 ghost use Rattle.wish.specs.Wish.{wishBits};
 ghost use Rattle.wishes.specs.Wishes.{wishing};
@@ -14,7 +14,7 @@ ghost use Rattle.rules.specs.Quick.{quickPlan};
 ghost use Rattle.planner.specs.Planned.{planned, plannedUpTo};
 ghost use Rattle.records.specs.Write.{written};
 ghost use Rattle.switch.specs.Editions.{firstEdition, secondEdition};
-ghost use Rattle.plans.specs.Read.{opening, stepAt, stepPlace};
+ghost use Rattle.plans.specs.Read.{opening, stepAt};
 ghost use Rattle.checker.specs.Check.{checkPlan};
 ghost use Rattle.length.specs.Length.{planLength};
 ghost use Rattle.joining.specs.Join.{joining};
@@ -28,56 +28,11 @@ ghost use Rattle.room.specs.Room.{roomed};
 ghost use Rattle.lookup.specs.Lookup.{spotOf, foundOf};
 ghost use Rattle.shop.specs.Shopped.{shopped};
 ghost use Rattle.tasks.specs.Read.{reading};
-ghost use Rattle.chordvenus.specs.Flat.{version, flat, flatAbout, kindOf, flatStep, flatWish, flatPart, flatCarried, Crosses, CarriesFlat, flatWide, flatRescue, RescuesFlat};
+ghost use Rattle.answers.specs.Flat.{version, flat, flatStep, flatWish, flatPart, Crosses, CarriesFlat, flatWide, RescuesFlat};
 ghost use Rattle.rescue.specs.Rescue.{rescuing};
 
 // The version of the structs and functions below. A struct that is returned by value cannot grow: whoever adds a field makes it one more.
 const VERSION: u64 = 1;
-
-// What every call answers; what does not apply is 0.
-#[repr(C)]
-pub struct CvAnswer {
-    pub code: u64,
-    pub place: u64,
-    pub side: u64,
-    pub records: u64,
-    pub longest: u64,
-    pub total: u64,
-    pub length: u64,
-    pub empty: u64,
-    // How many records a rescue added and dropped.
-    pub added: u64,
-    pub dropped: u64,
-    // What a refusal is about, where a call reads more than one plan or demand.
-    pub about: u64,
-}
-
-// One step of reading a plan: kind 0 is a record, 1 the end, 2 code 11.
-#[repr(C)]
-pub struct CvStep {
-    pub kind: u64,
-    pub place: u64,
-    pub hold: u64,
-    pub outputs: [u8; 64],
-}
-
-// The same in the second edition.
-#[repr(C)]
-pub struct Cv2Step {
-    pub kind: u64,
-    pub place: u64,
-    pub hold: u64,
-    pub outputs: [u8; 128],
-}
-
-// Where the record in force stands: bytes start .. start + size of plan 1, tonight's, or 2, standby's; all 0 where the lookup is refused.
-#[repr(C)]
-pub struct CvPart {
-    pub answer: CvAnswer,
-    pub plan: u64,
-    pub start: u64,
-    pub size: u64,
-}
 
 // The version of the archive, for a caller to hold against its header's.
 #[no_mangle]
@@ -101,20 +56,7 @@ pub extern "C" fn cv_interface_1() -> u64
 pub extern "C" fn cv_wish(bits: u32) -> CvAnswer
     ensures { λ r. ⌜ r ≡ flatWish (wishBits bits) ⌝ }
 {
-    let asked = wish::of_bits(bits);
-    CvAnswer {
-        code: wish::code_of(asked) as u64,
-        place: 0,
-        side: 0,
-        records: 0,
-        longest: 0,
-        total: wish::slots_of(asked) as u64,
-        length: 0,
-        empty: 0,
-        added: 0,
-        dropped: 0,
-        about: 0,
-    }
+    answers::flatten_wish(wish::of_bits(bits))
 }
 
 // A wish list to a demand.
@@ -122,7 +64,7 @@ pub extern "C" fn cv_wish(bits: u32) -> CvAnswer
 pub extern "C" fn cv_wishes(n: usize, list: &[u8], cells: &mut [u32]) -> CvAnswer
     ensures { λ r. ⌜ Crosses (wishing firstEdition n (now (list .entry)) (now (cells .entry))) r (now (cells .exit)) ⌝ }
 {
-    flatten(wishes::wishes(n, list, cells))
+    answers::flatten(wishes::wishes(n, list, cells))
 }
 
 // The exact plan.
@@ -130,7 +72,7 @@ pub extern "C" fn cv_wishes(n: usize, list: &[u8], cells: &mut [u32]) -> CvAnswe
 pub extern "C" fn cv_exact(n: usize, cells: &[u32], plan: &mut [u8]) -> CvAnswer
     ensures { λ r. ⌜ Crosses (planned firstEdition n (now (cells .entry)) (exactPlan 64 n (now (cells .entry))) (now (plan .entry))) r (now (plan .exit)) ⌝ }
 {
-    flatten(exact::exact_plan(n, cells, plan))
+    answers::flatten(exact::exact_plan(n, cells, plan))
 }
 
 // The doubled plan.
@@ -138,7 +80,7 @@ pub extern "C" fn cv_exact(n: usize, cells: &[u32], plan: &mut [u8]) -> CvAnswer
 pub extern "C" fn cv_doubled(n: usize, cells: &[u32], plan: &mut [u8]) -> CvAnswer
     ensures { λ r. ⌜ Crosses (planned firstEdition n (now (cells .entry)) (tightPlan 64 n (now (cells .entry))) (now (plan .entry))) r (now (plan .exit)) ⌝ }
 {
-    flatten(doubled::doubled_plan(n, cells, plan))
+    answers::flatten(doubled::doubled_plan(n, cells, plan))
 }
 
 // The doubled plan by the rule of every rotation.
@@ -146,7 +88,7 @@ pub extern "C" fn cv_doubled(n: usize, cells: &[u32], plan: &mut [u8]) -> CvAnsw
 pub extern "C" fn cv_doubled_every_rotation(n: usize, cells: &[u32], plan: &mut [u8]) -> CvAnswer
     ensures { λ r. ⌜ Crosses (planned firstEdition n (now (cells .entry)) (doubledPlan 64 n (now (cells .entry))) (now (plan .entry))) r (now (plan .exit)) ⌝ }
 {
-    flatten(doubled::doubled_plan_every_rotation(n, cells, plan))
+    answers::flatten(doubled::doubled_plan_every_rotation(n, cells, plan))
 }
 
 // The quick cover.
@@ -154,7 +96,7 @@ pub extern "C" fn cv_doubled_every_rotation(n: usize, cells: &[u32], plan: &mut 
 pub extern "C" fn cv_quick(n: usize, cells: &[u32], plan: &mut [u8]) -> CvAnswer
     ensures { λ r. ⌜ Crosses (plannedUpTo 1024 firstEdition n (now (cells .entry)) (quickPlan 64 n (now (cells .entry))) (now (plan .entry))) r (now (plan .exit)) ⌝ }
 {
-    flatten(quick::quick_plan(n, cells, plan))
+    answers::flatten(quick::quick_plan(n, cells, plan))
 }
 
 // The records that always suffice for the exact plan, from N and T alone.
@@ -162,7 +104,7 @@ pub extern "C" fn cv_quick(n: usize, cells: &[u32], plan: &mut [u8]) -> CvAnswer
 pub extern "C" fn cv_exact_room(n: usize, longest: u64) -> CvAnswer
     ensures { λ r. ⌜ r ≡ flat (roomed firstEdition Exact n longest) ⌝ }
 {
-    flatten(room::exact_room(n, longest))
+    answers::flatten(room::exact_room(n, longest))
 }
 
 // For the doubled plan, by either rule.
@@ -170,7 +112,7 @@ pub extern "C" fn cv_exact_room(n: usize, longest: u64) -> CvAnswer
 pub extern "C" fn cv_doubled_room(n: usize, longest: u64) -> CvAnswer
     ensures { λ r. ⌜ r ≡ flat (roomed firstEdition Doubled n longest) ⌝ }
 {
-    flatten(room::doubled_room(n, longest))
+    answers::flatten(room::doubled_room(n, longest))
 }
 
 // For the quick cover.
@@ -178,7 +120,7 @@ pub extern "C" fn cv_doubled_room(n: usize, longest: u64) -> CvAnswer
 pub extern "C" fn cv_quick_room(n: usize, longest: u64) -> CvAnswer
     ensures { λ r. ⌜ r ≡ flat (roomed firstEdition Quick n longest) ⌝ }
 {
-    flatten(room::quick_room(n, longest))
+    answers::flatten(room::quick_room(n, longest))
 }
 
 // The same for switches of up to 128 ports: the exact plan.
@@ -186,7 +128,7 @@ pub extern "C" fn cv_quick_room(n: usize, longest: u64) -> CvAnswer
 pub extern "C" fn cv2_exact_room(n: usize, longest: u64) -> CvAnswer
     ensures { λ r. ⌜ r ≡ flat (roomed secondEdition Exact n longest) ⌝ }
 {
-    flatten(room::exact_room_second(n, longest))
+    answers::flatten(room::exact_room_second(n, longest))
 }
 
 // The doubled plan.
@@ -194,7 +136,7 @@ pub extern "C" fn cv2_exact_room(n: usize, longest: u64) -> CvAnswer
 pub extern "C" fn cv2_doubled_room(n: usize, longest: u64) -> CvAnswer
     ensures { λ r. ⌜ r ≡ flat (roomed secondEdition Doubled n longest) ⌝ }
 {
-    flatten(room::doubled_room_second(n, longest))
+    answers::flatten(room::doubled_room_second(n, longest))
 }
 
 // The quick cover.
@@ -202,7 +144,7 @@ pub extern "C" fn cv2_doubled_room(n: usize, longest: u64) -> CvAnswer
 pub extern "C" fn cv2_quick_room(n: usize, longest: u64) -> CvAnswer
     ensures { λ r. ⌜ r ≡ flat (roomed secondEdition Quick n longest) ⌝ }
 {
-    flatten(room::quick_room_second(n, longest))
+    answers::flatten(room::quick_room_second(n, longest))
 }
 
 // The planners for switches of up to 128 ports: the exact plan.
@@ -210,7 +152,7 @@ pub extern "C" fn cv2_quick_room(n: usize, longest: u64) -> CvAnswer
 pub extern "C" fn cv2_exact(n: usize, cells: &[u32], plan: &mut [u8]) -> CvAnswer
     ensures { λ r. ⌜ Crosses (planned secondEdition n (now (cells .entry)) (exactPlan 128 n (now (cells .entry))) (now (plan .entry))) r (now (plan .exit)) ⌝ }
 {
-    flatten(exact::exact_plan_second(n, cells, plan))
+    answers::flatten(exact::exact_plan_second(n, cells, plan))
 }
 
 // The doubled plan.
@@ -218,7 +160,7 @@ pub extern "C" fn cv2_exact(n: usize, cells: &[u32], plan: &mut [u8]) -> CvAnswe
 pub extern "C" fn cv2_doubled(n: usize, cells: &[u32], plan: &mut [u8]) -> CvAnswer
     ensures { λ r. ⌜ Crosses (planned secondEdition n (now (cells .entry)) (tightPlan 128 n (now (cells .entry))) (now (plan .entry))) r (now (plan .exit)) ⌝ }
 {
-    flatten(doubled::doubled_plan_second(n, cells, plan))
+    answers::flatten(doubled::doubled_plan_second(n, cells, plan))
 }
 
 // The doubled plan by the rule of every rotation.
@@ -226,7 +168,7 @@ pub extern "C" fn cv2_doubled(n: usize, cells: &[u32], plan: &mut [u8]) -> CvAns
 pub extern "C" fn cv2_doubled_every_rotation(n: usize, cells: &[u32], plan: &mut [u8]) -> CvAnswer
     ensures { λ r. ⌜ Crosses (planned secondEdition n (now (cells .entry)) (doubledPlan 128 n (now (cells .entry))) (now (plan .entry))) r (now (plan .exit)) ⌝ }
 {
-    flatten(doubled::doubled_plan_every_rotation_second(n, cells, plan))
+    answers::flatten(doubled::doubled_plan_every_rotation_second(n, cells, plan))
 }
 
 // The quick cover.
@@ -234,7 +176,7 @@ pub extern "C" fn cv2_doubled_every_rotation(n: usize, cells: &[u32], plan: &mut
 pub extern "C" fn cv2_quick(n: usize, cells: &[u32], plan: &mut [u8]) -> CvAnswer
     ensures { λ r. ⌜ Crosses (plannedUpTo 1024 secondEdition n (now (cells .entry)) (quickPlan 128 n (now (cells .entry))) (now (plan .entry))) r (now (plan .exit)) ⌝ }
 {
-    flatten(quick::quick_plan_second(n, cells, plan))
+    answers::flatten(quick::quick_plan_second(n, cells, plan))
 }
 
 // The doubled plan for the grating fabric.
@@ -242,7 +184,7 @@ pub extern "C" fn cv2_quick(n: usize, cells: &[u32], plan: &mut [u8]) -> CvAnswe
 pub extern "C" fn cv_grating_doubled(n: usize, cells: &[u32], plan: &mut [u8]) -> CvAnswer
     ensures { λ r. ⌜ Crosses (gratingPlanned firstEdition n (now (cells .entry)) (now (plan .entry))) r (now (plan .exit)) ⌝ }
 {
-    flatten(grating::grating_doubled(n, cells, plan))
+    answers::flatten(grating::grating_doubled(n, cells, plan))
 }
 
 // The quiet plan for the grating fabric: no wavelength on more inputs of a setting than the limit.
@@ -250,7 +192,7 @@ pub extern "C" fn cv_grating_doubled(n: usize, cells: &[u32], plan: &mut [u8]) -
 pub extern "C" fn cv_grating_quiet(n: usize, cells: &[u32], limit: u64, plan: &mut [u8]) -> CvAnswer
     ensures { λ r. ⌜ Crosses (quietPlanned firstEdition n (now (cells .entry)) limit (now (plan .entry))) r (now (plan .exit)) ⌝ }
 {
-    flatten(quiet::quiet_plan(n, cells, limit, plan))
+    answers::flatten(quiet::quiet_plan(n, cells, limit, plan))
 }
 
 // The least total that a plan within the limit can have.
@@ -258,7 +200,7 @@ pub extern "C" fn cv_grating_quiet(n: usize, cells: &[u32], limit: u64, plan: &m
 pub extern "C" fn cv_grating_least(n: usize, cells: &[u32], limit: u64) -> CvAnswer
     ensures { λ r. ⌜ r ≡ flat (leastOf firstEdition n (now (cells .entry)) limit) ⌝ }
 {
-    flatten(least::least_within(n, cells, limit))
+    answers::flatten(least::least_within(n, cells, limit))
 }
 
 // What the records of a plan do on the grating fabric.
@@ -266,7 +208,7 @@ pub extern "C" fn cv_grating_least(n: usize, cells: &[u32], limit: u64) -> CvAns
 pub extern "C" fn cv_grating_report(n: usize, plan: &[u8], report: &mut [u8]) -> CvAnswer
     ensures { λ r. ⌜ Crosses (reported firstEdition n (now (plan .entry)) (now (report .entry))) r (now (report .exit)) ⌝ }
 {
-    flatten(wavelengths::grating_report(n, plan, report))
+    answers::flatten(wavelengths::grating_report(n, plan, report))
 }
 
 // A plan from anywhere against a demand.
@@ -274,7 +216,7 @@ pub extern "C" fn cv_grating_report(n: usize, plan: &[u8], report: &mut [u8]) ->
 pub extern "C" fn cv_check(n: usize, cells: &[u32], plan: &[u8]) -> CvAnswer
     ensures { λ r. ⌜ r ≡ flat (checkPlan firstEdition n (now (cells .entry)) (now (plan .entry))) ⌝ }
 {
-    flatten(checker::check_plan(n, cells, plan))
+    answers::flatten(checker::check_plan(n, cells, plan))
 }
 
 // The length of a plan where switching takes d slots.
@@ -282,7 +224,7 @@ pub extern "C" fn cv_check(n: usize, cells: &[u32], plan: &[u8]) -> CvAnswer
 pub extern "C" fn cv_length(n: usize, plan: &[u8], d: u16) -> CvAnswer
     ensures { λ r. ⌜ r ≡ flat (planLength firstEdition d n (now (plan .entry))) ⌝ }
 {
-    flatten(length::plan_length(n, plan, d))
+    answers::flatten(length::plan_length(n, plan, d))
 }
 
 // A plan with its equal settings joined, into a second buffer.
@@ -290,7 +232,7 @@ pub extern "C" fn cv_length(n: usize, plan: &[u8], d: u16) -> CvAnswer
 pub extern "C" fn cv_join(n: usize, plan: &[u8], joined: &mut [u8]) -> CvAnswer
     ensures { λ r. ⌜ Crosses (joining firstEdition n (now (plan .entry)) (now (joined .entry))) r (now (joined .exit)) ⌝ }
 {
-    flatten(joining::join_plan(n, plan, joined))
+    answers::flatten(joining::join_plan(n, plan, joined))
 }
 
 // One record written at the start of a lent buffer.
@@ -298,7 +240,7 @@ pub extern "C" fn cv_join(n: usize, plan: &[u8], joined: &mut [u8]) -> CvAnswer
 pub extern "C" fn cv_write(hold: u16, n: usize, outputs: &[u8; 64], plan: &mut [u8]) -> CvAnswer
     ensures { λ r. ⌜ Crosses (written firstEdition hold n (now (outputs .entry)) (now (plan .entry))) r (now (plan .exit)) ⌝ }
 {
-    flatten(records::write_record(hold, n, outputs, plan))
+    answers::flatten(records::write_record(hold, n, outputs, plan))
 }
 
 // A plan opened for n.
@@ -306,7 +248,7 @@ pub extern "C" fn cv_write(hold: u16, n: usize, outputs: &[u8; 64], plan: &mut [
 pub extern "C" fn cv_open(n: usize, plan: &[u8]) -> CvAnswer
     ensures { λ r. ⌜ r ≡ flat (opening firstEdition n (now (plan .entry))) ⌝ }
 {
-    flatten(plans::open_plan(n, plan))
+    answers::flatten(plans::open_plan(n, plan))
 }
 
 // The step at record `at` of a plan opened for n.
@@ -318,8 +260,8 @@ pub extern "C" fn cv_step_at(n: usize, plan: &[u8], at: usize) -> CvStep
     let outputs = stepped.outputs;
     let step = stepped.step;
     CvStep {
-        kind: kind_of(step),
-        place: place_of(step),
+        kind: answers::kind_of(step),
+        place: answers::place_of(step),
         hold: stepped.hold as u64,
         outputs,
     }
@@ -334,7 +276,7 @@ pub extern "C" fn cv_in_force(n: usize, tonight: &[u8], standby: &[u8], slot: u6
     let outcome = found.outcome;
     let about = found.about;
     CvPart {
-        answer: flatten_about(outcome, about),
+        answer: answers::flatten_about(outcome, about),
         plan: found.plan,
         start: found.start as u64,
         size: found.size as u64,
@@ -353,7 +295,7 @@ pub extern "C" fn cv_carry_over(
 ) -> CvAnswer
     ensures { λ r. ⌜ CarriesFlat firstEdition n (now (asked .entry)) (now (plan .entry)) first (now (wished .entry)) (now (cells .entry)) r (now (cells .exit)) ⌝ }
 {
-    flatten_carried(carry::carry_over(n, asked, plan, first, wished, cells))
+    answers::flatten_carried(carry::carry_over(n, asked, plan, first, wished, cells))
 }
 
 // The open-shop plan of a demand where switching takes d.
@@ -361,7 +303,7 @@ pub extern "C" fn cv_carry_over(
 pub extern "C" fn cv_shop(n: usize, cells: &[u32], d: u16, tasks: &mut [u8]) -> CvAnswer
     ensures { λ r. ⌜ Crosses (shopped n d (now (cells .entry)) (now (tasks .entry))) r (now (tasks .exit)) ⌝ }
 {
-    flatten(shop::shop_plan(n, cells, d, tasks))
+    answers::flatten(shop::shop_plan(n, cells, d, tasks))
 }
 
 // A schedule of tasks, read.
@@ -369,7 +311,7 @@ pub extern "C" fn cv_shop(n: usize, cells: &[u32], d: u16, tasks: &mut [u8]) -> 
 pub extern "C" fn cv_tasks(n: usize, tasks: &[u8]) -> CvAnswer
     ensures { λ r. ⌜ r ≡ flat (reading n (now (tasks .entry))) ⌝ }
 {
-    flatten(tasks::read_tasks(n, tasks))
+    answers::flatten(tasks::read_tasks(n, tasks))
 }
 
 // The second edition's calls, for switches of up to 128 ports: a wish list to a demand.
@@ -377,7 +319,7 @@ pub extern "C" fn cv_tasks(n: usize, tasks: &[u8]) -> CvAnswer
 pub extern "C" fn cv2_wishes(n: usize, list: &[u8], cells: &mut [u32]) -> CvAnswer
     ensures { λ r. ⌜ Crosses (wishing secondEdition n (now (list .entry)) (now (cells .entry))) r (now (cells .exit)) ⌝ }
 {
-    flatten(wishes::wishes_second(n, list, cells))
+    answers::flatten(wishes::wishes_second(n, list, cells))
 }
 
 // A plan from anywhere against a demand.
@@ -385,7 +327,7 @@ pub extern "C" fn cv2_wishes(n: usize, list: &[u8], cells: &mut [u32]) -> CvAnsw
 pub extern "C" fn cv2_check(n: usize, cells: &[u32], plan: &[u8]) -> CvAnswer
     ensures { λ r. ⌜ r ≡ flat (checkPlan secondEdition n (now (cells .entry)) (now (plan .entry))) ⌝ }
 {
-    flatten(checker::check_plan_second(n, cells, plan))
+    answers::flatten(checker::check_plan_second(n, cells, plan))
 }
 
 // The length of a plan where switching takes d slots.
@@ -393,7 +335,7 @@ pub extern "C" fn cv2_check(n: usize, cells: &[u32], plan: &[u8]) -> CvAnswer
 pub extern "C" fn cv2_length(n: usize, plan: &[u8], d: u16) -> CvAnswer
     ensures { λ r. ⌜ r ≡ flat (planLength secondEdition d n (now (plan .entry))) ⌝ }
 {
-    flatten(length::plan_length_second(n, plan, d))
+    answers::flatten(length::plan_length_second(n, plan, d))
 }
 
 // A plan with its equal settings joined, into a second buffer.
@@ -401,7 +343,7 @@ pub extern "C" fn cv2_length(n: usize, plan: &[u8], d: u16) -> CvAnswer
 pub extern "C" fn cv2_join(n: usize, plan: &[u8], joined: &mut [u8]) -> CvAnswer
     ensures { λ r. ⌜ Crosses (joining secondEdition n (now (plan .entry)) (now (joined .entry))) r (now (joined .exit)) ⌝ }
 {
-    flatten(joining::join_plan_second(n, plan, joined))
+    answers::flatten(joining::join_plan_second(n, plan, joined))
 }
 
 // One record written at the start of a lent buffer.
@@ -409,7 +351,7 @@ pub extern "C" fn cv2_join(n: usize, plan: &[u8], joined: &mut [u8]) -> CvAnswer
 pub extern "C" fn cv2_write(hold: u16, n: usize, outputs: &[u8; 128], plan: &mut [u8]) -> CvAnswer
     ensures { λ r. ⌜ Crosses (written secondEdition hold n (now (outputs .entry)) (now (plan .entry))) r (now (plan .exit)) ⌝ }
 {
-    flatten(records::write_record_second(hold, n, outputs, plan))
+    answers::flatten(records::write_record_second(hold, n, outputs, plan))
 }
 
 // A plan opened for n.
@@ -417,7 +359,7 @@ pub extern "C" fn cv2_write(hold: u16, n: usize, outputs: &[u8; 128], plan: &mut
 pub extern "C" fn cv2_open(n: usize, plan: &[u8]) -> CvAnswer
     ensures { λ r. ⌜ r ≡ flat (opening secondEdition n (now (plan .entry))) ⌝ }
 {
-    flatten(plans::open_second(n, plan))
+    answers::flatten(plans::open_second(n, plan))
 }
 
 // The step at record `at` of a plan opened for n.
@@ -429,8 +371,8 @@ pub extern "C" fn cv2_step_at(n: usize, plan: &[u8], at: usize) -> Cv2Step
     let outputs = stepped.outputs;
     let step = stepped.step;
     Cv2Step {
-        kind: kind_of(step),
-        place: place_of(step),
+        kind: answers::kind_of(step),
+        place: answers::place_of(step),
         hold: stepped.hold as u64,
         outputs,
     }
@@ -441,7 +383,7 @@ pub extern "C" fn cv2_step_at(n: usize, plan: &[u8], at: usize) -> Cv2Step
 pub extern "C" fn cv_to_second(n: usize, plan: &[u8], moved: &mut [u8]) -> CvAnswer
     ensures { λ r. ⌜ Crosses (moving firstEdition secondEdition n (now (plan .entry)) (now (moved .entry))) r (now (moved .exit)) ⌝ }
 {
-    flatten(moving::to_second(n, plan, moved))
+    answers::flatten(moving::to_second(n, plan, moved))
 }
 
 // A plan of the second edition as one of the first.
@@ -449,7 +391,7 @@ pub extern "C" fn cv_to_second(n: usize, plan: &[u8], moved: &mut [u8]) -> CvAns
 pub extern "C" fn cv_to_first(n: usize, plan: &[u8], moved: &mut [u8]) -> CvAnswer
     ensures { λ r. ⌜ Crosses (moving movable firstEdition n (now (plan .entry)) (now (moved .entry))) r (now (moved .exit)) ⌝ }
 {
-    flatten(moving::to_first(n, plan, moved))
+    answers::flatten(moving::to_first(n, plan, moved))
 }
 
 // A damaged plan rescued, and the list of what was dropped.
@@ -463,76 +405,5 @@ pub extern "C" fn cv_rescue(
 ) -> CvAnswer
     ensures { λ r. ⌜ RescuesFlat (rescuing firstEdition n (now (cells .entry)) (now (damaged .entry)) (now (plan .entry)) (now (dropped .entry))) r (now (plan .exit)) (now (dropped .exit)) ⌝ }
 {
-    flatten_rescue(rescue::rescue_plan(n, cells, damaged, plan, dropped))
-}
-
-// A step's kind.
-fn kind_of(step: Step) -> u64
-    ensures { λ r. ⌜ r ≡ kindOf step ⌝ }
-{
-    match step {
-        Step::Record => 0,
-        Step::End => 1,
-        Step::Malformed(_) => 2,
-    }
-}
-
-// The record that a step finds damaged, 0 where it finds none.
-fn place_of(step: Step) -> u64
-    ensures { λ r. ⌜ r ≡ stepPlace step ⌝ }
-{
-    match step {
-        Step::Record => 0,
-        Step::End => 0,
-        Step::Malformed(k) => k as u64,
-    }
-}
-
-// An outcome in numbers, where there is one plan or demand to be about.
-fn flatten(o: Outcome) -> CvAnswer
-    ensures { λ r. ⌜ r ≡ flat o ⌝ }
-{
-    flatten_about(o, About::Nothing)
-}
-
-// A carry-over's answer in numbers; nothing is counted.
-fn flatten_carried(c: Carried) -> CvAnswer
-    ensures { λ r. ⌜ r ≡ flatCarried c ⌝ }
-{
-    match c {
-        Carried::Done => flatten(Outcome::Done(plans::counted(0, 0, 0))),
-        Carried::Refused(about, r) => flatten_about(Outcome::Refused(r), about),
-    }
-}
-
-// A rescue's answer in numbers.
-fn flatten_rescue(a: rescue::Answer) -> CvAnswer
-    ensures { λ r. ⌜ r ≡ flatRescue a ⌝ }
-{
-    let outcome = a.outcome;
-    let mut told = flatten(outcome);
-    told.added = a.added as u64;
-    told.dropped = a.dropped as u64;
-    told
-}
-
-// An outcome in numbers, and what it is about.
-fn flatten_about(o: Outcome, about: About) -> CvAnswer
-    ensures { λ r. ⌜ r ≡ flatAbout o about ⌝ }
-{
-    let told = switch::numbers_of(o);
-    let counts = told.counts;
-    CvAnswer {
-        code: told.code,
-        place: told.place as u64,
-        side: told.side,
-        records: counts.records as u64,
-        longest: counts.longest,
-        total: counts.total,
-        length: counts.length,
-        empty: counts.empty,
-        added: 0,
-        dropped: 0,
-        about: switch::about_number(about),
-    }
+    answers::flatten_rescue(rescue::rescue_plan(n, cells, damaged, plan, dropped))
 }

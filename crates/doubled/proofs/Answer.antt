@@ -7,7 +7,6 @@ use lib.ListN.{length, getD}
 use Rattle.switch.specs.declared.Refusal.the-variants.{Room}
 use Rattle.switch.specs.declared.Outcome.the-variants.{Done, Refused}
 use Rattle.switch.specs.declared.Edition.{Edition}
-use Rattle.switch.specs.Editions.{Bounded}
 use Rattle.switch.specs.Answer.{planCounts, demandCounts}
 use Rattle.switch.specs.Demand.{cell, longest}
 use Rattle.switch.specs.Plan.{Record, grant, total}

@@ -75,12 +75,12 @@ fn lay_or_refuse(
     requires { ⌜ (checkDemand (e .ports) n (now cells) ≡ Fine longest) × Bounded e × (n * n ≤ length (now work)) ⌝ }
     ensures { λ r. ⌜ Gives (planned e n (now (cells .entry)) (exactPlan (e .width) n (now (cells .entry))) (now (plan .entry))) r (now (plan .exit)) ⌝ }
 {
-    work::copy(cells, work);
+    board::copy(cells, work);
     let need = short_of(work, n, longest, plan.len() / (e.width + HEAD));
     if need != 0 {
         return Outcome::Refused(Refusal::Room(need));
     }
-    work::copy(cells, work);
+    board::copy(cells, work);
     let records = lay(e, work, n, longest, 1, plan, 0);
     Outcome::Done(Counts {
         records: records,

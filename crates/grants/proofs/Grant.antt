@@ -2,22 +2,21 @@
 use mathlib.Core.Path.{_≡_, sym, ap, _∙_}
 use mathlib.Core.List.{List, [], _∷_, _++_}
 use mathlib.Core.Logic.{dite}
-use Prim.Native.Nat.{ℕ, zero, suc, _+_, _*_, _/_, _%_, _<_, _≤_}
-use native.Mathlib.Decide.{ℕ-discrete, decLt}
+use Prim.Native.Nat.{ℕ, _+_, _*_, _/_, _%_, _<_, _≤_}
+use native.Mathlib.Decide.{ℕ-discrete}
 use native.Mathlib.Nat.{mul-le-mul-left, div-add-mod'}
 use native.Mathlib.Omega.{arith}
-use lib.ListN.{length, getD, set, length-set, replicate, length-replicate, getD-replicate, List·getD-eq-default}
-use lib.Seq.{getD-drop}
+use lib.ListN.{length, getD, set, length-set}
 use lib.Arith.{digits-lt}
 use Rattle.counting.specs.Count.{δ}
 use Rattle.counting.proofs.Count.{δ-same, δ-other, δ-le}
 use Rattle.counting.proofs.Matrix.{Raised}
-use Rattle.switch.specs.Demand.{cell}
+use Rattle.switch.specs.Demand.{cell, Blank}
 use Rattle.switch.specs.Plan.{Record, output, grant, total}
 use Rattle.switch.proofs.Demand.{set-raised}
 use Rattle.records.specs.Record.{hold, decoded}
 use Rattle.records.specs.Bytes.{recordAt, planFrom}
-use Rattle.grants.specs.Grants.{Blank, Grants, Granting, Granted}
+use Rattle.grants.specs.Grants.{Grants, Granting, Granted}
 use Rattle.plans.proofs.Plans.{plan-next}
 use Rattle.switch.proofs.Append.{grant-append}
 
@@ -34,23 +33,6 @@ grant-le-total (r ∷ p) i j = omega (arith, mul-le-mul-left (r .hold) (δ-le (o
 pub cell-index : (N : ℕ) (d : List ℕ) (k : ℕ) → cell N d (k / N) (k % N) ≡ getD d k 0
 unfolding cell
 cell-index N d k = ap (λ (i : ℕ). getD d i 0) (div-add-mod' k N)
-
--- past its end only is a list what it is said to be there
-getD-inside : (l : List ℕ) (i a b : ℕ) → i < length l → getD l i a ≡ getD l i b
-getD-inside [] i a b l = absurd (omega arith)
-getD-inside (x ∷ xs) zero a b l = λ _. x
-getD-inside (x ∷ xs) (suc i) a b l = getD-inside xs i a b (omega arith)
-
--- the output of input i stands i bytes behind the head of four
-pub output-byte : (b : List ℕ) (i : ℕ) → i + 4 < length b → output (decoded b) i ≡ getD b (4 + i) 0
-unfolding output
-output-byte b i l = getD-drop 4 b i 255 ∙ getD-inside b (4 + i) 255 0 (omega arith)
-
-pub blank-zeros : (m : ℕ) → Blank m (replicate m 0)
-blank-zeros m = record {
-  room = omega (arith, length-replicate {A = ℕ} m 0);
-  clear = λ k. dite (decLt k m) (getD-replicate m k 0 0) (λ g. List·getD-eq-default (replicate m 0) 0 (omega (arith, g, length-replicate {A = ℕ} m 0)));
-}
 
 -- ---- one record
 

@@ -2,15 +2,10 @@
 use mathlib.Core.Path.{_≡_}
 use mathlib.Core.List.{List}
 use Prim.Native.Nat.{ℕ, _+_, _*_, _<_, _≤_}
-use lib.ListN.{length, getD}
+use lib.ListN.{length}
 use Rattle.counting.specs.Count.{δ}
 use Rattle.switch.specs.Demand.{cell}
 use Rattle.switch.specs.Plan.{Record, output, grant}
-
--- room for m grants, all 0
-pub record Blank (m : ℕ) (g : List ℕ) : Type 0 where
-  pub room : m ≤ length g
-  pub clear : (k : ℕ) → getD g k 0 ≡ 0
 
 -- g holds what the records p grant
 pub record Grants (N : ℕ) (p : List Record) (g : List ℕ) : Type 0 where

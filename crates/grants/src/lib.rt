@@ -11,7 +11,8 @@ ghost use Prim.Native.Nat.{_*_};
 ghost use Rattle.records.specs.Record.{decoded};
 ghost use Rattle.records.specs.Bytes.{planFrom};
 ghost use Rattle.plans.specs.Reading.{Readable, Passed};
-ghost use Rattle.grants.specs.Grants.{Blank, Grants, Granting, Granted};
+ghost use Rattle.switch.specs.Demand.{Blank};
+ghost use Rattle.grants.specs.Grants.{Grants, Granting, Granted};
 
 // One pass over a plan's first records, up to the first that is not well formed: each hold goes to the total and to the pairs that the record
 // joins.

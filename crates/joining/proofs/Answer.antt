@@ -24,8 +24,8 @@ use Rattle.switch.specs.Result.{refuses, afterReading, Gives}
 use Rattle.switch.proofs.Result.{gives}
 use Rattle.planner.specs.Planned.{writes, roomFor}
 use Rattle.planner.proofs.Planned.{no-room, room, written-outcome, written-bytes}
-use Rattle.settings.specs.Sums.{sums}
-use Rattle.settings.specs.Table.{entriesFrom, Listed}
+use Rattle.tally.specs.Sums.{sums}
+use Rattle.tally.specs.Table.{entriesFrom, Listed}
 use Rattle.joining.specs.Join.{cut, joinPlan, joining}
 use Rattle.joining.proofs.Joined.{join-total, join-sound}
 

@@ -8,10 +8,10 @@ use lib.ListN.{length, length-append, List·getD-append}
 use lib.Seq.{append-snoc, getD-append-seam}
 use Rattle.switch.specs.Plan.{Record, output, grant, total}
 use Rattle.switch.specs.Sound.{Sound, Each, none, more}
-use Rattle.settings.specs.Sums.{addHold, sumsOnto, sums, settingAt}
-use Rattle.settings.proofs.Same.{same?}
-use Rattle.settings.proofs.Sums.{add-here, add-later, add-new, sums-append, sums-summed, distinct}
-use Rattle.settings.proofs.Grants.{grant-sums, total-sums, each-sums}
+use Rattle.tally.specs.Sums.{addHold, sumsOnto, sums, settingAt}
+use Rattle.tally.proofs.Same.{same?}
+use Rattle.tally.proofs.Sums.{add-here, add-later, add-new, sums-append, sums-summed, distinct}
+use Rattle.tally.proofs.Grants.{grant-sums, total-sums, each-sums}
 use Rattle.joining.specs.Join.{held, pieces, cut, joinPlan}
 use Rattle.joining.proofs.Pieces.{pieces-more, pieces-total, pieces-each, total-cut, grant-cut, length-cut, each-cut}
 

@@ -6,9 +6,9 @@ use lib.ListN.{length, getD}
 use Rattle.switch.specs.Plan.{Record}
 use Rattle.records.specs.Record.{outputs}
 use Rattle.records.specs.Bytes.{recordAt}
-use Rattle.settings.specs.Table.{entriesFrom}
-use Rattle.settings.proofs.Chain.{read-entry}
-use Rattle.settings.proofs.Entries.{entry, entries-more, entries-end}
+use Rattle.tally.specs.Table.{entriesFrom}
+use Rattle.tally.proofs.Chain.{read-entry}
+use Rattle.tally.proofs.Entries.{entry, entries-more, entries-end}
 use Rattle.joining.specs.Join.{pieces, cut}
 use Rattle.joining.proofs.Pieces.{length-cut}
 

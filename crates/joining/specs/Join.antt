@@ -8,7 +8,7 @@ use Rattle.switch.specs.declared.Edition.{Edition}
 use Rattle.plans.specs.Read.{checking}
 use Rattle.switch.specs.Result.{Result, afterReading}
 use Rattle.planner.specs.Planned.{roomFor}
-use Rattle.settings.specs.Sums.{sums}
+use Rattle.tally.specs.Sums.{sums}
 
 -- a setting o held for h
 abbrev pub held : ℕ → List ℕ → Record

@@ -14,7 +14,7 @@ ghost use lib.ListN.{length, getD};
 ghost use Rattle.switch.specs.Result.{Gives};
 ghost use Rattle.records.specs.Bytes.{whole, bytes, laid};
 ghost use Rattle.switch.specs.Editions.{firstEdition, secondEdition, Bounded};
-ghost use Rattle.settings.specs.Table.{entriesFrom, Roomy, Empty};
+ghost use Rattle.tally.specs.Table.{entriesFrom, Roomy, Empty};
 ghost use Rattle.joining.specs.Join.{pieces, cut, joining};
 
 // The most that a hold of two bytes can be.
@@ -24,7 +24,7 @@ const MOST: usize = 65535;
 pub fn join_plan(n: usize, plan: &[u8], joined: &mut [u8]) -> Outcome
     ensures { λ r. ⌜ Gives (joining firstEdition n (now (plan .entry)) (now (joined .entry))) r (now (joined .exit)) ⌝ }
 {
-    let mut heads = [0u16; settings::BUCKETS];
+    let mut heads = [0u16; tally::BUCKETS];
     let mut nexts = [0u16; switch::RECORDS];
     let mut firsts = [0u16; switch::RECORDS];
     let mut totals = [0u32; switch::RECORDS];
@@ -44,7 +44,7 @@ pub fn join_plan(n: usize, plan: &[u8], joined: &mut [u8]) -> Outcome
 pub fn join_plan_second(n: usize, plan: &[u8], joined: &mut [u8]) -> Outcome
     ensures { λ r. ⌜ Gives (joining secondEdition n (now (plan .entry)) (now (joined .entry))) r (now (joined .exit)) ⌝ }
 {
-    let mut heads = [0u16; settings::BUCKETS];
+    let mut heads = [0u16; tally::BUCKETS];
     let mut nexts = [0u16; switch::WIDE_RECORDS];
     let mut firsts = [0u16; switch::WIDE_RECORDS];
     let mut totals = [0u32; switch::WIDE_RECORDS];
@@ -79,7 +79,7 @@ pub fn join_for(
     let Outcome::Done(counts) = checked else {
         return checked;
     };
-    let count = settings::sum_up(plan, e.width, counts.records, heads, nexts, firsts, totals);
+    let count = tally::sum_up(plan, e.width, counts.records, heads, nexts, firsts, totals);
     let need = count_pieces(totals, count);
     if buffer.len() / (e.width + HEAD) < need {
         return Outcome::Refused(Refusal::Room(need));
@@ -122,7 +122,7 @@ fn lay_sums(
 {
     let mut at: usize = 0;
     for e in 0..count {
-        let setting = settings::setting_at(plan, width, settings::wide(firsts[e]));
+        let setting = tally::setting_at(plan, width, tally::wide(firsts[e]));
         at = lay_sum(n, edition, setting, wide(totals[e]), buffer, at);
     }
 }

@@ -1,3 +1,2 @@
-pub mod Label
-pub mod Wide
+pub mod Ports
 pub mod Rows

@@ -4,7 +4,7 @@ use mathlib.Core.Logic.{_≢_}
 use mathlib.Core.List.{List}
 use Prim.Native.Nat.{ℕ}
 use lib.ListN.{length, getD}
-use Rattle.labels.specs.Wide.{two}
+use Rattle.sets.specs.Wide.{two}
 
 -- the label of input i
 abbrev pub rowOf : List ℕ → List ℕ → ℕ → ℕ

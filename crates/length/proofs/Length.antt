@@ -15,8 +15,8 @@ use Rattle.switch.specs.declared.Edition.{Edition}
 use Rattle.plans.specs.Read.{opening}
 use Rattle.records.specs.Record.{outputs}
 use Rattle.records.specs.Bytes.{recordAt, whole, planFrom, planOf}
-use Rattle.settings.specs.Sums.{sameOutputs, settingAt}
-use Rattle.settings.proofs.Same.{same-yes, same-no, told-same, told-other}
+use Rattle.tally.specs.Sums.{sameOutputs, settingAt}
+use Rattle.tally.proofs.Same.{same-yes, same-no, told-same, told-other}
 use Rattle.plans.specs.Reading.{Passed}
 use Rattle.length.specs.Length.{moves, charge, lengthOf, lengthCounts, planLength, Charged}
 use Rattle.plans.proofs.Reading.{reading-whole}

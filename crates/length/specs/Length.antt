@@ -10,7 +10,7 @@ use Rattle.switch.specs.declared.Outcome.{Outcome}
 use Rattle.switch.specs.declared.Outcome.the-variants.{Done}
 use Rattle.switch.specs.Plan.{Record, total}
 use Rattle.switch.specs.declared.Edition.{Edition}
-use Rattle.settings.specs.Sums.{sameOutputs, settingAt}
+use Rattle.tally.specs.Sums.{sameOutputs, settingAt}
 use Rattle.plans.specs.Reading.{reading}
 
 -- the mirrors move for the first record, and wherever outputs are not those of the record before (§11.2)

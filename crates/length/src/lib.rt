@@ -70,9 +70,9 @@ fn charge_of(plan: &[u8], width: usize, k: usize, d: u16) -> u64
     if k == 0 {
         return d as u64;
     }
-    let left = settings::setting_at(plan, width, k - 1);
-    let met = settings::setting_at(plan, width, k);
-    if settings::same_outputs(left, met) {
+    let left = tally::setting_at(plan, width, k - 1);
+    let met = tally::setting_at(plan, width, k);
+    if tally::same_outputs(left, met) {
         return 0;
     }
     d as u64

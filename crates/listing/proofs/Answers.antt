@@ -31,8 +31,8 @@ use Rattle.planner.specs.Planned.{writes, planned}
 use Rattle.planner.proofs.Planned.{planned-faulty, planned-done}
 use Rattle.rules.specs.Exact.{exactPlan}
 use Rattle.wishes.specs.Wishes.{outcome, cellsOf, cellsAfter}
-use Rattle.lines.specs.Text.{planText, refusedLine}
-use Rattle.lines.specs.Put.{Put}
+use Rattle.text.specs.Text.{planText, refusedLine}
+use Rattle.text.specs.Put.{Put}
 use Rattle.listing.specs.Listing.{portsOf, countedText, demandText, wishedText, wishText, listingOf}
 use Rattle.listing.proofs.Room.{exact-few, exact-width, text-fits}
 

@@ -22,11 +22,11 @@ use Rattle.wishes.specs.Record.{word, recordAt, wellFormed, samePair}
 use Rattle.wishes.specs.Fault.{named, faultOf, faultAt, firstFault}
 use Rattle.wishes.specs.Wishes.{demandOf, outcome}
 use Rattle.wishes.specs.Wishes as wishes
-use Rattle.lines.specs.Ascii.{ascii}
-use Rattle.lines.specs.Decimal.{digitsIn, decimal}
-use Rattle.lines.specs.Line.{spaced}
-use Rattle.lines.specs.Line as lines
-use Rattle.lines.specs.Text.{firstLine, outputField, recordLine, recordLines, planText, refusedLine}
+use Rattle.text.specs.Ascii.{ascii}
+use Rattle.text.specs.Decimal.{digitsIn, decimal}
+use Rattle.text.specs.Line.{spaced}
+use Rattle.text.specs.Line as lines
+use Rattle.text.specs.Text.{firstLine, outputField, recordLine, recordLines, planText, refusedLine}
 use Rattle.listing.specs.Listing.{portsIn, demandText, wishText, listingOf}
 
 -- a wish record: input, output, and the three high bytes of its value

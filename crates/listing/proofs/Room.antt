@@ -15,8 +15,8 @@ use Rattle.rules.specs.Peel.{Peels, none, more}
 use Rattle.rules.specs.Exact.{exactPlan}
 use Rattle.rules.proofs.Exact.{exact-peels, exact-total, exact-records}
 use Rattle.rules.proofs.Empty.{exact-empty-slots}
-use Rattle.lines.specs.Text.{firstLine, recordLine, recordLines, planText}
-use Rattle.lines.proofs.Size.{record-size, first-size}
+use Rattle.text.specs.Text.{firstLine, recordLine, recordLines, planText}
+use Rattle.text.proofs.Size.{record-size, first-size}
 use Rattle.listing.specs.Listing.{countedText}
 
 -- N² - 2N + 2 is at most 226

@@ -16,7 +16,7 @@ use Rattle.demand.specs.Check.{checkDemand}
 use Rattle.rules.specs.Exact.{exactPlan}
 use Rattle.wishes.specs.Record.{recordAt}
 use Rattle.wishes.specs.Wishes.{demandOf, outcome}
-use Rattle.lines.specs.Text.{planText, refusedLine}
+use Rattle.text.specs.Text.{planText, refusedLine}
 
 -- one more than the largest port in the first m records; 0 if there is none
 unfoldable pub portsIn : List ℕ → ℕ → ℕ

@@ -1,15 +1,15 @@
 // The lister's text: the bytes of a wish list to the exact plan of its demand, or to the line of what is refused.
 // `listing` promises the text to the byte, for any bytes, and that it fits; the program `lister` only reads and writes.
-// How a line is laid out is the crate `lines`'s matter, and the plan the planner's.
-use lines::put_plan;
-use lines::put_refusal;
+// How a line is laid out is the crate `text`'s matter, and the plan the planner's.
 use switch::Outcome;
 use switch::Refusal;
+use text::put_plan;
+use text::put_refusal;
 ghost use mathlib.Core.Path.{_≡_};
 ghost use Prim.Native.Nat.{_+_, _*_, _/_, _<_, _≤_, max};
 ghost use lib.ListN.{length, take};
 ghost use Rattle.records.specs.Bytes.{laid};
-ghost use Rattle.lines.specs.Put.{Put};
+ghost use Rattle.text.specs.Put.{Put};
 ghost use Rattle.listing.specs.Listing.{portsIn, portsOf, demandText, wishText, listingOf};
 
 // What is behind so many bytes of the input does not count.

@@ -11,7 +11,7 @@ use Rattle.counting.specs.Count.{ind, count}
 use Rattle.counting.proofs.Sum.{sum-change}
 use Rattle.counting.proofs.Count.{ind-true, ind-false}
 use Rattle.counting.proofs.Pigeonhole.{pigeonhole}
-use Rattle.labels.specs.Label.{digit, In, isIn}
+use Rattle.sets.specs.Label.{digit, In, isIn}
 use Rattle.rules.specs.First.{Fits}
 use Rattle.search.specs.Tables.{Held, Holds, Matching}
 use Rattle.search.specs.Search.{Stays, Closed}

@@ -9,8 +9,8 @@ use lib.Dec.{eqb}
 use lib.ListN.{length, getD, set}
 use lib.Seq.{getD-set-other}
 use borrow.Author.Tests.{eqb-true, eqb-false}
-use Rattle.labels.specs.Label.{In, Marked, Cleared}
-use Rattle.labels.proofs.Digits.{same-or}
+use Rattle.sets.specs.Label.{In, Marked, Cleared}
+use Rattle.sets.proofs.Digits.{same-or}
 use Rattle.search.specs.Tables.{Held, Holds, joined, Matching}
 use Rattle.search.specs.Search.{Free, AskPre, Gained, Moved, Unmoved}
 use Rattle.matching.specs.Chosen.{Fixed, CompletePre, CompletePost, HoldsPost}

@@ -4,7 +4,7 @@ use mathlib.Core.Bool.{Bool, true, false}
 use mathlib.Core.List.{List}
 use Prim.Native.Nat.{ℕ, zero, suc, _<_, _≤_}
 use native.Mathlib.Omega.{arith}
-use Rattle.labels.specs.Label.{In}
+use Rattle.sets.specs.Label.{In}
 use Rattle.rules.specs.First.{Fits}
 use Rattle.rules.proofs.First.{first-of}
 use Rattle.search.specs.Tables.{Held, Holds, joined, Matching}

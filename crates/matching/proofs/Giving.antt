@@ -1,16 +1,15 @@
 -- A stuck input and the holders that it asked in vain may take only what it met: so outputs that were not met can be let go without setting it free.
-use mathlib.Core.Path.{_≡_, subst, sym}
-use mathlib.Core.Logic.{_⊎_, inl, inr, ⊎-elim}
+use mathlib.Core.Path.{_≡_, subst}
+use mathlib.Core.Logic.{inl, inr, ⊎-elim}
 use mathlib.Core.List.{List}
 use Prim.Native.Nat.{ℕ, _-_, _<_, _≤_}
 use native.Mathlib.Decide.{decLe}
 use native.Mathlib.Omega.{arith}
-use lib.ListN.{getD}
-use Rattle.labels.specs.Label.{In, Union, But}
+use Rattle.sets.specs.Label.{In, Union, But}
 use Rattle.labels.specs.declared.FoundOutput.{FoundOutput}
 use Rattle.labels.specs.declared.FoundOutput.the-variants.{At, Nothing}
 use Rattle.search.specs.Tables.{Held, joined, Matching}
-use Rattle.search.specs.Search.{Stays, Closed, Ports, Further, Leads, Unmoved}
+use Rattle.search.specs.Search.{Stays, Closed, Ports, Leads, Unmoved}
 use Rattle.search.proofs.Tables.{held-not-free}
 use Rattle.matching.specs.Chosen.{Met}
 

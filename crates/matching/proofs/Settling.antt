@@ -7,8 +7,8 @@ use native.Mathlib.Decide.{decLt}
 use native.Mathlib.Omega.{arith}
 use lib.ListN.{length, getD, set}
 use lib.Seq.{getD-set-same, set-getD}
-use Rattle.labels.specs.Label.{In, Sub, Marked, Cleared, Below, absent}
-use Rattle.labels.proofs.Digits.{same-or, absent-less}
+use Rattle.sets.specs.Label.{In, Sub, Marked, Cleared, Below, absent}
+use Rattle.sets.proofs.Digits.{same-or, absent-less}
 use Rattle.rules.specs.First.{Agree}
 use Rattle.search.specs.declared.Asked.the-variants.{Freed, Stuck}
 use Rattle.search.specs.declared.Given.{Given}

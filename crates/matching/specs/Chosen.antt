@@ -5,7 +5,7 @@ use mathlib.Core.Logic.{_⊎_}
 use mathlib.Core.List.{List}
 use Prim.Native.Nat.{ℕ, _<_, _≤_}
 use lib.ListN.{set}
-use Rattle.labels.specs.Label.{In, Sub}
+use Rattle.sets.specs.Label.{In, Sub}
 use Rattle.rules.specs.First.{Fits, Agree, First}
 use Rattle.search.specs.Tables.{triedOf, Held, Holds, joined, Matching}
 use Rattle.search.specs.declared.Asked.{Asked}

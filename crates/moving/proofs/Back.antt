@@ -3,7 +3,6 @@ use mathlib.Core.Path.{_≡_, sym, ap, ap₂, _∙_}
 use mathlib.Core.List.{List}
 use Prim.Native.Nat.{ℕ, _<_, _≤_}
 use native.Mathlib.Omega.{arith}
-use borrow.Author.Tests.{le-leb}
 use lib.ListN.{length, getD}
 use Rattle.switch.specs.declared.Counts.{Counts}
 use Rattle.switch.specs.declared.Edition.{Edition}
@@ -19,7 +18,7 @@ use Rattle.records.specs.Bytes.{whole, planOf, bytes, laid}
 use Rattle.records.proofs.Round.{planOf-bytes}
 use Rattle.plans.specs.Read.{checking}
 use Rattle.plans.proofs.Plans.{Checked, checked, length-plan, bytes-pass}
-use Rattle.moving.specs.Move.{movedPlan, moves, moving}
+use Rattle.moving.specs.Move.{movedPlan, moving}
 use Rattle.moving.proofs.Moved.{length-moved, total-moved, plan-sound, plan-back}
 use Rattle.moving.proofs.Bytes.{bytes-plan}
 use Rattle.moving.proofs.Answer.{moving-done}

@@ -1,13 +1,12 @@
 -- A moved setting joins what it joined: the outputs of the N inputs are the same, and all others are idle in either width.
 use mathlib.Core.Path.{_≡_, refl, sym, ap, _∙_}
 use mathlib.Core.Logic.{dite, ⊎-elim, inl, inr}
-use mathlib.Core.List.{List, [], _∷_, _++_, map}
-use Prim.Native.Nat.{ℕ, zero, suc, _+_, _*_, _-_, _<_, _≤_}
+use mathlib.Core.List.{List, [], _∷_, _++_}
+use Prim.Native.Nat.{ℕ, zero, suc, _+_, _-_, _≤_}
 use native.Mathlib.Decide.{decLt}
 use native.Mathlib.Omega.{arith}
 use lib.ListN.{length, getD, take, replicate, length-append, length-take, length-replicate, length-map, List·getD-append, List·getD-eq-default}
 use lib.Seq.{getD-take, getD-append-add, ext-getD}
-use Rattle.counting.specs.Count.{δ}
 use Rattle.switch.specs.Plan.{Record, output, grant, total}
 use Rattle.switch.specs.Sound.{Sound, Each, none, more}
 use Rattle.moving.specs.Move.{movedRecord, movedPlan}

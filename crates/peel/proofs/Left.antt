@@ -21,9 +21,9 @@ use Rattle.rules.proofs.ExactFrom.{exact-step}
 use Rattle.search.specs.Tables.{Allowed, Rows, joined}
 use Rattle.matching.specs.Chosen.{Ready, Chosen}
 use Rattle.matching.proofs.Kept.{first-best}
-use Rattle.work.specs.Level.{Level, Uses}
-use Rattle.work.specs.Labelled.{Labelled, SubtractPost}
-use Rattle.work.proofs.Cells.{peeled-sized}
+use Rattle.board.specs.Level.{Level, Uses}
+use Rattle.board.specs.Labelled.{Labelled, SubtractPost}
+use Rattle.board.proofs.Cells.{peeled-sized}
 use Rattle.peel.specs.Standing.{left, rest, Standing, Seated, Released, Taken}
 
 -- ---- what is allowed by the labels is what has a cell that is not zero

@@ -12,9 +12,9 @@ use Rattle.rules.specs.Fill.{fill}
 use Rattle.rules.specs.Exact.{exactFrom, exactPlan}
 use Rattle.search.specs.Tables.{Allowed, joined}
 use Rattle.matching.proofs.Kept.{fresh}
-use Rattle.work.specs.Level.{Sized, Within, Level}
-use Rattle.work.specs.Labelled.{Labelled}
-use Rattle.work.proofs.Filling.{level-fill}
+use Rattle.board.specs.Level.{Sized, Within, Level}
+use Rattle.board.specs.Labelled.{Labelled}
+use Rattle.board.proofs.Filling.{level-fill}
 use Rattle.peel.specs.Standing.{Cells, left, rest, Started, Standing}
 
 module _ (N T : ℕ) (w : List ℕ) (c : Cells N T w) where

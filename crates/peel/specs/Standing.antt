@@ -9,8 +9,8 @@ use Rattle.switch.specs.Plan.{Record}
 use Rattle.rules.specs.Exact.{exactFrom, exactPlan}
 use Rattle.search.specs.Tables.{Allowed, Held, joined, Matching}
 use Rattle.matching.specs.Chosen.{Best}
-use Rattle.work.specs.Level.{Level}
-use Rattle.work.specs.Labelled.{Labelled}
+use Rattle.board.specs.Level.{Level}
+use Rattle.board.specs.Labelled.{Labelled}
 
 -- N × N cells at the list's start, their longest line T, which is no more than a hold can be
 pub record Cells (N T : ℕ) (w : List ℕ) : Type 0 where

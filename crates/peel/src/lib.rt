@@ -22,8 +22,8 @@ pub fn start(work: &mut [u32], n: usize, longest: u64, lows: &mut [u64], highs: 
     requires { ⌜ Cells n longest (now work) × (length (now lows) ≡ n) × (length (now highs) ≡ n) ⌝ }
     ensures { λ _. ⌜ Started n longest (now (work .entry)) (now (work .exit)) (now (lows .exit)) (now (highs .exit)) ⌝ }
 {
-    work::fill_up(work, n, longest);
-    work::label_rows(work, n, lows, highs);
+    board::fill_up(work, n, longest);
+    board::label_rows(work, n, lows, highs);
 }
 
 // Takes the first setting off the working copy, for as long as its smallest cell; `out` has its outputs.
@@ -40,8 +40,8 @@ pub fn take_off(
     ensures { λ r. ⌜ Taken n (now (work .entry)) (now (work .exit)) (now (lows .exit)) (now (highs .exit)) (now (by .exit)) (now (out .exit)) (r .hold) (r .kept) ⌝ }
 {
     next_setting(lows, highs, by, out, kept);
-    let hold = work::smallest(work, n, out);
-    work::subtract(work, n, lows, highs, out, hold);
+    let hold = board::smallest(work, n, out);
+    board::subtract(work, n, lows, highs, out, hold);
     Step {
         hold: hold,
         kept: release_emptied(n, lows, highs, by, out),

@@ -25,7 +25,6 @@ use Rattle.plans.specs.declared.Stepped.{Stepped}
 use Rattle.plans.specs.declared.StepTaken.{StepTaken}
 use Rattle.records.specs.Record.{wellFormed}
 use Rattle.records.specs.Bytes.{recordAt, whole, planFrom}
-use Rattle.switch.specs.Editions.{Bounded}
 use Rattle.plans.specs.Read.{opening, nothing, given, stepIn, stepAt, Takes, malformed, checkingIn, checking}
 
 -- what is known of a plan that opening does not refuse

@@ -6,8 +6,8 @@ use Rattle.switch.specs.declared.Outcome.{Outcome}
 use Rattle.switch.specs.declared.Numbers.{Numbers}
 use Rattle.switch.specs.Result.{Result, Gives}
 use Rattle.switch.proofs.Answer.{answer-tells}
-use Rattle.chordvenus.specs.declared.CvAnswer.{CvAnswer}
-use Rattle.chordvenus.specs.Flat.{flat, Crosses}
+use Rattle.answers.specs.declared.CvAnswer.{CvAnswer}
+use Rattle.answers.specs.Flat.{flat, Crosses}
 
 -- the numbers of an answer at the edge
 numbers : CvAnswer → Numbers

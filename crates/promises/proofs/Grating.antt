@@ -7,7 +7,7 @@ use Prim.Native.Nat.{ℕ, zero, suc, _+_, _*_, _-_, _≤_, _<_}
 use native.Mathlib.Decide.{ℕ-discrete, decLt}
 use native.Mathlib.Omega.{arith}
 use native.Mathlib.Nat.{le-of-eq, not-suc-le-zero}
-use lib.ListN.{length, getD, take, drop, length-map, length-append}
+use lib.ListN.{length, getD, take, drop, length-append}
 use lib.Seq.{getD-append-add}
 use lib.Dec.{eqb}
 use borrow.Author.Tests.{eq-eqb, ne-eqb}
@@ -33,19 +33,14 @@ use Rattle.rules.proofs.Tight.{doubled-tight}
 use Rattle.switch.specs.Sound.{Sound, Each, none, more}
 use Rattle.records.specs.Bytes.{bytes, laid, whole, planOf}
 use Rattle.switch.specs.Result.{Result, Gives}
-use Rattle.records.proofs.Round.{planOf-bytes}
 use Rattle.switch.proofs.Sound.{each-width}
 use Rattle.switch.specs.Editions.{firstEdition}
-use Rattle.plans.specs.Read.{checking}
 use Rattle.switch.proofs.Editions.{first-bounded}
-use Rattle.plans.proofs.Plans.{bytes-pass}
 use Rattle.checker.specs.Check.{checkPlan}
 use Rattle.checker.proofs.Passes.{sound-passes}
 use Rattle.rules.proofs.Sound.{doubled-by-sound}
 use Rattle.wavelengths.specs.Shared.{sharing, mostShared, gratingReport}
 use Rattle.wavelengths.specs.Report.{reported}
-use Rattle.wavelengths.proofs.Report.{report-done}
-use Rattle.wavelengths.proofs.Promise.{laid-at}
 use Rattle.grating.specs.Grating.{gratingPlan, firstPart, secondPart, gratingPlanned}
 use Rattle.switch.proofs.Result.{gives-as}
 use Rattle.grating.proofs.Answer.{short-answer, faulty-answer, fine-answer, done}

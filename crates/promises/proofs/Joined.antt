@@ -22,7 +22,7 @@ use Rattle.switch.proofs.Editions.{first-bounded}
 use Rattle.plans.proofs.Plans.{checked, length-plan}
 use Rattle.switch.specs.Result.{Result, refuses, Gives}
 use Rattle.planner.specs.Planned.{writes}
-use Rattle.settings.proofs.Sums.{sums-summed}
+use Rattle.tally.proofs.Sums.{sums-summed}
 use Rattle.joining.specs.Join.{joinPlan, joining}
 use Rattle.joining.proofs.Joined.{join-grant, join-total, join-sound}
 use Rattle.joining.proofs.Answer.{joining-refused, joining-short, joining-done}

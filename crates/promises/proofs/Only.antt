@@ -17,7 +17,7 @@ use Rattle.reader.specs.declared.Reader.{Reader}
 use Rattle.reader.specs.Reader.{movedTo}
 use Rattle.room.specs.declared.Planner.{Planner}
 use Rattle.room.specs.declared.Planner.the-variants.{Exact, Doubled, Quick}
-use Rattle.chordvenus.specs.Flat.{Crosses}
+use Rattle.answers.specs.Flat.{Crosses}
 use Rattle.promises.specs.Only.{OneAnswer, OneResult}
 use Rattle.promises.specs.Calls as call
 

@@ -20,7 +20,7 @@ use Rattle.promises.specs.Papers.{Asked, Given, give, rec, table, d1, d6
 use Rattle.switch.specs.Plan.{total}
 use Rattle.records.specs.Bytes.{bytes}
 use Rattle.rules.proofs.Tight.{tight-most}
-use Rattle.settings.specs.Sums.{sameOutputs}
+use Rattle.tally.specs.Sums.{sameOutputs}
 use Rattle.length.specs.Length.{moves, charge, lengthOf}
 
 -- every row is given what it says

@@ -18,7 +18,7 @@ use Rattle.switch.specs.Answer.{codeOf, countsOf, planCounts, demandCounts}
 use Rattle.switch.specs.Demand.{cell, longest}
 use Rattle.switch.specs.Editions.{firstEdition}
 use Rattle.switch.specs.Empty.{emptySlots}
-use Rattle.switch.specs.Plan.{Record, Plan, total, Covers}
+use Rattle.switch.specs.Plan.{total}
 use Rattle.switch.specs.Result.{Result, refuses, unless}
 use Rattle.switch.proofs.Answer.{code-done}
 use Rattle.demand.specs.declared.Checked.{Checked}
@@ -28,7 +28,7 @@ use Rattle.demand.proofs.Check.{fine-asked}
 use Rattle.records.specs.Bytes.{bytes, laid}
 use Rattle.planner.specs.Planned.{writes, planned, afterCheck}
 use Rattle.planner.proofs.Planned.{planned-done}
-use Rattle.quiet_rule.specs.Limit.{Keeps, leastWithin}
+use Rattle.quiet_rule.specs.Limit.{leastWithin}
 use Rattle.quiet_rule.specs.Quiet.{quietPlan}
 use Rattle.quiet_rule.proofs.Hold.{pairs-le}
 use Rattle.quiet_rule.proofs.Limit.{least-within}
@@ -40,7 +40,7 @@ use Rattle.least.specs.Least.{answerAfter, leastOf}
 use Rattle.promises.specs.Calls.{GratingReport, QuietPlan, LeastWithin}
 use Rattle.promises.specs.Planner.{Fair, Taken, Plans}
 use Rattle.promises.specs.Quiet.{Quiet, Unlimited, faulty, no-limit, PlansQuietly, TellsLeast}
-use Rattle.promises.proofs.Fair.{fair-fine, fine-fair, not-fine, faulty-fault}
+use Rattle.promises.proofs.Fair.{fair-fine, fine-fair, faulty-fault}
 use Rattle.promises.proofs.Outcomes.{never, same-refusal}
 use Rattle.promises.proofs.Planner.{Ready, planned-promise, first-serves}
 use Rattle.promises.proofs.Reported.{written-report}

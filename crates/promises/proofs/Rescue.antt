@@ -44,8 +44,8 @@ use Rattle.rescue_rule.proofs.Rescue.{rest-cell, rescued-sound, rescued-covers,
 use Rattle.rescue.specs.declared.Answer.{Answer}
 use Rattle.rescue.specs.Rescue.{Saved, Saves, refuses, writes, fitting, checkIn, rescuing}
 use Rattle.rescue.proofs.Order.{Entering, entering, in-fine, fitting-many, fitting-room, fitting-list, fitting-done, rescuing-faulty}
-use Rattle.chordvenus.specs.declared.CvAnswer.{CvAnswer}
-use Rattle.chordvenus.specs.Flat.{flatRescue}
+use Rattle.answers.specs.declared.CvAnswer.{CvAnswer}
+use Rattle.answers.specs.Flat.{flatRescue}
 use Rattle.promises.specs.Calls.{RescuePlan, CvRescue}
 use Rattle.promises.specs.Rescue.{Tells, Succeeds, Rescued}
 use Rattle.promises.proofs.Laid.{laid-front, laid-behind, plan-front, plan-behind}

@@ -10,16 +10,14 @@ use native.Mathlib.Omega.{arith}
 use lib.ListN.{length, take, drop}
 use lib.Dec.{leb, eqb}
 use borrow.Author.Tests.{lt-leb, le-leb, leb-false, eq-eqb}
-use Rattle.switch.specs.declared.Counts.{Counts}
 use Rattle.switch.specs.declared.Outcome.{Outcome}
 use Rattle.switch.specs.declared.Outcome.the-variants.{Done, Refused}
 use Rattle.switch.specs.declared.Refusal.{Refusal}
-use Rattle.switch.specs.declared.Refusal.the-variants.{Ports, Room, Torn, Malformed}
+use Rattle.switch.specs.declared.Refusal.the-variants.{Room, Torn, Malformed}
 use Rattle.switch.specs.Answer.{codeOf, countsOf, planCounts}
 use Rattle.switch.specs.Check.{portsFine}
-use Rattle.switch.specs.Demand.{cell, longest}
 use Rattle.switch.specs.Editions.{firstEdition}
-use Rattle.switch.specs.Result.{Result, refuses}
+use Rattle.switch.specs.Result.{refuses}
 use Rattle.switch.proofs.Answer.{code-done}
 use Rattle.switch.proofs.Check.{some-ports}
 use Rattle.demand.specs.declared.Checked.{Checked}

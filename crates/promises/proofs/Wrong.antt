@@ -23,7 +23,7 @@ use Rattle.switch.specs.Plan.{Record, output, grant, total, Covers}
 use Rattle.switch.specs.Sound.{Each, more, Sound}
 use Rattle.switch.proofs.Answer.{code-done}
 use Rattle.switch.proofs.Append.{total-append}
-use Rattle.switch.proofs.Demand.{row-le-longest}
+use Rattle.switch.proofs.Demand.{row-le-longest, blank-zeros}
 use Rattle.switch.proofs.Plan.{least-total}
 use Rattle.demand.specs.declared.Checked.the-variants.{Fine}
 use Rattle.demand.specs.Check.{checkDemand}
@@ -38,7 +38,6 @@ use Rattle.rules.proofs.Quick.{quick}
 use Rattle.records.specs.Bytes.{whole, recordAt, planFrom}
 use Rattle.switch.specs.declared.Edition.{Edition}
 use Rattle.switch.specs.Editions.{firstEdition}
-use Rattle.grants.proofs.Grant.{blank-zeros}
 use Rattle.promises.specs.Papers.{d1}
 use Rattle.promises.specs.Calls.{ExactPlan, DoubledPlan, EveryRotation, QuickPlan}
 use Rattle.promises.specs.Doubled.{Rule, tight, every, planBy, PlansDoubled}

@@ -42,10 +42,10 @@ use Rattle.least.specs.Least.{leastOf}
 use Rattle.tasks.specs.Read.{reading}
 use Rattle.shop.specs.Shopped.{shopped}
 use Rattle.listing.specs.Listing.{listingOf}
-use Rattle.chordvenus.specs.declared.CvAnswer.{CvAnswer}
-use Rattle.chordvenus.specs.declared.CvStep.{CvStep}
-use Rattle.chordvenus.specs.declared.CvPart.{CvPart}
-use Rattle.chordvenus.specs.Flat.{version, flat, flatWish, flatStep, flatPart, Crosses, CarriesFlat, RescuesFlat}
+use Rattle.answers.specs.declared.CvAnswer.{CvAnswer}
+use Rattle.answers.specs.declared.CvStep.{CvStep}
+use Rattle.answers.specs.declared.CvPart.{CvPart}
+use Rattle.answers.specs.Flat.{version, flat, flatWish, flatStep, flatPart, Crosses, CarriesFlat, RescuesFlat}
 
 -- ---- wishes
 

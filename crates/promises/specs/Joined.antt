@@ -11,7 +11,7 @@ use Rattle.switch.specs.Answer.{codeOf, countsOf, planCounts}
 use Rattle.switch.specs.Plan.{Record, grant, total}
 use Rattle.records.specs.Bytes.{whole, planOf}
 use Rattle.switch.specs.declared.Edition.{Edition}
-use Rattle.settings.specs.Sums.{sums, Summed}
+use Rattle.tally.specs.Sums.{sums, Summed}
 use Rattle.joining.specs.Join.{cut, joinPlan, joining}
 use Rattle.promises.specs.Reading.{GoodPlan, Unwritten}
 

@@ -12,7 +12,7 @@ use Rattle.switch.specs.Answer.{codeOf, countsOf}
 use Rattle.switch.specs.Plan.{Record, total}
 use Rattle.records.specs.Bytes.{planOf}
 use Rattle.switch.specs.declared.Edition.{Edition}
-use Rattle.settings.specs.Sums.{settingAt}
+use Rattle.tally.specs.Sums.{settingAt}
 use Rattle.promises.specs.Reading.{GoodPlan, Unread}
 
 -- what each record of p is charged at a switching time of d: d for the first and where the mirrors move, and nothing where they stay

@@ -11,7 +11,7 @@ use Rattle.demand.specs.declared.Checked.the-variants.{Faulty}
 use Rattle.demand.specs.Check.{checkDemand}
 use Rattle.rules.specs.Exact.{exactPlan}
 use Rattle.wishes.specs.Wishes.{Demanded, outcome}
-use Rattle.lines.specs.Text.{refusedLine}
+use Rattle.text.specs.Text.{refusedLine}
 use Rattle.listing.specs.Listing.{PortsIn, countedText}
 use Rattle.switch.specs.Editions.{firstEdition}
 use Rattle.promises.specs.Wishes.{GoodList}

@@ -2,7 +2,7 @@
 use mathlib.Core.Path.{_≡_}
 use mathlib.Core.List.{List}
 use Prim.Native.Nat.{ℕ, _+_, _*_, _≤_}
-use lib.ListN.{length, drop}
+use lib.ListN.{drop}
 use Rattle.switch.specs.declared.Counts.{Counts}
 use Rattle.switch.specs.declared.Edition.{Edition}
 use Rattle.switch.specs.declared.Outcome.{Outcome}

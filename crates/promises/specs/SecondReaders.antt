@@ -12,9 +12,9 @@ use Rattle.checker.specs.Check.{checkPlan}
 use Rattle.length.specs.Length.{planLength}
 use Rattle.joining.specs.Join.{joining}
 use Rattle.moving.specs.Move.{movable, moving}
-use Rattle.chordvenus.specs.declared.CvAnswer.{CvAnswer}
-use Rattle.chordvenus.specs.declared.Cv2Step.{Cv2Step}
-use Rattle.chordvenus.specs.Flat.{flat, flatWide, Crosses}
+use Rattle.answers.specs.declared.CvAnswer.{CvAnswer}
+use Rattle.answers.specs.declared.Cv2Step.{Cv2Step}
+use Rattle.answers.specs.Flat.{flat, flatWide, Crosses}
 
 -- checker::check_plan_second(n, cells, plan)
 abbrev pub CheckSecond : (N : ℕ) (d plan : List ℕ) → Outcome → Type 0

@@ -9,7 +9,7 @@ use Rattle.demand.specs.Lines.{Short}
 use Rattle.rules.specs.Quick.{quickPlan}
 use Rattle.rules.proofs.Exact.{longest-cong}
 use Rattle.rules.proofs.QuickFrom.{quick-cong}
-use Rattle.work.specs.Level.{Sized}
+use Rattle.board.specs.Level.{Sized}
 use Rattle.slot.specs.Filled.{leftover}
 use Rattle.quick.specs.Lent.{Copied}
 

@@ -10,7 +10,7 @@ use Rattle.switch.specs.Empty.{allSlots}
 use Rattle.switch.proofs.Empty.{asked-most}
 use Rattle.demand.specs.Lines.{Short}
 use Rattle.rules.proofs.QuickFrom.{quick-short, quick-end}
-use Rattle.work.specs.Level.{Sized}
+use Rattle.board.specs.Level.{Sized}
 use Rattle.slot.specs.declared.Rest.{Rest}
 use Rattle.slot.specs.Filled.{leftIn, leftover, Copy, Filled}
 

@@ -13,7 +13,7 @@ use Rattle.demand.specs.Check.{checkDemand}
 use Rattle.records.specs.Bytes.{encode, laid, whole}
 use Rattle.rules.specs.Quick.{quickPlan}
 use Rattle.planner.specs.Planned.{shortage}
-use Rattle.work.specs.Level.{Sized}
+use Rattle.board.specs.Level.{Sized}
 
 -- room for the working copy of a demand of N ports, for its labels and for the outputs of a slot
 pub record Space (N : ℕ) (w lows highs out : List ℕ) : Type 0 where

@@ -2,6 +2,8 @@
 // It promises the whole answer and every byte of the lent plan, for any N and any cells: the refusals in their order, all known
 // before the first byte is written, and else the plan. The lent demand is only read: what is counted down is a working copy.
 // What a demand is refused for, how one slot is filled and the layout of a record are left to the crates below.
+use board::copy;
+use board::label_rows;
 use demand::Checked;
 use demand::asked_slots;
 use demand::check_demand;
@@ -19,8 +21,6 @@ use switch::Outcome;
 use switch::PORTS;
 use switch::Refusal;
 use switch::WIDE_PORTS;
-use work::copy;
-use work::label_rows;
 ghost use mathlib.Core.Path.{_≡_};
 ghost use mathlib.Core.Bool.{true};
 ghost use Prim.Native.Nat.{_+_, _*_, _<_, _≤_};

@@ -30,8 +30,8 @@ use Rattle.demand.proofs.Check.{fine-asked}
 use Rattle.records.specs.Bytes.{whole, bytes, laid}
 use Rattle.records.proofs.Bytes.{bytes-size}
 use Rattle.planner.proofs.Planned.{no-room, room, written-outcome, written-bytes}
-use Rattle.work.specs.Level.{Sized}
-use Rattle.work.specs.Labelled.{Labelled}
+use Rattle.board.specs.Level.{Sized}
+use Rattle.board.specs.Labelled.{Labelled}
 use Rattle.quiet_rule.specs.Limit.{band, busiest}
 use Rattle.quiet_rule.specs.Quiet.{pairs, quietPlan}
 use Rattle.quiet_rule.proofs.Quiet.{quiet-total, quiet-empty-slots, quiet-records}

@@ -1,6 +1,6 @@
 -- Record by record: what is done and what is still to come are always the whole plan, until the hold is 0.
 use mathlib.Core.Path.{_≡_, ap, subst}
-use mathlib.Core.List.{List, [], _∷_}
+use mathlib.Core.List.{List}
 use Prim.Native.Nat.{ℕ, _+_, _≤_, _<_}
 use native.Mathlib.Nat.{mul-le-mul}
 use native.Mathlib.Omega.{arith}

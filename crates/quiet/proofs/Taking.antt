@@ -12,22 +12,22 @@ use lib.Seq.{ext-getD}
 use lib.Dec.{ltb}
 use borrow.Author.Tests.{lt-ltb, le-ltb}
 use Rattle.switch.specs.Demand.{cell}
-use Rattle.labels.specs.Label.{digit, In}
-use Rattle.labels.proofs.Digits.{digit-lt, digit-in}
-use Rattle.labels.proofs.Words.{low}
+use Rattle.sets.specs.Label.{digit, In}
+use Rattle.sets.proofs.Digits.{digit-lt, digit-in}
+use Rattle.sets.proofs.Words.{low}
 use Rattle.rules.specs.Peel.{peel, peelTo}
 use Rattle.rules.specs.Exact.{tab}
 use Rattle.rules.proofs.Peel.{length-peelTo, peelTo-joined, peelTo-idle, peelTo-after, peelTo-done}
 use Rattle.rules.proofs.Peels.{length-tab, getD-tab}
-use Rattle.work.specs.Level.{outOf}
+use Rattle.board.specs.Level.{outOf}
 use Rattle.labels.specs.Rows.{rowOf}
-use Rattle.work.specs.Labelled.{TakePre, TakePost}
+use Rattle.board.specs.Labelled.{TakePre, TakePost}
 use Rattle.quiet_rule.specs.Quiet.{quietSetting, smallest, joinedCell, quietHold, pairs, quietRecord, quietRest, quietFrom}
 use Rattle.quiet_rule.proofs.Hold.{Smallest, joined-cell, idle-cell, pairs-none, smallest-none}
 use Rattle.quiet_rule.proofs.Quiet.{setting-hold}
 use Rattle.quiet_rule.proofs.QuietFrom.{setting-same, quiet-end, quiet-step, quiet-cong}
 use Rattle.quiet_setting.specs.Choosing.{asks, Rows}
-use Rattle.quiet.specs.Taking.{Loaded, Giving, Given, Subtracted, Ready, Stepped}
+use Rattle.quiet.specs.Taking.{Giving, Given, Subtracted, Ready, Stepped}
 
 -- ---- the cell of an input
 

@@ -5,7 +5,7 @@ use Prim.Native.Nat.{ℕ, _*_, _≤_, _<_}
 use lib.ListN.{length}
 use Rattle.switch.specs.Demand.{cell, longest}
 use Rattle.planner.specs.Planned.{shortage}
-use Rattle.work.specs.Level.{Sized}
+use Rattle.board.specs.Level.{Sized}
 use Rattle.quiet_rule.specs.Quiet.{quietPlan}
 use Rattle.quiet.specs.Taking.{Loaded}
 

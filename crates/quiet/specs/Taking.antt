@@ -6,8 +6,8 @@ use lib.ListN.{length, set}
 use Rattle.switch.specs.Demand.{cell}
 use Rattle.switch.specs.Plan.{Record, total}
 use Rattle.rules.specs.Peel.{peelTo}
-use Rattle.work.specs.Level.{Sized, outOf}
-use Rattle.work.specs.Labelled.{Labelled}
+use Rattle.board.specs.Level.{Sized, outOf}
+use Rattle.board.specs.Labelled.{Labelled}
 use Rattle.quiet_rule.specs.Quiet.{quietFrom}
 
 -- a working copy with its labels

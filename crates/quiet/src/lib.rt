@@ -2,6 +2,9 @@
 // It promises the whole answer and every byte of the lent plan, for any N, any cells and any limit: the refusals in order, all known
 // before the first byte is written, and else the plan that the rule on paper gives. The lent demand is only read.
 // How a setting is chosen is left to the crate below, and what the plan is worth, and how near it is to the shortest, to the rule's laws.
+use board::copy;
+use board::label_rows;
+use board::take;
 use demand::Checked;
 use demand::cell_at;
 use demand::check_demand;
@@ -16,9 +19,6 @@ use switch::Outcome;
 use switch::OutputPort;
 use switch::PORTS;
 use switch::Refusal;
-use work::copy;
-use work::label_rows;
-use work::take;
 ghost use mathlib.Core.Path.{_≡_};
 ghost use Prim.Native.Nat.{ℕ, _<_, _≤_};
 ghost use lib.ListN.{length};
@@ -31,7 +31,7 @@ ghost use Rattle.switch.specs.Result.{Gives};
 ghost use Rattle.demand.specs.Check.{checkDemand};
 ghost use Rattle.demand.specs.declared.Checked.the-variants.{Fine};
 ghost use Rattle.records.specs.Bytes.{bytes, laid};
-ghost use Rattle.work.specs.Level.{Sized, outOf};
+ghost use Rattle.board.specs.Level.{Sized, outOf};
 ghost use Rattle.quiet_rule.specs.Quiet.{lesser, smallest, joinedCell, pairs};
 ghost use Rattle.quiet.specs.Planned.{quietPlanned};
 ghost use Rattle.quiet.specs.Taking.{Giving, Given, Loaded, Subtracted, Ready, Stepped, leftover, Short};

@@ -9,7 +9,7 @@ use native.Mathlib.Omega.{arith}
 use lib.Dec.{eqb}
 use borrow.Author.Tests.{eq-eqb, ne-eqb}
 use Rattle.switch.specs.Demand.{cell}
-use Rattle.switch.specs.Plan.{Setting, Record}
+use Rattle.switch.specs.Plan.{Setting}
 use Rattle.switch.specs.Sound.{Each, none, more, Sound}
 use Rattle.rules.specs.Search.{put}
 use Rattle.rules.specs.Quick.{lowest, seat}

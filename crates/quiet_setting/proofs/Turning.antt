@@ -5,8 +5,8 @@ use Prim.Native.Nat.{ℕ, zero, suc, _+_, _-_, _*_, _/_, _%_, _^_, _≤_, _<_}
 use native.Mathlib.Nat.{mod-lt, mod-eq-of-lt, add-mod-right, mod-add-mod, div-add-mod', div-lt-iff-lt-mul, pow-suc, pow-le-pow-right}
 use native.Mathlib.Omega.{arith}
 use lib.Pow.{pow-pos}
-use Rattle.labels.specs.Label.{digit, In}
-use Rattle.labels.proofs.Digits.{digit-lt, digit-zero, digit-suc, digit-in, cat-low, same-set, same-or, below}
+use Rattle.sets.specs.Label.{digit, In}
+use Rattle.sets.proofs.Digits.{digit-lt, digit-zero, digit-suc, digit-in, cat-low, same-set, same-or, below}
 use Rattle.wavelengths.specs.Shared.{wavelength}
 use Rattle.quiet_setting.specs.Choosing.{Around}
 

@@ -12,9 +12,9 @@ use lib.Seq.{getD-set-same, getD-set-other}
 use lib.Dec.{T, leb}
 use borrow.Author.Tests.{eq-eqb, ne-eqb, le-leb, lt-leb}
 use Rattle.counting.proofs.Count.{δ-same, δ-other}
-use Rattle.labels.specs.declared.Label.{Label}
-use Rattle.labels.specs.Label.{digit, In, isIn, Marked, Union, But, LowestAt}
-use Rattle.labels.proofs.Digits.{digit-lt}
+use Rattle.sets.specs.declared.Label.{Label}
+use Rattle.sets.specs.Label.{digit, In, isIn, Marked, Union, But, LowestAt}
+use Rattle.sets.proofs.Digits.{digit-lt}
 use Rattle.wavelengths.specs.Shared.{wavelength}
 use Rattle.wavelengths.proofs.Shared.{wavelength-leads}
 use Rattle.rules.specs.Search.{put}

@@ -4,7 +4,7 @@ use mathlib.Core.Bool.{Bool, true, false}
 use mathlib.Core.List.{List}
 use Prim.Native.Nat.{ℕ, _+_, _-_, _%_, _≤_, _<_}
 use lib.ListN.{length, getD}
-use Rattle.labels.specs.Label.{digit, In, isIn, Marked}
+use Rattle.sets.specs.Label.{digit, In, isIn, Marked}
 use Rattle.wavelengths.specs.Shared.{wavelength}
 use Rattle.quiet_rule.specs.Limit.{lit}
 use Rattle.quiet_rule.specs.Quiet.{served}

@@ -2,8 +2,8 @@
 // outputs whose wavelength is full are a set that goes on by one place from input to input, so one pass for an input is one lowest bit.
 // It promises the setting of the rule on paper, for up to 64 ports and any limit. Which cells are left, and how long the setting is held, is
 // left to the crate above.
-use labels::Found;
-use labels::Label;
+use sets::Found;
+use sets::Label;
 use slot::idle_all;
 use switch::InputPort;
 use switch::OutputPort;
@@ -12,7 +12,7 @@ use wavelengths::wavelength_of;
 ghost use mathlib.Core.Path.{_≡_};
 ghost use Prim.Native.Nat.{ℕ, _+_, _<_, _≤_};
 ghost use lib.ListN.{length, getD};
-ghost use Rattle.labels.specs.Label.{In};
+ghost use Rattle.sets.specs.Label.{In};
 ghost use Rattle.quiet_rule.specs.Quiet.{quietSetting};
 ghost use Rattle.quiet_setting.specs.Choosing.{MarkedIf, Around, asks, Rows, Choosing};
 

@@ -9,6 +9,7 @@ use native.Mathlib.Decide.{decLt}
 use native.Mathlib.Omega.{arith}
 use lib.Dec.{eqb, ltb}
 use lib.ListN.{length, getD, length-drop}
+use lib.Seq.{getD-drop}
 use borrow.Author.Tests.{le-ltb, ne-eqb, ltb-true, eqb-true, eqb-false, not-true}
 use Rattle.switch.specs.Plan.{Record, output}
 use Rattle.switch.specs.Sound.{Sound}
@@ -19,10 +20,15 @@ use Rattle.records.proofs.Write.{encode-fine}
 use Rattle.records.proofs.Fine.{later-holds, later-early, inside-below, inside-idle, earlier, new-idle, new-first, outputs-decide}
 
 -- inside a list it does not matter what is read past its end
-getD-inside : (l : List ℕ) (i : ℕ) → i < length l → getD l i 255 ≡ getD l i 0
-getD-inside [] i h = absurd (not-suc-le-zero h)
-getD-inside (x ∷ l) zero h = refl
-getD-inside (x ∷ l) (suc i) h = getD-inside l i (le-of-suc-le-suc h)
+getD-inside : (l : List ℕ) (i a b : ℕ) → i < length l → getD l i a ≡ getD l i b
+getD-inside [] i a b h = absurd (not-suc-le-zero h)
+getD-inside (x ∷ l) zero a b h = refl
+getD-inside (x ∷ l) (suc i) a b h = getD-inside l i a b (le-of-suc-le-suc h)
+
+-- the output of input i stands i bytes behind the head of four
+pub output-byte : (b : List ℕ) (i : ℕ) → i + 4 < length b → output (decoded b) i ≡ getD b (4 + i) 0
+unfolding output
+output-byte b i l = getD-drop 4 b i 255 ∙ getD-inside b (4 + i) 255 0 (omega arith)
 
 -- what each test says
 module _ (N : ℕ) (o : List ℕ) (i : ℕ) where
@@ -50,7 +56,7 @@ once-of N o small once i k li lk b q =
 module _ (W N : ℕ) (r : Record) (size : length (r .outputs) ≡ W) (few : N ≤ W) (small : N ≤ 255) where
   at : (i : ℕ) → i < W → output r i ≡ getD (r .outputs) i 0
   unfolding output
-  at i l = getD-inside (r .outputs) i (omega arith)
+  at i l = getD-inside (r .outputs) i 255 0 (omega arith)
 
   pub sound-of : 0 < r .hold → outputsFine W N (r .outputs) ≡ true → Sound W N r
   unfolding outputsFine

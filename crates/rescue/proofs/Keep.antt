@@ -14,7 +14,8 @@ use Rattle.records.specs.Record.{hold, decoded, wellFormed}
 use Rattle.records.specs.Bytes.{recordAt}
 use Rattle.plans.specs.Reading.{Readable}
 use Rattle.plans.proofs.Pass.{total-next}
-use Rattle.grants.specs.Grants.{Blank, Grants, Granting, Granted}
+use Rattle.switch.specs.Demand.{Blank}
+use Rattle.grants.specs.Grants.{Grants, Granting, Granted}
 use Rattle.grants.proofs.Grant.{grants-none, grants-small}
 use Rattle.rescue_rule.specs.Rescue.{fine, keptTo}
 use Rattle.rescue_rule.proofs.Those.{those-none, those-pass, those-skip, length-pass}

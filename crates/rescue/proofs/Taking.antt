@@ -15,7 +15,7 @@ use Rattle.counting.proofs.Matrix.{row-cong}
 use Rattle.switch.specs.declared.Edition.{Edition}
 use Rattle.switch.specs.declared.Outcome.the-variants.{Done}
 use Rattle.switch.specs.Answer.{demandCounts}
-use Rattle.switch.specs.Demand.{cell, longest}
+use Rattle.switch.specs.Demand.{cell, longest, Blank}
 use Rattle.switch.specs.Editions.{Bounded}
 use Rattle.switch.specs.Plan.{Record, grant, total}
 use Rattle.switch.specs.Empty.{allSlots, beyond, emptySlots}
@@ -30,7 +30,6 @@ use Rattle.records.specs.Bytes.{whole, bytes, laid}
 use Rattle.plans.specs.Reading.{Readable}
 use Rattle.planner.specs.Planned.{shortage}
 use Rattle.planner.proofs.Planned.{fits-room, lacks-room}
-use Rattle.grants.specs.Grants.{Blank}
 use Rattle.peel.specs.Standing.{Cells}
 use Rattle.rescue_rule.specs.Rescue.{kept, droppedTo, dropped, tornTail, restOf, added, rescued, entryBytes}
 use Rattle.rescue_rule.proofs.Kept.{kept-dropped}

@@ -11,14 +11,13 @@ ghost use mathlib.Core.Path.{_≡_};
 ghost use mathlib.Core.List.{_++_};
 ghost use lib.ListN.{length};
 ghost use Prim.Native.Nat.{ℕ, _+_, _*_, _-_, _<_, _≤_};
-ghost use Rattle.switch.specs.Demand.{cell};
+ghost use Rattle.switch.specs.Demand.{cell, Blank};
 ghost use Rattle.switch.specs.Editions.{firstEdition, Bounded};
 ghost use Rattle.switch.specs.Empty.{beyond};
 ghost use Rattle.demand.specs.declared.Checked.the-variants.{Fine};
 ghost use Rattle.rules.specs.Exact.{exactPlan};
 ghost use Rattle.records.specs.Bytes.{whole, bytes, laid};
 ghost use Rattle.plans.specs.Reading.{Readable};
-ghost use Rattle.grants.specs.Grants.{Blank};
 ghost use Rattle.peel.specs.Standing.{Cells};
 ghost use Rattle.rescue_rule.specs.Rescue.{keptTo, keptAt, kept, dropped};
 ghost use Rattle.rescue.specs.Keeping.{Keeping, Left, Stocked, Taken, Known};
@@ -195,7 +194,7 @@ fn records_known(
     ensures { λ r. ⌜ ((W : ℕ) → n ≤ W → W ≤ 128 → Known most (kept + length (exactPlan W n (now (left .entry)))) r) ⌝ }
 {
     let square = n * n;
-    work::copy(&left[0..square], spare);
+    board::copy(&left[0..square], spare);
     kept + exact::short_of(spare, n, longest, behind(most, kept))
 }
 

@@ -6,11 +6,11 @@ use Prim.Native.Nat.{ℕ, _+_, _-_, _<_, _≤_}
 use native.Mathlib.Omega.{arith}
 use lib.ListN.{length, getD, set, length-set}
 use lib.Seq.{getD-set-same, getD-set-other}
-use Rattle.labels.specs.Label.{digit, In, Sub, Union, But, absent}
-use Rattle.labels.specs.Wide.{UntriedAt, Untried}
+use Rattle.sets.specs.Label.{digit, In, Sub, Union, But, absent}
+use Rattle.labels.specs.Ports.{UntriedAt, Untried}
 use Rattle.labels.specs.declared.FoundOutput.{FoundOutput}
 use Rattle.labels.specs.declared.FoundOutput.the-variants.{At, Nothing}
-use Rattle.labels.proofs.Digits.{same-or, absent-less}
+use Rattle.sets.proofs.Digits.{same-or, absent-less}
 use Rattle.switch.specs.declared.OutputPort.{OutputPort}
 use Rattle.search.specs.declared.Asked.{Asked}
 use Rattle.search.specs.declared.Asked.the-variants.{Freed, Stuck}

@@ -7,7 +7,7 @@ use native.Mathlib.Nat.{not-suc-le-zero, le-of-suc-le-suc}
 use native.Mathlib.Omega.{arith}
 use lib.ListN.{length, getD, set, length-set}
 use lib.Seq.{getD-set-same, getD-set-other}
-use Rattle.labels.proofs.Digits.{same-or}
+use Rattle.sets.proofs.Digits.{same-or}
 use Rattle.search.specs.Tables.{Held, Holds, joined, Matching}
 
 -- after a store at j, what stands at k is the value stored

@@ -6,12 +6,12 @@ use lib.ListN.{getD, set}
 use Prim.Native.Nat.{ℕ, _+_, _-_, _^_, _<_}
 use native.Mathlib.Decide.{decLt}
 use native.Mathlib.Omega.{arith}
-use Rattle.labels.specs.Label.{In, Sub, Cleared, Union}
-use Rattle.labels.specs.Wide.{two}
+use Rattle.sets.specs.Label.{In, Sub, Cleared, Union}
+use Rattle.sets.specs.Wide.{two}
 use Rattle.labels.specs.declared.FoundOutput.{FoundOutput}
 use Rattle.labels.specs.declared.FoundOutput.the-variants.{At, Nothing}
-use Rattle.labels.proofs.Digits.{same-or, digit-in}
-use Rattle.labels.proofs.Words.{low, high}
+use Rattle.sets.proofs.Digits.{same-or, digit-in}
+use Rattle.sets.proofs.Words.{low, high}
 use Rattle.switch.specs.declared.OutputPort.{OutputPort}
 use Rattle.search.specs.Tables.{Held}
 use Rattle.search.specs.Search.{Stays, Grown, Reaches, Further, Leads, Mover, Movable, Handed}

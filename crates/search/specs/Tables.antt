@@ -3,8 +3,8 @@ use mathlib.Core.Path.{_≡_}
 use mathlib.Core.List.{List}
 use Prim.Native.Nat.{ℕ, _+_, _<_, _≤_}
 use lib.ListN.{length, getD}
-use Rattle.labels.specs.Label.{In}
-use Rattle.labels.specs.Wide.{outputsOf}
+use Rattle.sets.specs.Label.{In}
+use Rattle.labels.specs.Ports.{outputsOf}
 use Rattle.labels.specs.Rows.{rowOf}
 use Rattle.search.specs.declared.Tried.{Tried}
 

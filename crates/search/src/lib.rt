@@ -2,18 +2,18 @@
 // The crate takes a label of outputs for each input and the tables of a matching, and promises that one of the outputs asked for is free
 // afterwards, with every input that held an output still holding one, or that none can be. Who asks for what, and in which order, is left
 // to the crate above.
-use labels::Found;
 use labels::FoundOutput;
-use labels::Label;
 use labels::Outputs;
 use labels::row_of;
+use sets::Found;
+use sets::Label;
 use switch::InputPort;
 use switch::OutputPort;
 ghost use mathlib.Core.Path.{_≡_};
 ghost use Prim.Native.Nat.{ℕ, _+_, _<_, _≤_};
 ghost use lib.ListN.{length, set};
-ghost use Rattle.labels.specs.Label.{In, Marked, Union};
-ghost use Rattle.labels.specs.Wide.{outputsOf, Untried};
+ghost use Rattle.sets.specs.Label.{In, Marked, Union};
+ghost use Rattle.labels.specs.Ports.{outputsOf, Untried};
 ghost use Rattle.search.specs.Tables.{triedOf, Allowed, Rows};
 ghost use Rattle.search.specs.Search.{Ports, Reaches, Leads, AskPre, Wave, AskPost, Tries, seenIn, Movable, Mover, Handed};
 

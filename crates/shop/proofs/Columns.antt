@@ -20,7 +20,7 @@ use Rattle.switch.specs.declared.Outcome.{Outcome}
 use Rattle.demand.specs.declared.Checked.the-variants.{Fine, Faulty}
 use Rattle.demand.specs.Check.{checkDemand}
 use Rattle.switch.specs.Result.{Gives}
-use Rattle.labels.specs.Label.{In, Marked}
+use Rattle.sets.specs.Label.{In, Marked}
 use Rattle.shop_rule.specs.Shop.{pairs, closed, shopPlan}
 use Rattle.shop_rule.proofs.Begin.{pairs-none, pairs-one}
 use Rattle.shop_rule.proofs.Count.{shop-length}

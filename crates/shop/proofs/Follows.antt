@@ -3,7 +3,7 @@ use mathlib.Core.Path.{_≡_, refl, sym, ap, ap₂, _∙_, subst}
 use mathlib.Core.Logic.{_≢_, _⊎_, inl, inr}
 use mathlib.Core.List.{List, [], _∷_, _++_}
 use Prim.Native.Nat.{ℕ, _+_, _*_, _≤_, _<_, max}
-use native.Mathlib.Decide.{ℕ-discrete, decLt}
+use native.Mathlib.Decide.{ℕ-discrete}
 use native.Mathlib.Omega.{arith}
 use lib.ListN.{length, getD, set, length-append}
 use lib.Seq.{getD-set-same, getD-set-other}
@@ -12,7 +12,7 @@ use lib.Dec.{T}
 use borrow.Author.Tests.{lt-ltb, le-ltb, le-leb, lt-leb}
 use Rattle.switch.specs.Demand.{cell}
 use Rattle.switch.proofs.Demand.{index-small}
-use Rattle.labels.specs.Label.{In, digit, Cleared}
+use Rattle.sets.specs.Label.{In, digit, Cleared}
 use Rattle.records.specs.Bytes.{laid}
 use Rattle.records.proofs.Laid.{laid-more, length-laid}
 use Rattle.rules.specs.Search.{put}

@@ -7,7 +7,7 @@ use native.Mathlib.Decide.{ℕ-discrete}
 use native.Mathlib.Numerals.{add-one}
 use native.Mathlib.Omega.{arith}
 use lib.ListN.{getD}
-use Rattle.labels.specs.Label.{In, Marked, Common, LowestAt}
+use Rattle.sets.specs.Label.{In, Marked, Common, LowestAt}
 use Rattle.shop_rule.specs.Shop.{sooner, next}
 use Rattle.shop.specs.Sets.{CommonAt}
 use Rattle.shop.specs.Kept.{Idle}

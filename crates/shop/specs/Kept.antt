@@ -4,7 +4,7 @@ use mathlib.Core.List.{List}
 use Prim.Native.Nat.{ℕ, _+_, _*_, _<_, _≤_}
 use lib.ListN.{length, getD}
 use Rattle.switch.specs.Demand.{cell, longest}
-use Rattle.labels.specs.Label.{In}
+use Rattle.sets.specs.Label.{In}
 use Rattle.records.specs.Bytes.{laid}
 use Rattle.shop_rule.specs.Task.{latest}
 use Rattle.shop_rule.specs.Shop.{Shop, turn, turns, closed, shopPlan}

@@ -2,7 +2,7 @@
 use Prim.Native.Nat.{ℕ, _<_}
 use Rattle.labels.specs.declared.FoundInput.{FoundInput}
 use Rattle.labels.specs.declared.FoundInput.the-variants.{At, Nothing}
-use Rattle.labels.specs.Label.{In}
+use Rattle.sets.specs.Label.{In}
 use Rattle.shop.specs.declared.InputSet.{InputSet}
 
 abbrev pub numbersOf : InputSet → ℕ

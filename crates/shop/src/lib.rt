@@ -4,9 +4,9 @@
 // and for each port the time at which it is idle again; the demand is only read. The layout of a task is left to the crate below.
 use demand::Checked;
 use demand::check_demand;
-use labels::Found;
 use labels::FoundInput;
-use labels::Label;
+use sets::Found;
+use sets::Label;
 use switch::Counts;
 use switch::InputPort;
 use switch::Outcome;
@@ -22,7 +22,7 @@ ghost use lib.ListN.{length, getD};
 ghost use Rattle.counting.specs.Sum.{sum};
 ghost use Rattle.switch.specs.Demand.{cell, longest};
 ghost use Rattle.switch.specs.Result.{Gives};
-ghost use Rattle.labels.specs.Label.{In, Marked, Cleared};
+ghost use Rattle.sets.specs.Label.{In, Marked, Cleared};
 ghost use Rattle.shop_rule.specs.Shop.{pairs, sooner, next, shopPlan};
 ghost use Rattle.shop.specs.Shopped.{roomFor, shopped};
 ghost use Rattle.shop.specs.Sets.{numbersOf, LowestCommon};

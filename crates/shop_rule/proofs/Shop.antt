@@ -4,7 +4,7 @@ use mathlib.Core.Path.{_≡_, refl}
 use mathlib.Core.Logic.{_⊎_, inl, inr}
 use mathlib.Core.Bool.{cond}
 use mathlib.Core.List.{List}
-use Prim.Native.Nat.{ℕ, zero, suc, _+_, _*_, _-_, _≤_, _<_}
+use Prim.Native.Nat.{ℕ, zero, suc, _*_, _-_, _≤_, _<_}
 use native.Mathlib.Decide.{decLt}
 use native.Mathlib.Omega.{arith}
 use lib.Dec.{ltb}
@@ -15,7 +15,7 @@ use Rattle.counting.proofs.Sum.{sum-mono, sum-const, sum-none}
 use Rattle.switch.specs.Demand.{cell, longest}
 use Rattle.switch.proofs.Demand.{row-le-longest, col-le-longest}
 use Rattle.shop_rule.specs.Task.{Task, Each, none, Ordered, nothing, Rises, Apart, times, latest}
-use Rattle.shop_rule.specs.Shop.{pairs, lasting, timed, Runs, Shop, turns, next, moments, closed, shopPlan}
+use Rattle.shop_rule.specs.Shop.{pairs, timed, Runs, Shop, turns, next, moments, closed, shopPlan}
 use Rattle.shop_rule.proofs.Task.{each-map, latest-le}
 use Rattle.shop_rule.proofs.Begin.{pairs-none, pairs-le, ahead, undone}
 use Rattle.shop_rule.proofs.Next.{Next, next-is}

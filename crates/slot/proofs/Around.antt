@@ -7,8 +7,8 @@ use native.Mathlib.Omega.{arith}
 use lib.ListN.{length, getD, length-set}
 use lib.Seq.{getD-set-other}
 use Rattle.switch.specs.Demand.{cell}
-use Rattle.labels.specs.Label.{In, Sub, Cleared, Below, From, LowestAt}
-use Rattle.labels.specs.Wide.{inputsOf, outputsOf}
+use Rattle.sets.specs.Label.{In, Sub, Cleared, Below, From, LowestAt}
+use Rattle.labels.specs.Ports.{inputsOf, outputsOf}
 use Rattle.slot.specs.declared.Turn.{Turn}
 use Rattle.slot.specs.Filled.{Copy, Waiting, Turned, Visited, none, next}
 use Rattle.slot.proofs.Visits.{Visiting, visiting-none, visiting-next, visiting-skips}

@@ -17,8 +17,8 @@ use Rattle.switch.specs.Demand.{cell}
 use Rattle.switch.proofs.Demand.{set-lowered}
 use Rattle.labels.specs.declared.Inputs.{Inputs}
 use Rattle.labels.specs.declared.Outputs.{Outputs}
-use Rattle.labels.specs.Label.{digit, In, Cleared, Common, LowestAt}
-use Rattle.labels.specs.Wide.{inputsOf, outputsOf}
+use Rattle.sets.specs.Label.{digit, In, Cleared, Common, LowestAt}
+use Rattle.labels.specs.Ports.{inputsOf, outputsOf}
 use Rattle.rules.specs.Search.{put}
 use Rattle.rules.specs.Peel.{peel}
 use Rattle.rules.specs.Quick.{may}
@@ -26,7 +26,7 @@ use Rattle.rules.proofs.Ports.{put-same, put-other}
 use Rattle.rules.proofs.Peel.{peel-at, peel-off}
 use Rattle.rules.proofs.Slot.{lowest-at, lowest-none, may-yes, may-is}
 use Rattle.slot.specs.declared.Turn.{Turn}
-use Rattle.work.specs.Labelled.{RowOf, TakePost}
+use Rattle.board.specs.Labelled.{RowOf, TakePost}
 use Rattle.slot.specs.Filled.{leftIn, Copy, takenOf, turnOf, Turned, StillAsking}
 
 -- ---- sets and tests

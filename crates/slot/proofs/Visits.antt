@@ -13,8 +13,8 @@ use lib.Seq.{getD-set-same, getD-set-other, ext-getD}
 use Rattle.counting.specs.Count.{δ}
 use Rattle.switch.specs.Demand.{cell}
 use Rattle.switch.specs.Plan.{Record}
-use Rattle.labels.specs.Label.{In}
-use Rattle.labels.specs.Wide.{outputsOf}
+use Rattle.sets.specs.Label.{In}
+use Rattle.labels.specs.Ports.{outputsOf}
 use Rattle.rules.specs.Search.{put}
 use Rattle.rules.specs.Peel.{peel}
 use Rattle.rules.specs.Exact.{tab}

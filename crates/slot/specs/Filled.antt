@@ -8,15 +8,15 @@ use Rattle.counting.specs.Sum.{sum}
 use Rattle.counting.specs.Matrix.{row}
 use Rattle.switch.specs.Demand.{cell}
 use Rattle.switch.specs.Plan.{Record}
-use Rattle.labels.specs.Label.{In, isIn, Sub, Cleared, LowestAt}
-use Rattle.labels.specs.Wide.{inputsOf, outputsOf}
+use Rattle.sets.specs.Label.{In, isIn, Sub, Cleared, LowestAt}
+use Rattle.labels.specs.Ports.{inputsOf, outputsOf}
 use Rattle.rules.specs.Search.{put}
 use Rattle.rules.specs.Peel.{peel}
 use Rattle.rules.specs.Quick.{lowest, may, quickFrom}
 use Rattle.slot.specs.declared.Rest.{Rest}
 use Rattle.slot.specs.declared.Turn.{Turn}
-use Rattle.work.specs.Level.{Sized}
-use Rattle.work.specs.Labelled.{Labelled}
+use Rattle.board.specs.Level.{Sized}
+use Rattle.board.specs.Labelled.{Labelled}
 
 -- how many slots are left in all
 unfoldable pub leftIn : ℕ → List ℕ → ℕ

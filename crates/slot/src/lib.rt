@@ -2,6 +2,7 @@
 // takes the lowest output that is free and that it has slots left for (§8.1). Inputs without any are passed over, by a set of those that may ask.
 // It promises that what was still to come is this slot's record and what is still to come of the cells it leaves, for any number of ports
 // up to 128. When the slots end and where their records go is left to the crate above.
+use board::take;
 use labels::FoundInput;
 use labels::FoundOutput;
 use labels::Inputs;
@@ -9,11 +10,10 @@ use labels::Outputs;
 use labels::row_of;
 use records::IDLE;
 use switch::InputPort;
-use work::take;
 ghost use mathlib.Core.Path.{_≡_};
 ghost use Prim.Native.Nat.{ℕ, _<_, _≤_};
 ghost use lib.ListN.{length, getD};
-ghost use Rattle.labels.specs.Wide.{inputsOf, outputsOf};
+ghost use Rattle.labels.specs.Ports.{inputsOf, outputsOf};
 ghost use Rattle.slot.specs.Filled.{Copy, Waiting, Turned, Visited, StillAsking, Filled};
 
 // What is left to serve: no input but these has slots left, and so many slots are left in all.

@@ -6,7 +6,6 @@ use lib.Dec.{eqb}
 use borrow.Author.Tests.{eq-eqb}
 use Rattle.switch.specs.Answer.{codeOf, countsOf, numbersOf}
 use Rattle.switch.specs.declared.Numbers.{Numbers}
-use Rattle.switch.specs.declared.Side.{Side}
 use Rattle.switch.specs.declared.Side.the-variants.{Input, Output}
 use Rattle.switch.specs.declared.Refusal.{Refusal}
 use Rattle.switch.specs.declared.Refusal.the-variants.{Ports, Cells, Line, Longest, Room, NotFinite, BelowZero, AboveMost}

@@ -1,10 +1,12 @@
 -- The laws of cells and lines: a cell's index tells its pair, and the 2N lines are the rows and then the columns.
 use mathlib.Core.Path.{_≡_, sym, ap, ap₂, _∙_}
 use mathlib.Core.List.{List, _++_}
+use mathlib.Core.Logic.{dite}
 use Prim.Native.Nat.{ℕ, zero, suc, _+_, _*_, _-_, _/_, _%_, _≤_, _<_, max}
 use native.Mathlib.Omega.{arith}
+use native.Mathlib.Decide.{decLt}
 use native.Mathlib.Nat.{mul-le-mul, mod-lt, div-lt-iff-lt-mul}
-use lib.ListN.{getD, length, set, List·getD-append}
+use lib.ListN.{getD, length, set, replicate, length-replicate, getD-replicate, List·getD-eq-default, List·getD-append}
 use lib.Seq.{getD-set-same, getD-set-other}
 use lib.Arith.{digits-div, digits-mod, digits-lt}
 use borrow.Author.Tests.{lt-ltb, le-ltb}
@@ -12,7 +14,7 @@ use Rattle.counting.specs.Sum.{most}
 use Rattle.counting.specs.Matrix.{row, col}
 use Rattle.counting.proofs.Most.{most-at, most-le, most-cong, most-split}
 use Rattle.counting.proofs.Matrix.{Raised}
-use Rattle.switch.specs.Demand.{cell, line, longest}
+use Rattle.switch.specs.Demand.{cell, line, longest, Blank}
 
 -- ---- cells
 
@@ -89,3 +91,12 @@ pub longest-is : (N : ℕ) (d : List ℕ) → most (N + N) (line N d) ≡ longes
 unfolding longest
 longest-is N d = most-split N N (line N d)
     ∙ ap₂ max (most-cong N (line N d) (row N (cell N d)) (line-row N d)) (most-cong N (λ j. line N d (N + j)) (col N (cell N d)) (λ j _. line-col N d j))
+
+-- ---- lent room
+
+-- an array of zeros is blank
+pub blank-zeros : (m : ℕ) → Blank m (replicate m 0)
+blank-zeros m = record {
+  room = omega (arith, length-replicate {A = ℕ} m 0);
+  clear = λ k. dite (decLt k m) (getD-replicate m k 0 0) (λ g. List·getD-eq-default (replicate m 0) 0 (omega (arith, g, length-replicate {A = ℕ} m 0)));
+}

@@ -3,11 +3,12 @@ use mathlib.Core.Path.{_≡_, ap}
 use mathlib.Core.List.{List}
 use Prim.Native.Nat.{ℕ, _+_, _*_, _-_, _≤_, _<_}
 use native.Mathlib.Omega.{arith}
+use lib.ListN.{getD}
 use Rattle.counting.specs.Sum.{sum}
 use Rattle.counting.specs.Count.{δ}
 use Rattle.counting.specs.Matrix.{row}
-use Rattle.counting.proofs.Sum.{sum-cong, sum-mono, sum-add, sum-mul, sum-const, sum-none}
-use Rattle.switch.specs.Demand.{longest}
+use Rattle.counting.proofs.Sum.{sum-cong, sum-mono, sum-add, sum-mul, sum-const, sum-none, sum-rows}
+use Rattle.switch.specs.Demand.{cell, longest}
 use Rattle.switch.specs.Plan.{Record, output, grant, total, Covers}
 use Rattle.switch.specs.Empty.{allSlots, beyond, emptySlots, AllFull, none, more}
 use Rattle.switch.proofs.Demand.{row-le-longest}
@@ -17,6 +18,11 @@ use Rattle.switch.proofs.Plan.{full-row}
 pub asked-most : (N : ℕ) (M : ℕ → ℕ → ℕ) → allSlots N M ≤ N * longest N M
 unfolding allSlots
 asked-most N M = omega (arith, sum-mono N (row N M) (λ _. longest N M) (row-le-longest N M), sum-const N (longest N M))
+
+-- over all cells, granted less asked: one pass over the two lists
+pub beyond-cells : (N : ℕ) (d g : List ℕ) → sum (N * N) (λ k. getD g k 0 - getD d k 0) ≡ beyond N (cell N d) (cell N g)
+unfolding beyond row cell
+beyond-cells N d g = sum-rows N N (λ k. getD g k 0 - getD d k 0)
 
 module _ (N : ℕ) (M : ℕ → ℕ → ℕ) (p : List Record) where
   -- a plan that covers grants what was asked, and the empty slots

@@ -15,7 +15,7 @@ use Rattle.counting.proofs.Sum.{sum-zero, sum-next, sum-cong, sum-mono, sum-con
 use Rattle.counting.proofs.Most.{most-at, most-le, most-one, most-cong}
 use Rattle.counting.proofs.Count.{ind-le, δ-same, δ-other}
 use Rattle.switch.specs.Plan.{Record, output}
-use Rattle.grants.specs.Grants.{Blank}
+use Rattle.switch.specs.Demand.{Blank}
 use Rattle.wavelengths.specs.Shared.{wavelength, uses, sharing, mostShared, MostShared, Shares}
 
 -- ---- wavelengths

@@ -18,7 +18,7 @@ ghost use Rattle.counting.specs.Sum.{most};
 ghost use Rattle.records.specs.Record.{decoded};
 ghost use Rattle.records.specs.Bytes.{whole, planFrom, laid};
 ghost use Rattle.switch.specs.Editions.{firstEdition};
-ghost use Rattle.grants.specs.Grants.{Blank};
+ghost use Rattle.switch.specs.Demand.{Blank};
 ghost use Rattle.wavelengths.specs.Shared.{wavelength, mostShared, gratingReport, Shares};
 ghost use Rattle.wavelengths.specs.Report.{reported};
 

@@ -11,10 +11,10 @@ use mathlib.Core.Logic.{inl, inr}
 use lib.Dec.{eqb}
 use lib.ListN.{replicate, length-replicate, getD-replicate}
 use borrow.Author.Tests.{eqb-true, eqb-false, eq-eqb, ne-eqb}
-use Rattle.labels.specs.Label.{digit, isIn, Marked}
-use Rattle.labels.specs.Wide.{two}
+use Rattle.sets.specs.Label.{digit, isIn, Marked}
+use Rattle.sets.specs.Wide.{two}
 use Rattle.labels.specs.Rows.{rowOf, RowPut}
-use Rattle.labels.proofs.Digits.{none-digit}
+use Rattle.sets.proofs.Digits.{none-digit}
 use Rattle.wishes.specs.declared.WishRecord.{WishRecord}
 use Rattle.wishes.specs.Record.{recordAt, samePair, names}
 use Rattle.wishes.specs.Fault.{named, NamedBy, faultOf, faultAt}

@@ -4,7 +4,7 @@ use mathlib.Core.Bool.{Bool, _||_}
 use mathlib.Core.List.{List}
 use mathlib.Core.Path.{_≡_}
 use lib.ListN.{length, getD}
-use Rattle.labels.specs.Label.{isIn}
+use Rattle.sets.specs.Label.{isIn}
 use Rattle.labels.specs.Rows.{rowOf}
 use Rattle.wishes.specs.Record.{samePair}
 use Rattle.wishes.specs.Fault.{named}

@@ -30,15 +30,6 @@ all-first c =
     let f = fits (c .before .before) in
     c .grant-plan .ensures .0 .records ∙ first-formed _ _ _ (p10 .pre .0) _ (f .judged) _ (f .inside)
 
-fault-of-requires : tie.Need-fault-of-requires
-fault-of-requires c κs = search needs
-
-enum-told : tie.Need-enum-told
-enum-told c = search needs
-
-enum-told-2 : tie.Need-enum-told-2
-enum-told-2 c = search needs
-
 returns : tie.Need-returns
 returns c =
     let p8 = c .before .before .before .before .before .before .before .before in
@@ -74,12 +65,6 @@ mul-square c =
     let l : s .args .n ≤ 128 = omega (arith, fits p8 .few, s .pre .0 .ports, s .pre .0 .width) in
     omega (arith, mul-le-mul l l)
 
-sub-write-sum : tie.Need-sub-write-sum
-sub-write-sum c = search needs
-
-part-write-sum-start : tie.Need-part-write-sum-start
-part-write-sum-start c = search needs
-
 part-write-sum-end : tie.Need-part-write-sum-end
 part-write-sum-end c =
     let p7 = c .before .before .before .before .before .before .before in
@@ -97,12 +82,6 @@ write-sum-requires c κs =
     let new = renewed-all _ _ _ _ _ _ (f .asked-size) granted (p5 .renew .ensures) in
     let size = ap length new ∙ new-size _ _ _ _ in
     (record { few = omega (arith, f .few, s .pre .0 .ports, s .pre .0 .width); room = omega (arith, size) }, omega (arith, size, f .room-size))
-
-same-length : tie.Need-same-length
-same-length c = search needs
-
-same-length-2 : tie.Need-same-length-2
-same-length-2 c = search needs
 
 returns-2 : tie.Need-returns-2
 returns-2 c =
@@ -125,17 +104,5 @@ pub carry-for-spec : {M : Type 1} → statement M
 carry-for-spec =
     tie.close
     (tie.spec
-    fault-of-requires
-    enum-told
-    enum-told-2
-    returns
-    grant-plan-requires
-    renew-requires
-    mul-square
-    sub-write-sum
-    part-write-sum-start
-    part-write-sum-end
-    write-sum-requires
-    same-length
-    same-length-2
-    returns-2)
+    (λ c κs. search needs) (λ c. search needs) (λ c. search needs) returns grant-plan-requires renew-requires mul-square (λ c. search needs)
+    (λ c. search needs) part-write-sum-end write-sum-requires (λ c. search needs) (λ c. search needs) returns-2)

@@ -8,22 +8,10 @@ use Rattle.carry.proofs.fault_after.Tie as tie
 returns : tie.Need-returns
 returns c = first-over _ _ _ _ _ (c .if1 .taken)
 
-lines-of-requires : tie.Need-lines-of-requires
-lines-of-requires c κs = search needs
-
-enum-told : tie.Need-enum-told
-enum-told c = search needs
-
-enum-told-2 : tie.Need-enum-told-2
-enum-told-2 c = search needs
-
 returns-2 : tie.Need-returns-2
 returns-2 c =
     let e = c .enum-told2 .given .1 in
     e ∙ asked-refused _ _ _ _ _ (c .before .before .before .if1 .left) _ _ (sym e ∙ c .before .before .lines-of .ensures)
-
-lines-of-requires-2 : tie.Need-lines-of-requires-2
-lines-of-requires-2 c κs = search needs
 
 returns-3 : tie.Need-returns-3
 returns-3 c =
@@ -34,10 +22,4 @@ pub fault-after-spec : {M : Type 1} → statement M
 fault-after-spec =
     tie.close
     (tie.spec
-    returns
-    lines-of-requires
-    enum-told
-    enum-told-2
-    returns-2
-    lines-of-requires-2
-    returns-3)
+    returns (λ c κs. search needs) (λ c. search needs) (λ c. search needs) returns-2 (λ c κs. search needs) returns-3)

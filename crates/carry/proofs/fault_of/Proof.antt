@@ -35,15 +35,6 @@ returns-5 c =
     let ports = some-ports _ _ (omega arith) (c .before .before .before .if2 .left) in
     fault-room _ _ _ _ _ _ _ ports (c .before .before .if3 .left) (c .before .if4 .left) (c .if5 .taken)
 
-check-plan-requires : tie.Need-check-plan-requires
-check-plan-requires c κs = search needs
-
-enum-known-r : tie.Need-enum-known-r
-enum-known-r c = search needs
-
-enum-known-counts : tie.Need-enum-known-counts
-enum-known-counts c = search needs
-
 fault-after-requires : tie.Need-fault-after-requires
 fault-after-requires c κs =
     let p5 = c .before .before .before .before .before in
@@ -86,15 +77,5 @@ pub fault-of-spec : {M : Type 1} → statement M
 fault-of-spec =
     tie.close
     (tie.spec
-    returns
-    returns-2
-    mul-square
-    returns-3
-    returns-4
-    returns-5
-    check-plan-requires
-    enum-known-r
-    enum-known-counts
-    fault-after-requires
-    returns-6
-    returns-7)
+    returns returns-2 mul-square returns-3 returns-4 returns-5 (λ c κs. search needs) (λ c. search needs) (λ c. search needs) fault-after-requires
+    returns-6 returns-7)

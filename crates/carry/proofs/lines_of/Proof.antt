@@ -5,15 +5,6 @@ use borrow.Author.Needs.{needs}
 use Rattle.carry.proofs.lines_of.Statement.{statement}
 use Rattle.carry.proofs.lines_of.Tie as tie
 
-check-lines-requires : tie.Need-check-lines-requires
-check-lines-requires c κs = search needs
-
-enum-known-r : tie.Need-enum-known-r
-enum-known-r c = search needs
-
-enum-told : tie.Need-enum-told
-enum-told c = search needs
-
 returns : tie.Need-returns
 returns c = lines-faulty _ _ _ (sym (c .before .r .given .1) ∙ c .before .before .before .check-lines .ensures)
 
@@ -21,11 +12,4 @@ returns-2 : tie.Need-returns-2
 returns-2 c = lines-fine _ _ _ (sym (c .enum-told .given .1) ∙ c .before .before .check-lines .ensures)
 
 pub lines-of-spec : {M : Type 1} → statement M
-lines-of-spec =
-    tie.close
-    (tie.spec
-    check-lines-requires
-    enum-known-r
-    enum-told
-    returns
-    returns-2)
+lines-of-spec = tie.close (tie.spec (λ c κs. search needs) (λ c. search needs) (λ c. search needs) returns returns-2)

@@ -17,23 +17,8 @@ abbrev μ-loop : tie.MeasureT-loop
 loop-holds : tie.Need-loop-holds Inv-loop μ-loop
 loop-holds c = (refl, omega arith, turned-none _ _ _)
 
-mul-less : tie.Need-mul-less Inv-loop μ-loop
-mul-less c = search needs
-
-shared-slice-read-less : tie.Need-shared-slice-read-less Inv-loop μ-loop
-shared-slice-read-less c = search needs
-
-mul-less-2 : tie.Need-mul-less-2 Inv-loop μ-loop
-mul-less-2 c = search needs
-
 slice-read-less : tie.Need-slice-read-less Inv-loop μ-loop
 slice-read-less c = omega (arith, c .before .before .before .loop .inv .2 .size, c .before .before .before .before .before .before .before .pre .room)
-
-less-requires : tie.Need-less-requires Inv-loop μ-loop
-less-requires c κs = search needs
-
-mul-granted : tie.Need-mul-granted Inv-loop μ-loop
-mul-granted c = search needs
 
 shared-slice-read-granted : tie.Need-shared-slice-read-granted Inv-loop μ-loop
 shared-slice-read-granted c = omega (arith, c .before .before .before .before .before .before .before .before .before .pre .size)
@@ -44,20 +29,11 @@ add-granted c =
     let p9 = p5 .before .before .before .before in
     omega (arith, c .before .less .ensures, p9 .pre .small (p5 .loop .k) (omega arith))
 
-mul-granted-2 : tie.Need-mul-granted-2 Inv-loop μ-loop
-mul-granted-2 c = search needs
-
 slice-write-granted : tie.Need-slice-write-granted Inv-loop μ-loop
 slice-write-granted c =
     let p5 = c .before .before .before .before .before in
     let p9 = p5 .before .before .before .before in
     omega (arith, p5 .loop .inv .2 .size, p9 .pre .room)
-
-add-k : tie.Need-add-k Inv-loop μ-loop
-add-k c = search needs
-
-loop-less : tie.Need-loop-less Inv-loop μ-loop
-loop-less c = search needs
 
 loop-again : tie.Need-loop-again Inv-loop μ-loop
 loop-again c =
@@ -76,21 +52,6 @@ pub renew-spec : {M : Type 1} → statement M
 renew-spec =
     tie.close
     (tie.spec
-    Inv-loop
-    μ-loop
-    loop-holds
-    mul-less
-    shared-slice-read-less
-    mul-less-2
-    slice-read-less
-    less-requires
-    mul-granted
-    shared-slice-read-granted
-    add-granted
-    mul-granted-2
-    slice-write-granted
-    add-k
-    loop-less
-    loop-again
-    same-length
+    Inv-loop μ-loop loop-holds (λ c. search needs) (λ c. search needs) (λ c. search needs) slice-read-less (λ c κs. search needs) (λ c. search needs)
+    shared-slice-read-granted add-granted (λ c. search needs) slice-write-granted (λ c. search needs) (λ c. search needs) loop-again same-length
     returns)

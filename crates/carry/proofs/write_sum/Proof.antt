@@ -6,25 +6,10 @@ use borrow.Author.Needs.{needs}
 use Rattle.carry.proofs.write_sum.Statement.{statement}
 use Rattle.carry.proofs.write_sum.Tie as tie
 
-lines-of-requires : tie.Need-lines-of-requires
-lines-of-requires c κs = search needs
-
-enum-told : tie.Need-enum-told
-enum-told c = search needs
-
-enum-told-2 : tie.Need-enum-told-2
-enum-told-2 c = search needs
-
 returns : tie.Need-returns
 returns c =
     let a = c .before .before .before .before .before .args in
     (c .before .before .lines-of .ensures, sym (ap (λ (x : Carried). cellsAfter x (a .sum .now) (a .cells .now)) (c .enum-told2 .given .1)))
-
-copy-requires : tie.Need-copy-requires
-copy-requires c κs = search needs
-
-same-length : tie.Need-same-length
-same-length c = search needs
 
 returns-2 : tie.Need-returns-2
 returns-2 c =
@@ -38,10 +23,4 @@ pub write-sum-spec : {M : Type 1} → statement M
 write-sum-spec =
     tie.close
     (tie.spec
-    lines-of-requires
-    enum-told
-    enum-told-2
-    returns
-    copy-requires
-    same-length
-    returns-2)
+    (λ c κs. search needs) (λ c. search needs) (λ c. search needs) returns (λ c κs. search needs) (λ c. search needs) returns-2)

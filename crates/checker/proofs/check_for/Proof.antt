@@ -6,15 +6,6 @@ use borrow.Author.Needs.{needs}
 use Rattle.checker.proofs.check_for.Statement.{statement}
 use Rattle.checker.proofs.check_for.Tie as tie
 
-check-demand-requires : tie.Need-check-demand-requires
-check-demand-requires c κs = search needs
-
-enum-known-r : tie.Need-enum-known-r
-enum-known-r c = search needs
-
-enum-known-longest : tie.Need-enum-known-longest
-enum-known-longest c = search needs
-
 check-records-requires : tie.Need-check-records-requires
 check-records-requires c κs =
     let p = c .before .before .before .before .before .before .before .before .pre in
@@ -24,9 +15,6 @@ check-records-requires c κs =
 returns : tie.Need-returns
 returns c = check-faulty _ _ _ _ (sym (c .before .r .given .1) ∙ c .before .before .before .check-demand .ensures)
 
-same-length : tie.Need-same-length
-same-length c = search needs
-
 returns-2 : tie.Need-returns-2
 returns-2 c = c .before .before .check-records .ensures ∙ check-fine _ _ _ _ (sym (c .before .before .before .before .before .longest .given .1) ∙ c .before .before .before .before .before .before .before .check-demand .ensures)
 
@@ -34,10 +22,4 @@ pub check-for-spec : {M : Type 1} → statement M
 check-for-spec =
     tie.close
     (tie.spec
-    check-demand-requires
-    enum-known-r
-    enum-known-longest
-    check-records-requires
-    returns
-    same-length
-    returns-2)
+    (λ c κs. search needs) (λ c. search needs) (λ c. search needs) check-records-requires returns (λ c. search needs) returns-2)

@@ -1,15 +1,9 @@
 -- The second edition keeps to the bounds of every edition, and has 128 × 128 pairs.
 use Rattle.switch.proofs.Editions.{second-bounded}
-use Rattle.grants.proofs.Grant.{blank-zeros}
+use Rattle.switch.proofs.Demand.{blank-zeros}
 use borrow.Author.Needs.{needs}
 use Rattle.checker.proofs.check_plan_second.Statement.{statement}
 use Rattle.checker.proofs.check_plan_second.Tie as tie
-
-second-edition-requires : tie.Need-second-edition-requires
-second-edition-requires c κs = search needs
-
-slice-aggregate-check-for : tie.Need-slice-aggregate-check-for
-slice-aggregate-check-for c = search needs
 
 check-for-requires : tie.Need-check-for-requires
 check-for-requires c κs = rw (c .before .second-edition .ensures) (second-bounded, blank-zeros 16384)
@@ -20,4 +14,4 @@ returns c = rw (c .before .before .before .second-edition .ensures) at (c .befor
 pub check-plan-second-spec : {M : Type 1} → statement M
 check-plan-second-spec =
     tie.close
-    (tie.spec second-edition-requires slice-aggregate-check-for check-for-requires returns)
+    (tie.spec (λ c κs. search needs) (λ c. search needs) check-for-requires returns)

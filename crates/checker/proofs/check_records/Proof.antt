@@ -7,23 +7,11 @@ use borrow.Author.Needs.{needs}
 use Rattle.checker.proofs.check_records.Statement.{statement}
 use Rattle.checker.proofs.check_records.Tie as tie
 
-open-requires : tie.Need-open-requires
-open-requires c κs = search needs
-
-enum-known-opened : tie.Need-enum-known-opened
-enum-known-opened c = search needs
-
-enum-told : tie.Need-enum-told
-enum-told c = search needs
-
 returns : tie.Need-returns
 returns c = c .enum-told .given .1 ∙ reading-refused _ _ _ _ (sym (c .enum-told .given .1) ∙ c .before .before .«open» .ensures)
 
 grant-plan-requires : tie.Need-grant-plan-requires
 grant-plan-requires c κs = (readable _ _ _ _ (c .before .before .before .before .before .before .before .before .pre .0) (sym (c .before .before .opened .given .1) ∙ c .before .before .before .before .«open» .ensures), record { room = omega (arith, c .before .before .before .before .before .before .before .before .pre .1, c .before .before .before .before .before .before .before .before .pre .2 .room); clear = c .before .before .before .before .before .before .before .before .pre .2 .clear })
-
-same-length : tie.Need-same-length
-same-length c = search needs
 
 returns-2 : tie.Need-returns-2
 returns-2 c =
@@ -36,23 +24,11 @@ meet-requires c κs =
     let r = readable _ _ _ _ (s .pre .0) (sym (c .before .before .before .before .before .before .before .before .opened .given .1) ∙ c .before .before .before .before .before .before .before .before .before .before .«open» .ensures) in
     (omega (arith, r .few, s .pre .0 .ports, s .pre .0 .width), s .pre .1, c .before .before .before .before .before .grant-plan .ensures .1 .room)
 
-enum-known-k : tie.Need-enum-known-k
-enum-known-k c = search needs
-
-enum-known-empty : tie.Need-enum-known-empty
-enum-known-empty c = search needs
-
-same-length-2 : tie.Need-same-length-2
-same-length-2 c = search needs
-
 returns-3 : tie.Need-returns-3
 returns-3 c =
     let o = sym (c .before .before .before .before .before .before .before .before .before .before .before .before .opened .given .1) ∙ c .before .before .before .before .before .before .before .before .before .before .before .before .before .before .«open» .ensures in
     let p = c .before .before .before .before .before .before .before .before .before .grant-plan .ensures in
     check-met _ _ _ _ _ _ _ o _ _ (p .0) (c .before .before .before .before .before .if1 .left) (p .1) _ (sym (c .before .k .given .1) ∙ c .before .before .before .meet .ensures)
-
-same-length-3 : tie.Need-same-length-3
-same-length-3 c = search needs
 
 returns-4 : tie.Need-returns-4
 returns-4 c =
@@ -64,17 +40,5 @@ pub check-records-spec : {M : Type 1} → statement M
 check-records-spec =
     tie.close
     (tie.spec
-    open-requires
-    enum-known-opened
-    enum-told
-    returns
-    grant-plan-requires
-    same-length
-    returns-2
-    meet-requires
-    enum-known-k
-    enum-known-empty
-    same-length-2
-    returns-3
-    same-length-3
-    returns-4)
+    (λ c κs. search needs) (λ c. search needs) (λ c. search needs) returns grant-plan-requires (λ c. search needs) returns-2 meet-requires
+    (λ c. search needs) (λ c. search needs) (λ c. search needs) returns-3 (λ c. search needs) returns-4)

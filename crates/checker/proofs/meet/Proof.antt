@@ -12,7 +12,8 @@ use Rattle.demand.specs.Lines.{over}
 use Rattle.demand.proofs.Lines.{over-here, over-next, over-end, over-start}
 use Rattle.grants.proofs.Grant.{cell-index}
 use Rattle.checker.specs.Check.{missing, uncovered}
-use Rattle.checker.proofs.Cover.{missing-some, missing-none, meeting-misses, meeting-meets, beyond-cells}
+use Rattle.switch.proofs.Empty.{beyond-cells}
+use Rattle.checker.proofs.Cover.{missing-some, missing-none, meeting-misses, meeting-meets}
 use borrow.Author.Needs.{needs}
 use Rattle.checker.proofs.meet.Statement.{statement}
 use Rattle.checker.proofs.meet.Tie as tie
@@ -29,18 +30,6 @@ loop-holds : tie.Need-loop-holds Inv-loop μ-loop
 unfolding uncovered
 loop-holds c = (refl, omega arith, over-start 0 (missing (c .args .n) (cell (c .args .n) (c .args .cells .now)) (cell (c .args .n) (c .args .grants .now))) _, sym (sum-zero _), omega arith)
 
-mul-if1 : tie.Need-mul-if1 Inv-loop μ-loop
-mul-if1 c = search needs
-
-shared-slice-read-if1 : tie.Need-shared-slice-read-if1 Inv-loop μ-loop
-shared-slice-read-if1 c = search needs
-
-mul-if1-2 : tie.Need-mul-if1-2 Inv-loop μ-loop
-mul-if1-2 c = search needs
-
-shared-slice-read-if1-2 : tie.Need-shared-slice-read-if1-2 Inv-loop μ-loop
-shared-slice-read-if1-2 c = search needs
-
 returns : tie.Need-returns Inv-loop μ-loop
 returns c =
     let a = c .before .before .before .before .before .args in
@@ -48,21 +37,6 @@ returns c =
     meeting-misses (a .n) _ _ (l .k)
     (l .inv .2 ∙ over-here _ _ _ _ (omega arith) (missing-some (a .n) _ _ (l .k) (omega (arith, cell-index (a .n) (a .cells .now) (l .k), cell-index (a .n) (a .grants .now) (l .k)))))
     (omega arith)
-
-mul-empty : tie.Need-mul-empty Inv-loop μ-loop
-mul-empty c = search needs
-
-shared-slice-read-empty : tie.Need-shared-slice-read-empty Inv-loop μ-loop
-shared-slice-read-empty c = search needs
-
-mul-empty-2 : tie.Need-mul-empty-2 Inv-loop μ-loop
-mul-empty-2 c = search needs
-
-shared-slice-read-empty-2 : tie.Need-shared-slice-read-empty-2 Inv-loop μ-loop
-shared-slice-read-empty-2 c = search needs
-
-sub-empty : tie.Need-sub-empty Inv-loop μ-loop
-sub-empty c = search needs
 
 -- a cell's grants
 abbrev granted : (c : tie.After-shared-slice-known4 Inv-loop μ-loop) → ℕ
@@ -76,12 +50,6 @@ cast-empty c = omega (arith, small c)
 
 add-empty : tie.Need-add-empty Inv-loop μ-loop
 add-empty c = let p = c .before .before .before .before .before .before .before .pre in omega (arith, small c, mul-le-mul (p .0) (p .0))
-
-add-k : tie.Need-add-k Inv-loop μ-loop
-add-k c = search needs
-
-loop-less : tie.Need-loop-less Inv-loop μ-loop
-loop-less c = search needs
 
 loop-again : tie.Need-loop-again Inv-loop μ-loop
 loop-again c =
@@ -106,22 +74,6 @@ pub meet-spec : {M : Type 1} → statement M
 meet-spec =
     tie.close
     (tie.spec
-    Inv-loop
-    μ-loop
-    loop-holds
-    mul-if1
-    shared-slice-read-if1
-    mul-if1-2
-    shared-slice-read-if1-2
-    returns
-    mul-empty
-    shared-slice-read-empty
-    mul-empty-2
-    shared-slice-read-empty-2
-    sub-empty
-    cast-empty
-    add-empty
-    add-k
-    loop-less
-    loop-again
-    returns-2)
+    Inv-loop μ-loop loop-holds (λ c. search needs) (λ c. search needs) (λ c. search needs) (λ c. search needs) returns (λ c. search needs)
+    (λ c. search needs) (λ c. search needs) (λ c. search needs) (λ c. search needs) cast-empty add-empty (λ c. search needs) (λ c. search needs)
+    loop-again returns-2)

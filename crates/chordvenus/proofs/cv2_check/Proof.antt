@@ -1,18 +1,12 @@
 -- The call's own answer, flattened.
 use mathlib.Core.Path.{ap, _∙_}
-use Rattle.chordvenus.specs.Flat.{flat}
+use Rattle.answers.specs.Flat.{flat}
 use borrow.Author.Needs.{needs}
 use Rattle.chordvenus.proofs.cv2_check.Statement.{statement}
 use Rattle.chordvenus.proofs.cv2_check.Tie as tie
-
-check-plan-second-requires : tie.Need-check-plan-second-requires
-check-plan-second-requires c κs = search needs
-
-flatten-requires : tie.Need-flatten-requires
-flatten-requires c κs = search needs
 
 returns : tie.Need-returns
 returns c = c .flatten .ensures ∙ ap flat (c .before .check-plan-second .ensures)
 
 pub cv2-check-spec : {M : Type 1} → statement M
-cv2-check-spec = tie.close (tie.spec check-plan-second-requires flatten-requires returns)
+cv2-check-spec = tie.close (tie.spec (λ c κs. search needs) (λ c κs. search needs) returns)

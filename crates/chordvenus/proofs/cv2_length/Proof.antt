@@ -1,18 +1,12 @@
 -- The call's own answer, flattened.
 use mathlib.Core.Path.{ap, _∙_}
-use Rattle.chordvenus.specs.Flat.{flat}
+use Rattle.answers.specs.Flat.{flat}
 use borrow.Author.Needs.{needs}
 use Rattle.chordvenus.proofs.cv2_length.Statement.{statement}
 use Rattle.chordvenus.proofs.cv2_length.Tie as tie
-
-plan-length-second-requires : tie.Need-plan-length-second-requires
-plan-length-second-requires c κs = search needs
-
-flatten-requires : tie.Need-flatten-requires
-flatten-requires c κs = search needs
 
 returns : tie.Need-returns
 returns c = c .flatten .ensures ∙ ap flat (c .before .plan-length-second .ensures)
 
 pub cv2-length-spec : {M : Type 1} → statement M
-cv2-length-spec = tie.close (tie.spec plan-length-second-requires flatten-requires returns)
+cv2-length-spec = tie.close (tie.spec (λ c κs. search needs) (λ c κs. search needs) returns)

@@ -1,23 +1,11 @@
 -- The kind and the place are those of the step, and hold and outputs are its own.
 use mathlib.Core.Path.{_≡_, ap, _∙_}
 use Rattle.plans.specs.Read.{ofSecond}
-use Rattle.chordvenus.specs.declared.Cv2Step.{Cv2Step}
-use Rattle.chordvenus.specs.Flat.{flatWide}
+use Rattle.answers.specs.declared.Cv2Step.{Cv2Step}
+use Rattle.answers.specs.Flat.{flatWide}
 use borrow.Author.Needs.{needs}
 use Rattle.chordvenus.proofs.cv2_step_at.Statement.{statement}
 use Rattle.chordvenus.proofs.cv2_step_at.Tie as tie
-
-step-second-requires : tie.Need-step-second-requires
-step-second-requires c κs = search needs
-
-kind-of-requires : tie.Need-kind-of-requires
-kind-of-requires c κs = search needs
-
-place-of-requires : tie.Need-place-of-requires
-place-of-requires c κs = search needs
-
-cast-t9 : tie.Need-cast-t9
-cast-t9 c = search needs
 
 returns : tie.Need-returns
 returns c =
@@ -28,4 +16,4 @@ returns c =
 
 pub cv2-step-at-spec : {M : Type 1} → statement M
 cv2-step-at-spec =
-    tie.close (tie.spec step-second-requires kind-of-requires place-of-requires cast-t9 returns)
+    tie.close (tie.spec (λ c κs. search needs) (λ c κs. search needs) (λ c κs. search needs) (λ c. search needs) returns)

@@ -3,19 +3,10 @@ use mathlib.Core.Path.{ap, _∙_}
 use Rattle.carry.specs.declared.Carried.{Carried}
 use Rattle.carry.specs.Carry.{newCells, cellsAfter}
 use Rattle.switch.specs.Editions.{firstEdition}
-use Rattle.chordvenus.specs.Flat.{flatCarried}
+use Rattle.answers.specs.Flat.{flatCarried}
 use borrow.Author.Needs.{needs}
 use Rattle.chordvenus.proofs.cv_carry_over.Statement.{statement}
 use Rattle.chordvenus.proofs.cv_carry_over.Tie as tie
-
-carry-over-requires : tie.Need-carry-over-requires
-carry-over-requires c κs = search needs
-
-flatten-carried-requires : tie.Need-flatten-carried-requires
-flatten-carried-requires c κs = search needs
-
-same-length : tie.Need-same-length
-same-length c = search needs
 
 returns : tie.Need-returns
 returns c =
@@ -28,4 +19,4 @@ returns c =
     }
 
 pub cv-carry-over-spec : {M : Type 1} → statement M
-cv-carry-over-spec = tie.close (tie.spec carry-over-requires flatten-carried-requires same-length returns)
+cv-carry-over-spec = tie.close (tie.spec (λ c κs. search needs) (λ c κs. search needs) (λ c. search needs) returns)

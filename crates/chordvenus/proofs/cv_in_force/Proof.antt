@@ -1,16 +1,10 @@
 -- The lookup's own numbers, its answer flattened.
 use mathlib.Core.Path.{_≡_, ap, _∙_}
-use Rattle.chordvenus.specs.declared.CvPart.{CvPart}
-use Rattle.chordvenus.specs.Flat.{flatPart}
+use Rattle.answers.specs.declared.CvPart.{CvPart}
+use Rattle.answers.specs.Flat.{flatPart}
 use borrow.Author.Needs.{needs}
 use Rattle.chordvenus.proofs.cv_in_force.Statement.{statement}
 use Rattle.chordvenus.proofs.cv_in_force.Tie as tie
-
-find-requires : tie.Need-find-requires
-find-requires c κs = search needs
-
-flatten-about-requires : tie.Need-flatten-about-requires
-flatten-about-requires c κs = search needs
 
 returns : tie.Need-returns
 returns c =
@@ -20,4 +14,4 @@ returns c =
     flattened ∙ ap flatPart (f .ensures)
 
 pub cv-in-force-spec : {M : Type 1} → statement M
-cv-in-force-spec = tie.close (tie.spec find-requires flatten-about-requires returns)
+cv-in-force-spec = tie.close (tie.spec (λ c κs. search needs) (λ c κs. search needs) returns)

@@ -1,18 +1,12 @@
 -- The call's own answer, flattened.
 use mathlib.Core.Path.{ap, _∙_}
-use Rattle.chordvenus.specs.Flat.{flat}
+use Rattle.answers.specs.Flat.{flat}
 use borrow.Author.Needs.{needs}
 use Rattle.chordvenus.proofs.cv_open.Statement.{statement}
 use Rattle.chordvenus.proofs.cv_open.Tie as tie
-
-open-plan-requires : tie.Need-open-plan-requires
-open-plan-requires c κs = search needs
-
-flatten-requires : tie.Need-flatten-requires
-flatten-requires c κs = search needs
 
 returns : tie.Need-returns
 returns c = c .flatten .ensures ∙ ap flat (c .before .open-plan .ensures)
 
 pub cv-open-spec : {M : Type 1} → statement M
-cv-open-spec = tie.close (tie.spec open-plan-requires flatten-requires returns)
+cv-open-spec = tie.close (tie.spec (λ c κs. search needs) (λ c κs. search needs) returns)

@@ -44,12 +44,6 @@ short c = omega (
 add-asked : tie.Need-add-asked Inv-loop μ-loop
 add-asked c = omega (arith, short c, start c .pre .sized .few)
 
-add-i : tie.Need-add-i Inv-loop μ-loop
-add-i c = search needs
-
-loop-less : tie.Need-loop-less Inv-loop μ-loop
-loop-less c = search needs
-
 loop-again : tie.Need-loop-again Inv-loop μ-loop
 loop-again c =
     let l = c .before .before .loop in
@@ -67,12 +61,4 @@ pub asked-slots-spec : {M : Type 1} → statement M
 asked-slots-spec =
     tie.close
     (tie.spec
-    Inv-loop
-    μ-loop
-    loop-holds
-    line-sum-requires
-    add-asked
-    add-i
-    loop-less
-    loop-again
-    returns)
+    Inv-loop μ-loop loop-holds line-sum-requires add-asked (λ c. search needs) (λ c. search needs) loop-again returns)

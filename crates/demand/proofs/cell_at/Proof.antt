@@ -11,8 +11,5 @@ mul-row c = let a = c .before .args in let p = c .before .pre in omega (arith, i
 add-result : tie.Need-add-result
 add-result c = let a = c .before .before .args in let p = c .before .before .pre in omega (arith, index-small (a .n) (a .i .0) (p .0) (p .1))
 
-returns : tie.Need-returns
-returns c = search needs
-
 pub cell-at-spec : {M : Type 1} → statement M
-cell-at-spec = tie.close (tie.spec mul-row add-result returns)
+cell-at-spec = tie.close (tie.spec mul-row add-result (λ c. search needs))

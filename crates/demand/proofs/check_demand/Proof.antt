@@ -21,19 +21,8 @@ mul-square c = let l : c .before .before .before .args .n ≤ 128 = omega arith 
 returns-3 : tie.Need-returns-3
 returns-3 c = bad-cells _ _ _ (some-ports _ _ (omega arith) (c .before .if2 .left)) (c .if3 .taken)
 
-check-lines-requires : tie.Need-check-lines-requires
-check-lines-requires c κs = search needs
-
 returns-4 : tie.Need-returns-4
 returns-4 c = c .check-lines .ensures ∙ lines-left _ _ _ (some-ports _ _ (omega arith) (c .before .before .if2 .left)) (c .before .if3 .left)
 
 pub check-demand-spec : {M : Type 1} → statement M
-check-demand-spec =
-    tie.close
-    (tie.spec
-    returns
-    returns-2
-    mul-square
-    returns-3
-    check-lines-requires
-    returns-4)
+check-demand-spec = tie.close (tie.spec returns returns-2 mul-square returns-3 (λ c κs. search needs) returns-4)

@@ -11,12 +11,6 @@ use borrow.Author.Needs.{needs}
 use Rattle.demand.proofs.check_lines.Statement.{statement}
 use Rattle.demand.proofs.check_lines.Tie as tie
 
-longest-line-requires : tie.Need-longest-line-requires
-longest-line-requires c κs = search needs
-
-line-over-requires : tie.Need-line-over-requires
-line-over-requires c κs = search needs
-
 returns : tie.Need-returns
 returns c =
     ap {B = Checked} (λ (s : Side). Faulty (Line s)) (c .line-over .ensures)
@@ -28,4 +22,4 @@ returns-2 c =
     ∙ lines-fine _ _ (omega (arith, c .before .longest-line .ensures, c .if1 .left))
 
 pub check-lines-spec : {M : Type 1} → statement M
-check-lines-spec = tie.close (tie.spec longest-line-requires line-over-requires returns returns-2)
+check-lines-spec = tie.close (tie.spec (λ c κs. search needs) (λ c κs. search needs) returns returns-2)

@@ -10,17 +10,11 @@ use Rattle.demand.proofs.empty_slots.Tie as tie
 mul-result : tie.Need-mul-result
 mul-result c = let p = c .before .pre in omega (arith, mul-le-mul (p .0 .sized .few) (p .2))
 
-asked-slots-requires : tie.Need-asked-slots-requires
-asked-slots-requires c κs = search needs
-
 sub-result : tie.Need-sub-result
 sub-result c =
     let a = c .before .before .args in
     let p = c .before .before .pre in
     omega (arith, c .asked-slots .ensures, asked-most (a .n) (cell (a .n) (a .cells .now)), mul-le-mul-left (a .n) (p .1))
 
-returns : tie.Need-returns
-returns c = search needs
-
 pub empty-slots-spec : {M : Type 1} → statement M
-empty-slots-spec = tie.close (tie.spec mul-result asked-slots-requires sub-result returns)
+empty-slots-spec = tie.close (tie.spec mul-result (λ c κs. search needs) sub-result (λ c. search needs))

@@ -15,25 +15,13 @@ Inv-loop cells n end k₀ k = (end ≡ n + n) × (k ≤ n + n) × (over 65535 (l
 abbrev μ-loop : tie.MeasureT-loop
 μ-loop cells n end k₀ k = n + n - k
 
-add-end : tie.Need-add-end Inv-loop μ-loop
-add-end c = search needs
-
 loop-holds : tie.Need-loop-holds Inv-loop μ-loop
 loop-holds c = (refl, omega arith, over-start _ _ _)
-
-line-sum-requires : tie.Need-line-sum-requires Inv-loop μ-loop
-line-sum-requires c κs = search needs
 
 returns : tie.Need-returns Inv-loop μ-loop
 returns c =
     let l = c .before .before .before .loop in
     sym (l .inv .2 ∙ over-here _ _ _ _ (omega arith) (omega (arith, c .before .line-sum .ensures)))
-
-add-k : tie.Need-add-k Inv-loop μ-loop
-add-k c = search needs
-
-loop-less : tie.Need-loop-less Inv-loop μ-loop
-loop-less c = search needs
 
 loop-again : tie.Need-loop-again Inv-loop μ-loop
 loop-again c =
@@ -50,13 +38,4 @@ pub first-over-spec : {M : Type 1} → statement M
 first-over-spec =
     tie.close
     (tie.spec
-    Inv-loop
-    μ-loop
-    add-end
-    loop-holds
-    line-sum-requires
-    returns
-    add-k
-    loop-less
-    loop-again
-    returns-2)
+    Inv-loop μ-loop (λ c. search needs) loop-holds (λ c κs. search needs) returns (λ c. search needs) (λ c. search needs) loop-again returns-2)

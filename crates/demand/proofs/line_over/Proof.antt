@@ -6,9 +6,6 @@ use borrow.Author.Needs.{needs}
 use Rattle.demand.proofs.line_over.Statement.{statement}
 use Rattle.demand.proofs.line_over.Tie as tie
 
-first-over-requires : tie.Need-first-over-requires
-first-over-requires c κs = search needs
-
 returns : tie.Need-returns
 unfolding lineOver
 returns c = input-side (c .before .before .before .args .n) _ (c .if1 .taken) ∙ ap (lineSide (c .before .before .before .args .n)) (c .before .first-over .ensures)
@@ -18,4 +15,4 @@ unfolding lineOver
 returns-2 c = output-side (c .before .before .before .args .n) _ (c .if1 .left) ∙ ap (lineSide (c .before .before .before .args .n)) (c .before .first-over .ensures)
 
 pub line-over-spec : {M : Type 1} → statement M
-line-over-spec = tie.close (tie.spec first-over-requires returns returns-2)
+line-over-spec = tie.close (tie.spec (λ c κs. search needs) returns returns-2)

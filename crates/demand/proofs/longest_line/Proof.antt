@@ -17,20 +17,8 @@ Inv-loop cells n t₀ k₀ k-end t k = (k-end ≡ n + n) × (k ≤ n + n) × (t 
 abbrev μ-loop : tie.MeasureT-loop
 μ-loop cells n t₀ k₀ k-end t k = n + n - k
 
-add-k-end : tie.Need-add-k-end Inv-loop μ-loop
-add-k-end c = search needs
-
 loop-holds : tie.Need-loop-holds Inv-loop μ-loop
 loop-holds c = (refl, omega arith, sym (most-zero _))
-
-line-sum-requires : tie.Need-line-sum-requires Inv-loop μ-loop
-line-sum-requires c κs = search needs
-
-add-k : tie.Need-add-k Inv-loop μ-loop
-add-k c = search needs
-
-loop-less : tie.Need-loop-less Inv-loop μ-loop
-loop-less c = search needs
 
 loop-again : tie.Need-loop-again Inv-loop μ-loop
 loop-again c =
@@ -51,12 +39,4 @@ pub longest-line-spec : {M : Type 1} → statement M
 longest-line-spec =
     tie.close
     (tie.spec
-    Inv-loop
-    μ-loop
-    add-k-end
-    loop-holds
-    line-sum-requires
-    add-k
-    loop-less
-    loop-again
-    returns)
+    Inv-loop μ-loop (λ c. search needs) loop-holds (λ c κs. search needs) (λ c. search needs) (λ c. search needs) loop-again returns)

@@ -36,9 +36,6 @@ shared-slice-read-wide c =
     let i = c .before .before .before .before .pre .3 (l .b) (omega arith) in
     omega (arith, l .inv .1, i)
 
-wide-requires : tie.Need-wide-requires Inv-loop μ-loop
-wide-requires c κs = search needs
-
 add-sum : tie.Need-add-sum Inv-loop μ-loop
 add-sum c = let l = c .before .before .before .loop in omega (arith, c .wide .ensures, c .before .shared-slice-known2 .given (l .at))
 
@@ -47,12 +44,6 @@ add-at c =
     let a = c .before .before .before .before .before .args in
     let l = c .before .before .before .loop in
     omega (arith, small (l .b) (a .step) (omega arith) (omega arith))
-
-add-b : tie.Need-add-b Inv-loop μ-loop
-add-b c = search needs
-
-loop-less : tie.Need-loop-less Inv-loop μ-loop
-loop-less c = search needs
 
 loop-again : tie.Need-loop-again Inv-loop μ-loop
 loop-again c =
@@ -76,15 +67,5 @@ pub sum-of-spec : {M : Type 1} → statement M
 sum-of-spec =
     tie.close
     (tie.spec
-    Inv-loop
-    μ-loop
-    loop-holds
-    mul-wide
-    shared-slice-read-wide
-    wide-requires
-    add-sum
-    add-at
-    add-b
-    loop-less
-    loop-again
-    returns)
+    Inv-loop μ-loop loop-holds mul-wide shared-slice-read-wide (λ c κs. search needs) add-sum add-at (λ c. search needs) (λ c. search needs)
+    loop-again returns)

@@ -13,20 +13,8 @@ use borrow.Author.Needs.{needs}
 use Rattle.doubled.proofs.doubled_plan_second.Statement.{statement}
 use Rattle.doubled.proofs.doubled_plan_second.Tie as tie
 
-second-edition-requires : tie.Need-second-edition-requires
-second-edition-requires c κs = search needs
-
-slice-aggregate-plan-for : tie.Need-slice-aggregate-plan-for
-slice-aggregate-plan-for c = search needs
-
-slice-aggregate-plan-for-2 : tie.Need-slice-aggregate-plan-for-2
-slice-aggregate-plan-for-2 c = search needs
-
 plan-for-requires : tie.Need-plan-for-requires
 plan-for-requires c κs = rw (c .before .before .before .second-edition .ensures) (second-bounded, omega arith, omega arith)
-
-same-length : tie.Need-same-length
-same-length c = search needs
 
 returns : tie.Need-returns
 unfolding tightPlan
@@ -40,9 +28,4 @@ pub doubled-plan-second-spec : {M : Type 1} → statement M
 doubled-plan-second-spec =
     tie.close
     (tie.spec
-    second-edition-requires
-    slice-aggregate-plan-for
-    slice-aggregate-plan-for-2
-    plan-for-requires
-    same-length
-    returns)
+    (λ c κs. search needs) (λ c. search needs) (λ c. search needs) plan-for-requires (λ c. search needs) returns)

@@ -11,9 +11,6 @@ lay-requires c κs =
     let s = c .before .before .before .before .before in
     (s .pre .0, first-place _ _ _ _ _ (s .args .holds .now) (s .pre .0) _ (s .pre .2))
 
-add-lay : tie.Need-add-lay
-add-lay c = search needs
-
 mul-lay : tie.Need-mul-lay
 mul-lay c =
     let s = c .before .before .before .before .before .before .before .before .before .before .before in
@@ -26,12 +23,6 @@ lay-requires-2 c κs =
     let l = c .before .before .before .before .before .lay .ensures in
     (s .pre .1, s .pre .2 .wide, s .pre .2 .narrow, behind-room _ _ _ _ _ (s .args .holds .now) (s .pre .0) _ (s .pre .2) (s .args .e .byte) (l .1) (l .0))
 
-same-length : tie.Need-same-length
-same-length c = search needs
-
-same-length-2 : tie.Need-same-length-2
-same-length-2 c = search needs
-
 returns : tie.Need-returns
 returns c =
     let s = c .before .before .before .before .before .before .before .before .before .before .before .before .before .before in
@@ -41,4 +32,4 @@ returns c =
 pub lay-parts-spec : {M : Type 1} → statement M
 lay-parts-spec =
     tie.close
-    (tie.spec lay-requires add-lay mul-lay lay-requires-2 same-length same-length-2 returns)
+    (tie.spec lay-requires (λ c. search needs) mul-lay lay-requires-2 (λ c. search needs) (λ c. search needs) returns)

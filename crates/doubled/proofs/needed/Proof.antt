@@ -34,9 +34,6 @@ quotients-requires c κs =
     let p = c .before .before .before .before .before .before .before .before .pre in
     (omega (arith, c .before .before .before .count .kept .0, ap length (p .1), length-divide (a .unit) (a .cells .now)), p .2)
 
-same-length : tie.Need-same-length
-same-length c = search needs
-
 returns-2 : tie.Need-returns-2
 returns-2 c =
     let a = c .before .before .before .before .before .before .before .before .before .before .before .args in
@@ -44,4 +41,4 @@ returns-2 c =
     (c .before .before .quotients .ensures ∙ sym (p .1), λ W wide narrow. needs-counted _ _ _ (ap (λ (k : ℕ). k + a .turns) (c .before .before .before .before .before .before .count .ensures W wide narrow)))
 
 pub needed-spec : {M : Type 1} → statement M
-needed-spec = tie.close (tie.spec add-most returns count-requires add-need quotients-requires same-length returns-2)
+needed-spec = tie.close (tie.spec add-most returns count-requires add-need quotients-requires (λ c. search needs) returns-2)

@@ -33,15 +33,6 @@ plan-parts-requires c κs =
       subst (Doubled (a .n) (a .cells .now)) (rule-parts v (a .rule) Forward _ (h .holds-are)) k,
     )
 
-same-length : tie.Need-same-length
-same-length c = search needs
-
-same-length-2 : tie.Need-same-length-2
-same-length-2 c = search needs
-
-same-length-3 : tie.Need-same-length-3
-same-length-3 c = search needs
-
 returns-2 : tie.Need-returns-2
 returns-2 c =
     let s = c .before .before .before .before .before .before .before .before .before .before .before .before .before .before .before .before .before .before .before .before in
@@ -52,4 +43,4 @@ returns-2 c =
 pub plan-fine-spec : {M : Type 1} → statement M
 plan-fine-spec =
     tie.close
-    (tie.spec returns split-requires plan-parts-requires same-length same-length-2 same-length-3 returns-2)
+    (tie.spec returns split-requires plan-parts-requires (λ c. search needs) (λ c. search needs) (λ c. search needs) returns-2)

@@ -10,22 +10,10 @@ use Rattle.doubled.proofs.plan_parts.Tie as tie
 longest-line-requires : tie.Need-longest-line-requires
 longest-line-requires c κs = sized (c .before .before .before .before .before .pre .0)
 
-measure-requires : tie.Need-measure-requires
-measure-requires c κs = search needs
-
-add-room : tie.Need-add-room
-add-room c = search needs
-
-div-room : tie.Need-div-room
-div-room c = search needs
-
 needed-requires : tie.Need-needed-requires
 needed-requires c κs =
     let v = c .before .before .before .before .before .before .before .before .pre .0 in
     (quotient-cells v (c .before .before .longest-line .ensures), v .quotients-are, holding v .least, omega (arith, c .before .measure .ensures .few))
-
-same-length : tie.Need-same-length
-same-length c = search needs
 
 returns : tie.Need-returns
 returns c =
@@ -76,12 +64,6 @@ empty-slots-requires c κs =
     let m = n .before .before .measure .ensures in
     both-counted v m (s .args .plan .now) fits (c .before .before .before .before .before .before .before .before .if1 .left) (n .before .before .before .longest-line .ensures) (n .needed .ensures .0) (s .pre .2)
 
-same-length-2 : tie.Need-same-length-2
-same-length-2 c = search needs
-
-same-length-3 : tie.Need-same-length-3
-same-length-3 c = search needs
-
 returns-2 : tie.Need-returns-2
 returns-2 c =
     let n = c .before .before .before .before .before .before .before .before .before .before .before .before in
@@ -96,18 +78,5 @@ pub plan-parts-spec : {M : Type 1} → statement M
 plan-parts-spec =
     tie.close
     (tie.spec
-    longest-line-requires
-    measure-requires
-    add-room
-    div-room
-    needed-requires
-    same-length
-    returns
-    lay-parts-requires
-    mul-total
-    add-total
-    add-t19
-    empty-slots-requires
-    same-length-2
-    same-length-3
-    returns-2)
+    longest-line-requires (λ c κs. search needs) (λ c. search needs) (λ c. search needs) needed-requires (λ c. search needs) returns
+    lay-parts-requires mul-total add-total add-t19 empty-slots-requires (λ c. search needs) (λ c. search needs) returns-2)

@@ -7,22 +7,10 @@ use borrow.Author.Needs.{needs}
 use Rattle.dropping.proofs.list_dropped.Statement.{statement}
 use Rattle.dropping.proofs.list_dropped.Tie as tie
 
-add-records : tie.Need-add-records
-add-records c = search needs
-
-div-records : tie.Need-div-records
-div-records c = search needs
-
 list-whole-requires : tie.Need-list-whole-requires
 list-whole-requires c κs =
     let s = c .before .before .before .before in
     (s .pre .0, wholes-fit _ (s .args .e .byte) _ _ (s .args .list .now) (s .pre .2))
-
-torn-requires : tie.Need-torn-requires
-torn-requires c κs = search needs
-
-same-length : tie.Need-same-length
-same-length c = search needs
 
 returns : tie.Need-returns
 returns c =
@@ -38,9 +26,6 @@ put-entry-requires c κs =
       tail-room _ (s .args .e .byte) _ _ (λ z. c .before .if1 .left (tail ∙ z)) _ _ _ (s .pre .2) (told .1) (told .0),
     )
 
-same-length-2 : tie.Need-same-length-2
-same-length-2 c = search needs
-
 returns-2 : tie.Need-returns-2
 returns-2 c =
     let s = c .before .before .before .before .before .before .before .before .before .before .before .before .before in
@@ -52,12 +37,5 @@ pub list-dropped-spec : {M : Type 1} → statement M
 list-dropped-spec =
     tie.close
     (tie.spec
-    add-records
-    div-records
-    list-whole-requires
-    torn-requires
-    same-length
-    returns
-    put-entry-requires
-    same-length-2
-    returns-2)
+    (λ c. search needs) (λ c. search needs) list-whole-requires (λ c κs. search needs) (λ c. search needs) returns put-entry-requires
+    (λ c. search needs) returns-2)

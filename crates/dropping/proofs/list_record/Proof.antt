@@ -28,12 +28,6 @@ put-entry-requires c κs =
     let p = c .before .before .before .before .before .before .pre in
     (omega (arith, p .0 .most, p .1), omega (arith, p .2, list-size _ _ _ _ (p .0) _ (p .1) _ (c .before .before .before .record-at .ensures) _ (c .before .before .reason-of .ensures) (c .before .if1 .left)))
 
-add-result : tie.Need-add-result
-add-result c = search needs
-
-same-length : tie.Need-same-length
-same-length c = search needs
-
 returns-2 : tie.Need-returns-2
 returns-2 c =
     let p = c .before .before .before .before .before .before .before .before .before .pre in
@@ -46,10 +40,4 @@ pub list-record-spec : {M : Type 1} → statement M
 list-record-spec =
     tie.close
     (tie.spec
-    record-at-requires
-    reason-of-requires
-    returns
-    put-entry-requires
-    add-result
-    same-length
-    returns-2)
+    record-at-requires reason-of-requires returns put-entry-requires (λ c. search needs) (λ c. search needs) returns-2)

@@ -6,9 +6,6 @@ use borrow.Author.Needs.{needs}
 use Rattle.dropping.proofs.one_in_range.Statement.{statement}
 use Rattle.dropping.proofs.one_in_range.Tie as tie
 
-wide-requires : tie.Need-wide-requires
-wide-requires c κs = search needs
-
 returns : tie.Need-returns
 returns c = sym (rw (lt-ltb (c .before .before .args .b) (c .before .before .args .n) (omega (arith, c .before .wide .ensures, c .if1 .taken))))
 
@@ -16,4 +13,4 @@ returns-2 : tie.Need-returns-2
 returns-2 c = sym (rw (le-ltb (c .before .before .args .b) (c .before .before .args .n) (omega (arith, c .before .wide .ensures, c .if1 .left))))
 
 pub one-in-range-spec : {M : Type 1} → statement M
-one-in-range-spec = tie.close (tie.spec wide-requires returns returns-2)
+one-in-range-spec = tie.close (tie.spec (λ c κs. search needs) returns returns-2)

@@ -7,14 +7,8 @@ use borrow.Author.Needs.{needs}
 use Rattle.dropping.proofs.outputs_reason.Statement.{statement}
 use Rattle.dropping.proofs.outputs_reason.Tie as tie
 
-in-range-requires : tie.Need-in-range-requires
-in-range-requires c κs = search needs
-
 returns : tie.Need-returns
 returns c = sym (outputs-range _ _ _ (sym (c .before .in-range .ensures) ∙ not-true _ (c .if1 .taken)))
-
-setting-fine-requires : tie.Need-setting-fine-requires
-setting-fine-requires c κs = search needs
 
 returns-2 : tie.Need-returns-2
 returns-2 c = sym (twice-first _ _ _ (sym (c .before .before .before .in-range .ensures) ∙ not-false _ (c .before .before .if1 .left)) (sym (c .before .setting-fine .ensures) ∙ not-true _ (c .if2 .taken)))
@@ -24,4 +18,4 @@ returns-3 c = sym (past-first _ _ _ (sym (c .before .before .before .in-range .e
 
 pub outputs-reason-spec : {M : Type 1} → statement M
 outputs-reason-spec =
-    tie.close (tie.spec in-range-requires returns setting-fine-requires returns-2 returns-3)
+    tie.close (tie.spec (λ c κs. search needs) returns (λ c κs. search needs) returns-2 returns-3)

@@ -6,35 +6,14 @@ use borrow.Author.Needs.{needs}
 use Rattle.dropping.proofs.put_entry.Statement.{statement}
 use Rattle.dropping.proofs.put_entry.Tie as tie
 
-cast-list : tie.Need-cast-list
-cast-list c = search needs
-
-slice-write-list : tie.Need-slice-write-list
-slice-write-list c = search needs
-
-cast-list-2 : tie.Need-cast-list-2
-cast-list-2 c = search needs
-
-add-list : tie.Need-add-list
-add-list c = search needs
-
 slice-write-list-2 : tie.Need-slice-write-list-2
 slice-write-list-2 c = simp length-set (omega (arith, c .pre .1))
-
-add-list-2 : tie.Need-add-list-2
-add-list-2 c = search needs
 
 slice-write-list-3 : tie.Need-slice-write-list-3
 slice-write-list-3 c = simp length-set (omega (arith, c .pre .1))
 
-add-list-3 : tie.Need-add-list-3
-add-list-3 c = search needs
-
 slice-write-list-4 : tie.Need-slice-write-list-4
 slice-write-list-4 c = simp length-set (omega (arith, c .pre .1))
-
-same-length : tie.Need-same-length
-same-length c = search needs
 
 returns : tie.Need-returns
 returns c = entry-laid _ _ _ _ (c .pre .1)
@@ -43,14 +22,5 @@ pub put-entry-spec : {M : Type 1} → statement M
 put-entry-spec =
     tie.close
     (tie.spec
-    cast-list
-    slice-write-list
-    cast-list-2
-    add-list
-    slice-write-list-2
-    add-list-2
-    slice-write-list-3
-    add-list-3
-    slice-write-list-4
-    same-length
-    returns)
+    (λ c. search needs) (λ c. search needs) (λ c. search needs) (λ c. search needs) slice-write-list-2 (λ c. search needs) slice-write-list-3
+    (λ c. search needs) slice-write-list-4 (λ c. search needs) returns)

@@ -12,43 +12,19 @@ use borrow.Author.Needs.{needs}
 use Rattle.dropping.proofs.reason_of.Statement.{statement}
 use Rattle.dropping.proofs.reason_of.Tie as tie
 
-record-fine-requires : tie.Need-record-fine-requires
-record-fine-requires c κs = search needs
-
 returns : tie.Need-returns
 returns c = sym (reason-none _ _ _ _ (sym (c .before .record-fine .ensures) ∙ c .if1 .taken))
 
-hold-of-requires : tie.Need-hold-of-requires
-hold-of-requires c κs = search needs
-
 returns-2 : tie.Need-returns-2
 returns-2 c = sym (reason-hold _ _ _ _ (sym (c .before .hold-of .ensures) ∙ c .if2 .taken))
-
-shared-slice-read-wide : tie.Need-shared-slice-read-wide
-shared-slice-read-wide c = search needs
-
-wide-requires : tie.Need-wide-requires
-wide-requires c κs = search needs
 
 returns-3 : tie.Need-returns-3
 returns-3 c =
     sym (reason-ports _ _ _ (c .before .before .before .before .before .before .before .before .args .rec .now) (omega (arith, c .before .before .before .before .hold-of .ensures, c .before .before .before .if2 .left)) (λ q. c .if3 .taken (c .before .wide .ensures ∙ q)))
 
-shared-slice-read-if4 : tie.Need-shared-slice-read-if4
-shared-slice-read-if4 c = search needs
-
 returns-4 : tie.Need-returns-4
 returns-4 c =
     sym (reason-spare _ _ _ (c .before .before .before .before .before .before .before .before .before .before .args .rec .now) (omega (arith, c .before .before .before .before .before .before .hold-of .ensures, c .before .before .before .before .before .if2 .left)) (sym (c .before .before .before .wide .ensures) ∙ c .before .before .if3 .left) (c .if4 .taken))
-
-sub-outputs-reason : tie.Need-sub-outputs-reason
-sub-outputs-reason c = search needs
-
-part-outputs-reason-start : tie.Need-part-outputs-reason-start
-part-outputs-reason-start c = search needs
-
-part-outputs-reason-end : tie.Need-part-outputs-reason-end
-part-outputs-reason-end c = search needs
 
 outputs-reason-requires : tie.Need-outputs-reason-requires
 outputs-reason-requires c κs =
@@ -76,17 +52,5 @@ pub reason-of-spec : {M : Type 1} → statement M
 reason-of-spec =
     tie.close
     (tie.spec
-    record-fine-requires
-    returns
-    hold-of-requires
-    returns-2
-    shared-slice-read-wide
-    wide-requires
-    returns-3
-    shared-slice-read-if4
-    returns-4
-    sub-outputs-reason
-    part-outputs-reason-start
-    part-outputs-reason-end
-    outputs-reason-requires
-    returns-5)
+    (λ c κs. search needs) returns (λ c κs. search needs) returns-2 (λ c. search needs) (λ c κs. search needs) returns-3 (λ c. search needs) returns-4
+    (λ c. search needs) (λ c. search needs) (λ c. search needs) outputs-reason-requires returns-5)

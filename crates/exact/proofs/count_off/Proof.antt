@@ -80,19 +80,5 @@ pub count-off-spec : {M : Type 1} → statement M
 count-off-spec =
     tie.close
     (tie.spec
-    Inv-loop
-    μ-loop
-    start-requires
-    loop-holds
-    take-off-requires
-    cast-remains
-    sub-remains
-    add-records
-    loop-less
-    loop-again
-    same-length
-    same-length-2
-    same-length-3
-    same-length-4
-    same-length-5
-    returns)
+    Inv-loop μ-loop start-requires loop-holds take-off-requires cast-remains sub-remains add-records loop-less loop-again same-length same-length-2
+    same-length-3 same-length-4 same-length-5 returns)

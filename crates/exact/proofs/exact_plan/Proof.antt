@@ -10,17 +10,8 @@ use borrow.Author.Needs.{needs}
 use Rattle.exact.proofs.exact_plan.Statement.{statement}
 use Rattle.exact.proofs.exact_plan.Tie as tie
 
-first-edition-requires : tie.Need-first-edition-requires
-first-edition-requires c κs = search needs
-
-slice-aggregate-plan-for : tie.Need-slice-aggregate-plan-for
-slice-aggregate-plan-for c = search needs
-
 plan-for-requires : tie.Need-plan-for-requires
 plan-for-requires c κs = rw (c .before .before .first-edition .ensures) (first-bounded, omega arith)
-
-same-length : tie.Need-same-length
-same-length c = search needs
 
 returns : tie.Need-returns
 returns c =
@@ -30,4 +21,4 @@ returns c =
     (c .before .before .before .plan-for .ensures)
 
 pub exact-plan-spec : {M : Type 1} → statement M
-exact-plan-spec = tie.close (tie.spec first-edition-requires slice-aggregate-plan-for plan-for-requires same-length returns)
+exact-plan-spec = tie.close (tie.spec (λ c κs. search needs) (λ c. search needs) plan-for-requires (λ c. search needs) returns)

@@ -10,17 +10,8 @@ use borrow.Author.Needs.{needs}
 use Rattle.exact.proofs.exact_plan_second.Statement.{statement}
 use Rattle.exact.proofs.exact_plan_second.Tie as tie
 
-second-edition-requires : tie.Need-second-edition-requires
-second-edition-requires c κs = search needs
-
-slice-aggregate-plan-for : tie.Need-slice-aggregate-plan-for
-slice-aggregate-plan-for c = search needs
-
 plan-for-requires : tie.Need-plan-for-requires
 plan-for-requires c κs = rw (c .before .before .second-edition .ensures) (second-bounded, omega arith)
-
-same-length : tie.Need-same-length
-same-length c = search needs
 
 returns : tie.Need-returns
 returns c =
@@ -30,4 +21,4 @@ returns c =
     (c .before .before .before .plan-for .ensures)
 
 pub exact-plan-second-spec : {M : Type 1} → statement M
-exact-plan-second-spec = tie.close (tie.spec second-edition-requires slice-aggregate-plan-for plan-for-requires same-length returns)
+exact-plan-second-spec = tie.close (tie.spec (λ c κs. search needs) (λ c. search needs) plan-for-requires (λ c. search needs) returns)

@@ -130,27 +130,6 @@ pub lay-off-spec : {M : Type 1} → statement M
 lay-off-spec =
     tie.close
     (tie.spec
-    Inv-loop
-    μ-loop
-    start-requires
-    loop-holds
-    take-off-requires
-    cast-remains
-    sub-remains
-    mul-hold
-    cast-hold
-    slice-reshare-prefix-put-record
-    slice-aggregate-put-record
-    put-record-requires
-    add-next
-    add-next-2
-    add-records
-    loop-less
-    loop-again
-    same-length
-    same-length-2
-    same-length-3
-    same-length-4
-    same-length-5
-    same-length-6
-    returns)
+    Inv-loop μ-loop start-requires loop-holds take-off-requires cast-remains sub-remains mul-hold cast-hold slice-reshare-prefix-put-record
+    slice-aggregate-put-record put-record-requires add-next add-next-2 add-records loop-less loop-again same-length same-length-2 same-length-3
+    same-length-4 same-length-5 same-length-6 returns)

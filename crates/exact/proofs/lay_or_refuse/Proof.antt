@@ -11,19 +11,10 @@ use Rattle.exact.proofs.lay_or_refuse.Tie as tie
 copy-requires : tie.Need-copy-requires
 copy-requires c κs = let p = c .before .before .before .before .pre in omega (arith, asked _ (p .1) _ _ _ (p .0) .size)
 
-add-short-of : tie.Need-add-short-of
-add-short-of c = search needs
-
-div-short-of : tie.Need-div-short-of
-div-short-of c = search needs
-
 short-of-requires : tie.Need-short-of-requires
 short-of-requires c κs =
     let p = c .before .before .before .before .before .before .before .before .before .pre in
     copied-cells _ (p .1) _ _ _ _ (asked _ (p .1) _ _ _ (p .0)) _ (c .before .before .before .before .copy .ensures)
-
-same-length : tie.Need-same-length
-same-length c = search needs
 
 returns : tie.Need-returns
 returns c =
@@ -50,12 +41,6 @@ empty-slots-requires c κs =
     let a = asked _ (p .1) _ _ _ (p .0) in
     (short _ (p .1) _ _ _ (p .0), le-of-eq (sym (a .longest-is)), omega (arith, a .small))
 
-same-length-2 : tie.Need-same-length-2
-same-length-2 c = search needs
-
-same-length-3 : tie.Need-same-length-3
-same-length-3 c = search needs
-
 returns-2 : tie.Need-returns-2
 returns-2 c =
     let p = c .before .before .before .before .before .before .before .before .before .before .before .before .before .before .before .before .before .before .before .before .before .before .before .before .before .pre in
@@ -67,15 +52,5 @@ pub lay-or-refuse-spec : {M : Type 1} → statement M
 lay-or-refuse-spec =
     tie.close
     (tie.spec
-    copy-requires
-    add-short-of
-    div-short-of
-    short-of-requires
-    same-length
-    returns
-    copy-requires-2
-    lay-requires
-    empty-slots-requires
-    same-length-2
-    same-length-3
-    returns-2)
+    copy-requires (λ c. search needs) (λ c. search needs) short-of-requires (λ c. search needs) returns copy-requires-2 lay-requires
+    empty-slots-requires (λ c. search needs) (λ c. search needs) returns-2)

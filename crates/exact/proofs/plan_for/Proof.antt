@@ -10,15 +10,6 @@ use borrow.Author.Needs.{needs}
 use Rattle.exact.proofs.plan_for.Statement.{statement}
 use Rattle.exact.proofs.plan_for.Tie as tie
 
-check-demand-requires : tie.Need-check-demand-requires
-check-demand-requires c κs = search needs
-
-enum-known-r : tie.Need-enum-known-r
-enum-known-r c = search needs
-
-enum-known-longest : tie.Need-enum-known-longest
-enum-known-longest c = search needs
-
 lay-or-refuse-requires : tie.Need-lay-or-refuse-requires
 lay-or-refuse-requires c κs =
     let p = c .before .before .before .before .before .before .before .before .before .pre in
@@ -32,24 +23,9 @@ returns c =
     let q = planned-faulty (a .e) (a .n) (a .cells .now) (exactPlan (a .e .width) (a .n) (a .cells .now)) (a .plan .now) _ (sym (c .before .before .before .check-demand .ensures) ∙ c .before .r .given .1) in
     gives q refl refl
 
-same-length : tie.Need-same-length
-same-length c = search needs
-
-same-length-2 : tie.Need-same-length-2
-same-length-2 c = search needs
-
-returns-2 : tie.Need-returns-2
-returns-2 c = search needs
-
 pub plan-for-spec : {M : Type 1} → statement M
 plan-for-spec =
     tie.close
     (tie.spec
-    check-demand-requires
-    enum-known-r
-    enum-known-longest
-    lay-or-refuse-requires
-    returns
-    same-length
-    same-length-2
-    returns-2)
+    (λ c κs. search needs) (λ c. search needs) (λ c. search needs) lay-or-refuse-requires returns (λ c. search needs) (λ c. search needs)
+    (λ c. search needs))

@@ -19,29 +19,11 @@ returns c =
     λ W wide narrow. fits-room _ _
     (omega (arith, exact-records W (a .n) (p .some) wide (a .work .now) (p .room), p .longest-is, c .before .exact-records .ensures, c .if1 .taken))
 
-count-requires : tie.Need-count-requires
-count-requires c κs = search needs
-
-same-length : tie.Need-same-length
-same-length c = search needs
-
 returns-2 : tie.Need-returns-2
 returns-2 c = let e = c .before .before .before .count .ensures in λ W wide narrow. e W wide narrow ∙ lacks-room _ _ (omega (arith, e W wide narrow, c .if2 .taken))
-
-same-length-2 : tie.Need-same-length-2
-same-length-2 c = search needs
 
 returns-3 : tie.Need-returns-3
 returns-3 c = let e = c .before .before .before .count .ensures in λ W wide narrow. fits-room _ _ (omega (arith, e W wide narrow, c .if2 .left))
 
 pub short-of-spec : {M : Type 1} → statement M
-short-of-spec =
-    tie.close
-    (tie.spec
-    exact-records-requires
-    returns
-    count-requires
-    same-length
-    returns-2
-    same-length-2
-    returns-3)
+short-of-spec = tie.close (tie.spec exact-records-requires returns (λ c κs. search needs) (λ c. search needs) returns-2 (λ c. search needs) returns-3)

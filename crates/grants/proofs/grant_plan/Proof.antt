@@ -30,9 +30,6 @@ record-fine-requires c κs =
     let p = c .before .before .before .before .before .pre .0 in
     (omega (arith, p .few, p .bounded .ports, p .bounded .width), omega (arith, p .few, p .bounded .ports, read-size _ _ _ _ p _ 0 (omega arith) _ (c .record-at .ensures)))
 
-counted-requires : tie.Need-counted-requires Inv-loop μ-loop
-counted-requires c κs = search needs
-
 same-length : tie.Need-same-length Inv-loop μ-loop
 same-length c = c .before .before .before .before .before .loop .inv .1
 
@@ -43,9 +40,6 @@ returns c =
 
 hold-of-requires : tie.Need-hold-of-requires Inv-loop μ-loop
 hold-of-requires c κs = omega (arith, read-size _ _ _ _ (c .before .before .before .before .before .before .before .pre .0) _ 0 (omega arith) _ (c .before .before .record-at .ensures))
-
-cast-grant-record : tie.Need-cast-grant-record Inv-loop μ-loop
-cast-grant-record c = search needs
 
 grant-record-requires : tie.Need-grant-record-requires Inv-loop μ-loop
 grant-record-requires c κs =
@@ -58,17 +52,8 @@ grant-record-requires c κs =
       small = grants-small _ _ _ _ (l .inv .2) (omega (arith, l .inv .0 .holds, l .inv .0 .small, p .most));
     }
 
-cast-total : tie.Need-cast-total Inv-loop μ-loop
-cast-total c = search needs
-
 add-total : tie.Need-add-total Inv-loop μ-loop
 add-total c = omega (arith, c .before .before .before .before .before .before .before .before .before .loop .inv .0 .small, c .before .before .before .before .before .before .before .before .before .before .before .before .pre .0 .most)
-
-add-k : tie.Need-add-k Inv-loop μ-loop
-add-k c = search needs
-
-loop-less : tie.Need-loop-less Inv-loop μ-loop
-loop-less c = search needs
 
 loop-again : tie.Need-loop-again Inv-loop μ-loop
 loop-again c =
@@ -80,9 +65,6 @@ loop-again c =
       c .before .before .grant-record .ensures .size ∙ l .inv .1,
       grants-more _ _ _ (l .k) _ is _ h _ _ (l .inv .2) (c .before .before .grant-record .ensures),
     )
-
-counted-requires-2 : tie.Need-counted-requires-2 Inv-loop μ-loop
-counted-requires-2 c κs = search needs
 
 same-length-2 : tie.Need-same-length-2 Inv-loop μ-loop
 same-length-2 c = c .before .before .loop .inv .1
@@ -97,22 +79,6 @@ pub grant-plan-spec : {M : Type 1} → statement M
 grant-plan-spec =
     tie.close
     (tie.spec
-    Inv-loop
-    μ-loop
-    loop-holds
-    record-at-requires
-    record-fine-requires
-    counted-requires
-    same-length
-    returns
-    hold-of-requires
-    cast-grant-record
-    grant-record-requires
-    cast-total
-    add-total
-    add-k
-    loop-less
-    loop-again
-    counted-requires-2
-    same-length-2
+    Inv-loop μ-loop loop-holds record-at-requires record-fine-requires (λ c κs. search needs) same-length returns hold-of-requires (λ c. search needs)
+    grant-record-requires (λ c. search needs) add-total (λ c. search needs) (λ c. search needs) loop-again (λ c κs. search needs) same-length-2
     returns-2)

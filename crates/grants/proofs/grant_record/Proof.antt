@@ -5,7 +5,8 @@ use native.Mathlib.Omega.{arith}
 use mathlib.Core.Logic.{⊎-elim}
 use Rattle.switch.proofs.Demand.{index-small}
 use Rattle.records.specs.Record.{decoded}
-use Rattle.grants.proofs.Grant.{Partly, output-byte, partly-none, partly-all, pair-inside, pair-small, partly-idle, partly-joined}
+use Rattle.records.proofs.Meaning.{output-byte}
+use Rattle.grants.proofs.Grant.{Partly, partly-none, partly-all, pair-inside, pair-small, partly-idle, partly-joined}
 use borrow.Author.Needs.{needs}
 use Rattle.grants.proofs.grant_record.Statement.{statement}
 use Rattle.grants.proofs.grant_record.Tie as tie
@@ -18,18 +19,6 @@ abbrev μ-loop : tie.MeasureT-loop
 
 loop-holds : tie.Need-loop-holds Inv-loop μ-loop
 loop-holds c = (omega arith, partly-none _ _ _ _)
-
-add-wide : tie.Need-add-wide Inv-loop μ-loop
-add-wide c = search needs
-
-shared-slice-read-wide : tie.Need-shared-slice-read-wide Inv-loop μ-loop
-shared-slice-read-wide c = search needs
-
-wide-requires : tie.Need-wide-requires Inv-loop μ-loop
-wide-requires c κs = search needs
-
-cell-at-requires : tie.Need-cell-at-requires Inv-loop μ-loop
-cell-at-requires c κs = search needs
 
 mul-grants : tie.Need-mul-grants Inv-loop μ-loop
 mul-grants c =
@@ -55,12 +44,6 @@ slice-write-grants c =
     let o = output-byte (c .before .before .before .before .before .before .before .before .before .args .rec .now) (l .i) (omega (arith, c .before .before .before .before .before .before .before .before .before .pre .size)) ∙ sym (c .before .before .before .wide .ensures) in
     pair-inside _ _ _ _ _ (l .i) (omega arith) (l .inv .1) _ o (c .before .before .if1 .taken) _ (c .before .cell-at .ensures) (c .before .before .before .before .before .before .before .before .before .pre .room)
 
-add-i : tie.Need-add-i Inv-loop μ-loop
-add-i c = search needs
-
-loop-less : tie.Need-loop-less Inv-loop μ-loop
-loop-less c = search needs
-
 loop-again : tie.Need-loop-again Inv-loop μ-loop
 loop-again c =
     let l = c .before .before .before .before .loop in
@@ -82,19 +65,5 @@ pub grant-record-spec : {M : Type 1} → statement M
 grant-record-spec =
     tie.close
     (tie.spec
-    Inv-loop
-    μ-loop
-    loop-holds
-    add-wide
-    shared-slice-read-wide
-    wide-requires
-    cell-at-requires
-    mul-grants
-    slice-read-grants
-    add-grants
-    slice-write-grants
-    add-i
-    loop-less
-    loop-again
-    same-length
-    returns)
+    Inv-loop μ-loop loop-holds (λ c. search needs) (λ c. search needs) (λ c κs. search needs) (λ c κs. search needs) mul-grants slice-read-grants
+    add-grants slice-write-grants (λ c. search needs) (λ c. search needs) loop-again same-length returns)

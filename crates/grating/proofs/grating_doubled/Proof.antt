@@ -16,27 +16,9 @@ use Rattle.grating.proofs.grating_doubled.Tie as tie
 first-room : 64 ≤ whole 64 (replicate {A = ℕ} 4352 0)
 first-room = omega (arith, ap (λ (n : ℕ). n / 68) (length-replicate {A = ℕ} 4352 0))
 
-first-edition-requires : tie.Need-first-edition-requires
-first-edition-requires c κs = search needs
-
-slice-aggregate-plan-for : tie.Need-slice-aggregate-plan-for
-slice-aggregate-plan-for c = search needs
-
-slice-aggregate-plan-for-2 : tie.Need-slice-aggregate-plan-for-2
-slice-aggregate-plan-for-2 c = search needs
-
-slice-aggregate-plan-for-3 : tie.Need-slice-aggregate-plan-for-3
-slice-aggregate-plan-for-3 c = search needs
-
-slice-aggregate-plan-for-4 : tie.Need-slice-aggregate-plan-for-4
-slice-aggregate-plan-for-4 c = search needs
-
 plan-for-requires : tie.Need-plan-for-requires
 plan-for-requires c κs = rw (c .before .before .before .before .before .first-edition .ensures)
     (record { bounded = first-bounded; divided = omega arith; copied = omega arith; held = omega arith; parted = first-room })
-
-same-length : tie.Need-same-length
-same-length c = search needs
 
 returns : tie.Need-returns
 returns c =
@@ -48,11 +30,5 @@ pub grating-doubled-spec : {M : Type 1} → statement M
 grating-doubled-spec =
     tie.close
     (tie.spec
-    first-edition-requires
-    slice-aggregate-plan-for
-    slice-aggregate-plan-for-2
-    slice-aggregate-plan-for-3
-    slice-aggregate-plan-for-4
-    plan-for-requires
-    same-length
+    (λ c κs. search needs) (λ c. search needs) (λ c. search needs) (λ c. search needs) (λ c. search needs) plan-for-requires (λ c. search needs)
     returns)

@@ -45,9 +45,6 @@ record-at-requires c κs = let p = c .before .before .before .before .pre in (p 
 hold-of-requires : tie.Need-hold-of-requires Inv-loop μ-loop
 hold-of-requires c κs = omega (arith, long (c .before .before .before .before .before .pre .2) _ (c .before .loop-test .taken) (c .record-at .ensures))
 
-wide-requires : tie.Need-wide-requires Inv-loop μ-loop
-wide-requires c κs = search needs
-
 mul-hold : tie.Need-mul-hold Inv-loop μ-loop
 mul-hold c =
     omega (arith, fits (c .before .before .before .before .before .before .before .pre .2) _ (c .before .before .before .loop-test .taken) (c .before .before .record-at .ensures) (c .wide .ensures) (c .before .hold-of .ensures))
@@ -70,9 +67,6 @@ sub-put-record c = omega (arith, long (c .before .before .before .before .before
 part-put-record-start : tie.Need-part-put-record-start Inv-loop μ-loop
 part-put-record-start c = omega (arith, long (c .before .before .before .before .before .before .before .before .pre .2) _ (c .before .before .before .before .loop-test .taken) (c .before .before .before .record-at .ensures))
 
-part-put-record-end : tie.Need-part-put-record-end Inv-loop μ-loop
-part-put-record-end c = search needs
-
 put-record-requires : tie.Need-put-record-requires Inv-loop μ-loop
 put-record-requires c κs =
     let s = c .before .before .before .before .before .before .before .before .before in
@@ -81,12 +75,6 @@ put-record-requires c κs =
     let t = c .before .before .before .before .before .loop-test .taken in
     let o = outs f (l .k) t (c .before .before .before .before .record-at .ensures) in
     (omega (arith, s .pre .0, s .pre .1), omega (arith, ap length o, laying-room f (s .args .e .byte) (s .args .n) (s .args .plan .now) (l .inv .1) t))
-
-add-k : tie.Need-add-k Inv-loop μ-loop
-add-k c = search needs
-
-loop-less : tie.Need-loop-less Inv-loop μ-loop
-loop-less c = search needs
 
 loop-again : tie.Need-loop-again Inv-loop μ-loop
 loop-again c =
@@ -109,22 +97,6 @@ pub lay-first-spec : {M : Type 1} → statement M
 lay-first-spec =
     tie.close
     (tie.spec
-    Inv-loop
-    μ-loop
-    loop-holds
-    record-at-requires
-    hold-of-requires
-    wide-requires
-    mul-hold
-    add-put-record
-    mul-put-record
-    cast-put-record
-    sub-put-record
-    part-put-record-start
-    part-put-record-end
-    put-record-requires
-    add-k
-    loop-less
-    loop-again
-    same-length
+    Inv-loop μ-loop loop-holds record-at-requires hold-of-requires (λ c κs. search needs) mul-hold add-put-record mul-put-record cast-put-record
+    sub-put-record part-put-record-start (λ c. search needs) put-record-requires (λ c. search needs) (λ c. search needs) loop-again same-length
     returns)

@@ -16,12 +16,6 @@ measure-requires c κs = let p = c .before .before .before .pre in (omega (arith
 add-need : tie.Need-add-need
 add-need c = let p = c .before .before .before .before .before .pre in omega (arith, p .3 .few, p .1, p .2, c .before .measure .ensures .few)
 
-add-room : tie.Need-add-room
-add-room c = search needs
-
-div-room : tie.Need-div-room
-div-room c = search needs
-
 returns : tie.Need-returns
 returns c =
     let s = c .before .before .before .before .before .before in
@@ -36,9 +30,6 @@ lay-first-requires c κs =
       subst (First (s .args .e .width) (s .args .unit) (s .args .first .now) (s .args .records)) (f .sum-is) f,
       made-first f (c .before .before .before .measure .ensures) (s .args .plan .now) (omega (arith, c .before .if1 .left)),
     )
-
-add-lay : tie.Need-add-lay
-add-lay c = search needs
 
 mul-lay : tie.Need-mul-lay
 mul-lay c =
@@ -59,12 +50,6 @@ add-done c =
     let p = c .before .before .before .before .before .before .before .before .before .before .before .before .before .before .before .pre in
     omega (arith, p .3 .small, p .1, p .2, c .before .before .before .before .before .before .before .before .before .before .before .measure .ensures .small)
 
-done-requires : tie.Need-done-requires
-done-requires c κs = search needs
-
-same-length : tie.Need-same-length
-same-length c = search needs
-
 returns-2 : tie.Need-returns-2
 returns-2 c =
     let s = c .before .before .before .before .before .before .before .before .before .before .before .before .before .before .before .before in
@@ -79,17 +64,5 @@ pub lay-parts-spec : {M : Type 1} → statement M
 lay-parts-spec =
     tie.close
     (tie.spec
-    measure-requires
-    add-need
-    add-room
-    div-room
-    returns
-    lay-first-requires
-    add-lay
-    mul-lay
-    lay-requires
-    mul-done
-    add-done
-    done-requires
-    same-length
-    returns-2)
+    measure-requires add-need (λ c. search needs) (λ c. search needs) returns lay-first-requires (λ c. search needs) mul-lay lay-requires mul-done
+    add-done (λ c κs. search needs) (λ c. search needs) returns-2)

@@ -15,9 +15,6 @@ use borrow.Author.Needs.{needs}
 use Rattle.grating.proofs.plan_fine.Statement.{statement}
 use Rattle.grating.proofs.plan_fine.Tie as tie
 
-done-requires : tie.Need-done-requires
-done-requires c κs = search needs
-
 returns : tie.Need-returns
 returns c =
     let s = c .before .before .before .before .before .before .before .before in
@@ -34,9 +31,6 @@ plan-for-requires c κs =
     let p = c .before .before .before .before .before .before .before .before .before .before .before .before .before .before .before .before .before .pre in
     (p .1, p .3)
 
-numbers-of-requires : tie.Need-numbers-of-requires
-numbers-of-requires c κs = search needs
-
 lay-parts-requires : tie.Need-lay-parts-requires
 lay-parts-requires c κs =
     let s = c .before .before .before .before .before .before .before .before .before .before .before .before .before .before .before .before .before .before .before .before .before .before .before .before .before .before in
@@ -49,21 +43,6 @@ lay-parts-requires c κs =
       s .pre .1 .width,
       first-part v (s .args .first .now) (s .pre .5) (x .ensures .outcome) (x .ensures .bytes) n (x .kept .1 .1 .1 .1 .0),
     )
-
-same-length : tie.Need-same-length
-same-length c = search needs
-
-same-length-2 : tie.Need-same-length-2
-same-length-2 c = search needs
-
-same-length-3 : tie.Need-same-length-3
-same-length-3 c = search needs
-
-same-length-4 : tie.Need-same-length-4
-same-length-4 c = search needs
-
-same-length-5 : tie.Need-same-length-5
-same-length-5 c = search needs
 
 returns-2 : tie.Need-returns-2
 returns-2 c =
@@ -81,15 +60,5 @@ pub plan-fine-spec : {M : Type 1} → statement M
 plan-fine-spec =
     tie.close
     (tie.spec
-    done-requires
-    returns
-    split-requires
-    plan-for-requires
-    numbers-of-requires
-    lay-parts-requires
-    same-length
-    same-length-2
-    same-length-3
-    same-length-4
-    same-length-5
-    returns-2)
+    (λ c κs. search needs) returns split-requires plan-for-requires (λ c κs. search needs) lay-parts-requires (λ c. search needs) (λ c. search needs)
+    (λ c. search needs) (λ c. search needs) (λ c. search needs) returns-2)

@@ -4,7 +4,7 @@ use mathlib.Core.List.{List}
 use Prim.Native.Nat.{ℕ, _+_, _*_, _-_, _≤_}
 use native.Mathlib.Omega.{arith}
 use lib.ListN.{length}
-use Rattle.settings.specs.Table.{entriesFrom}
+use Rattle.tally.specs.Table.{entriesFrom}
 use Rattle.joining.specs.Join.{cut}
 use Rattle.joining.proofs.Sums.{cut-more, cut-end}
 use borrow.Author.Needs.{needs}
@@ -24,29 +24,11 @@ loop-holds c =
     let a = c .before .args in
     (search needs, omega arith, λ W plan firsts. omega (arith, ap (λ (m : ℕ). length (cut (entriesFrom W plan firsts (a .totals .now) 0 m))) (let z : a .count - 0 ≡ a .count = omega arith in z)))
 
-mul-wide : tie.Need-mul-wide Inv-loop μ-loop
-mul-wide c = search needs
-
-shared-slice-read-wide : tie.Need-shared-slice-read-wide Inv-loop μ-loop
-shared-slice-read-wide c = search needs
-
-wide-requires : tie.Need-wide-requires Inv-loop μ-loop
-wide-requires c κs = search needs
-
-sub-need : tie.Need-sub-need Inv-loop μ-loop
-sub-need c = search needs
-
 add-need : tie.Need-add-need Inv-loop μ-loop
 add-need c = omega (arith, c .before .shared-slice-known2 .given (c .before .before .before .loop .e), c .wide .ensures)
 
 add-need-2 : tie.Need-add-need-2 Inv-loop μ-loop
 add-need-2 c = omega (arith, c .before .shared-slice-known2 .given (c .before .before .before .loop .e), c .wide .ensures, c .before .before .before .loop .inv .1, c .before .before .before .before .before .pre .0)
-
-add-e : tie.Need-add-e Inv-loop μ-loop
-add-e c = search needs
-
-loop-less : tie.Need-loop-less Inv-loop μ-loop
-loop-less c = search needs
 
 loop-again : tie.Need-loop-again Inv-loop μ-loop
 loop-again c =
@@ -66,16 +48,5 @@ pub count-pieces-spec : {M : Type 1} → statement M
 count-pieces-spec =
     tie.close
     (tie.spec
-    Inv-loop
-    μ-loop
-    loop-holds
-    mul-wide
-    shared-slice-read-wide
-    wide-requires
-    sub-need
-    add-need
-    add-need-2
-    add-e
-    loop-less
-    loop-again
-    returns)
+    Inv-loop μ-loop loop-holds (λ c. search needs) (λ c. search needs) (λ c κs. search needs) (λ c. search needs) add-need add-need-2
+    (λ c. search needs) (λ c. search needs) loop-again returns)

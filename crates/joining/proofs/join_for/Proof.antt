@@ -6,15 +6,6 @@ use borrow.Author.Needs.{needs}
 use Rattle.joining.proofs.join_for.Statement.{statement}
 use Rattle.joining.proofs.join_for.Tie as tie
 
-check-plan-requires : tie.Need-check-plan-requires
-check-plan-requires c κs = search needs
-
-enum-known-checked : tie.Need-enum-known-checked
-enum-known-checked c = search needs
-
-enum-told : tie.Need-enum-told
-enum-told c = search needs
-
 returns : tie.Need-returns
 returns c =
     let r = answers-refused _ _ _ (c .before .before .before .before .before .before .before .before .before .args .buffer .now) (sym (c .enum-told .given .1) ∙ c .before .before .check-plan .ensures) in
@@ -35,21 +26,6 @@ count-pieces-requires c κs =
 
 add-if1 : tie.Need-add-if1
 add-if1 c = omega (arith, c .before .before .before .before .before .before .before .before .before .before .before .before .before .before .before .before .before .before .before .before .before .before .before .before .before .before .pre .0 .width)
-
-div-if1 : tie.Need-div-if1
-div-if1 c = search needs
-
-same-length : tie.Need-same-length
-same-length c = search needs
-
-same-length-2 : tie.Need-same-length-2
-same-length-2 c = search needs
-
-same-length-3 : tie.Need-same-length-3
-same-length-3 c = search needs
-
-same-length-4 : tie.Need-same-length-4
-same-length-4 c = search needs
 
 returns-2 : tie.Need-returns-2
 returns-2 c =
@@ -72,21 +48,6 @@ lay-sums-requires c κs =
       table-room _ _ _ b (p .0) _ d _ _ _ (t .ensures) _ (c .before .before .before .before .before .count-pieces .ensures _ _ _) (omega (arith, c .before .before .before .if1 .left)),
     )
 
-same-length-5 : tie.Need-same-length-5
-same-length-5 c = search needs
-
-same-length-6 : tie.Need-same-length-6
-same-length-6 c = search needs
-
-same-length-7 : tie.Need-same-length-7
-same-length-7 c = search needs
-
-same-length-8 : tie.Need-same-length-8
-same-length-8 c = search needs
-
-same-length-9 : tie.Need-same-length-9
-same-length-9 c = search needs
-
 returns-3 : tie.Need-returns-3
 returns-3 c =
     let p = c .before .before .before .before .before .before .before .before .before .before .before .before .before .before .before .before .before .before .before .before .before .before .before .before .before .before .before .before .before .before .before .before .before .pre in
@@ -97,23 +58,6 @@ pub join-for-spec : {M : Type 1} → statement M
 join-for-spec =
     tie.close
     (tie.spec
-    check-plan-requires
-    enum-known-checked
-    enum-told
-    returns
-    sum-up-requires
-    count-pieces-requires
-    add-if1
-    div-if1
-    same-length
-    same-length-2
-    same-length-3
-    same-length-4
-    returns-2
-    lay-sums-requires
-    same-length-5
-    same-length-6
-    same-length-7
-    same-length-8
-    same-length-9
-    returns-3)
+    (λ c κs. search needs) (λ c. search needs) (λ c. search needs) returns sum-up-requires count-pieces-requires add-if1 (λ c. search needs)
+    (λ c. search needs) (λ c. search needs) (λ c. search needs) (λ c. search needs) returns-2 lay-sums-requires (λ c. search needs)
+    (λ c. search needs) (λ c. search needs) (λ c. search needs) (λ c. search needs) returns-3)

@@ -17,9 +17,6 @@ abbrev μ-loop : tie.MeasureT-loop
 loop-holds : tie.Need-loop-holds Inv-loop μ-loop
 loop-holds c = laying-none _ _ _ _ _ (c .before .before .pre .1)
 
-smaller-requires : tie.Need-smaller-requires Inv-loop μ-loop
-smaller-requires c κs = search needs
-
 cast-put-record : tie.Need-cast-put-record Inv-loop μ-loop
 cast-put-record c = omega (arith, c .before .smaller .ensures)
 
@@ -54,16 +51,5 @@ pub lay-sum-spec : {M : Type 1} → statement M
 lay-sum-spec =
     tie.close
     (tie.spec
-    Inv-loop
-    μ-loop
-    loop-holds
-    smaller-requires
-    cast-put-record
-    put-record-requires
-    add-next
-    add-next-2
-    sub-left
-    loop-less
-    loop-again
-    same-length
-    returns)
+    Inv-loop μ-loop loop-holds (λ c κs. search needs) cast-put-record put-record-requires add-next add-next-2 sub-left loop-less loop-again
+    same-length returns)

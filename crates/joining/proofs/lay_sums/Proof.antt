@@ -3,7 +3,7 @@ use mathlib.Core.Path.{_≡_, sym, subst}
 use Prim.Native.Nat.{ℕ, _-_, _<_, _≤_}
 use native.Mathlib.Omega.{arith}
 use Rattle.records.specs.Bytes.{whole}
-use Rattle.settings.specs.Table.{entriesFrom}
+use Rattle.tally.specs.Table.{entriesFrom}
 use Rattle.joining.specs.Join.{cut}
 use Rattle.joining.proofs.Sums.{cut-next, cut-none}
 use Rattle.joining.proofs.Laying.{Laying, laying-none, laying-end, laying-room-all, laying-all}
@@ -33,9 +33,6 @@ mul-wide c = omega (arith, c .before .before .before .before .before .before .pr
 shared-slice-read-wide : tie.Need-shared-slice-read-wide Inv-loop μ-loop
 shared-slice-read-wide c = omega (arith, c .before .before .before .before .before .before .before .pre .2)
 
-wide-requires : tie.Need-wide-requires Inv-loop μ-loop
-wide-requires c κs = search needs
-
 setting-at-requires : tie.Need-setting-at-requires Inv-loop μ-loop
 setting-at-requires c κs =
     let a = c .before .before .before .before .before .before .before .before .args in
@@ -47,17 +44,8 @@ mul-wide-2 c = omega (arith, c .before .before .before .before .before .before .
 shared-slice-read-wide-2 : tie.Need-shared-slice-read-wide-2 Inv-loop μ-loop
 shared-slice-read-wide-2 c = omega (arith, c .before .before .before .before .before .before .before .before .before .before .pre .3)
 
-wide-requires-2 : tie.Need-wide-requires-2 Inv-loop μ-loop
-wide-requires-2 c κs = search needs
-
 lay-sum-requires : tie.Need-lay-sum-requires Inv-loop μ-loop
 lay-sum-requires c κs = (c .before .before .before .before .before .before .before .before .before .before .before .before .pre .0, laying-room-all _ _ _ _ _ _ _ _ _ (subst (Laying _ _ _ _ _ (c .before .before .before .before .before .before .before .loop .buffer) (c .before .before .before .before .before .before .before .loop .at)) (cut-next (c .before .before .before .before .before .before .before .before .before .before .before .before .args .width) (c .before .before .before .before .before .before .before .before .before .before .before .before .args .plan .now) (c .before .before .before .before .before .before .before .before .before .before .before .before .args .firsts .now) (c .before .before .before .before .before .before .before .before .before .before .before .before .args .totals .now) (c .before .before .before .before .before .before .before .before .before .before .before .before .args .count) (c .before .before .before .before .before .before .before .loop .e) (omega arith) _ (c .before .before .before .before .wide .ensures) _ (c .before .before .before .setting-at .ensures) _ (c .before .wide2 .ensures)) (c .before .before .before .before .before .before .before .loop .inv .1)))
-
-add-e : tie.Need-add-e Inv-loop μ-loop
-add-e c = search needs
-
-loop-less : tie.Need-loop-less Inv-loop μ-loop
-loop-less c = search needs
 
 loop-again : tie.Need-loop-again Inv-loop μ-loop
 loop-again c = (omega arith, laying-all _ _ _ _ _ _ _ _ _ (subst (Laying _ _ _ _ _ (c .before .before .before .before .before .before .before .before .before .before .loop .buffer) (c .before .before .before .before .before .before .before .before .before .before .loop .at)) (cut-next (c .before .before .before .before .before .before .before .before .before .before .before .before .before .before .before .args .width) (c .before .before .before .before .before .before .before .before .before .before .before .before .before .before .before .args .plan .now) (c .before .before .before .before .before .before .before .before .before .before .before .before .before .before .before .args .firsts .now) (c .before .before .before .before .before .before .before .before .before .before .before .before .before .before .before .args .totals .now) (c .before .before .before .before .before .before .before .before .before .before .before .before .before .before .before .args .count) (c .before .before .before .before .before .before .before .before .before .before .loop .e) (omega arith) _ (c .before .before .before .before .before .before .before .wide .ensures) _ (c .before .before .before .before .before .before .setting-at .ensures) _ (c .before .before .before .before .wide2 .ensures)) (c .before .before .before .before .before .before .before .before .before .before .loop .inv .1)) _ (c .before .before .lay-sum .ensures .1) _ (c .before .before .lay-sum .ensures .0))
@@ -75,19 +63,5 @@ pub lay-sums-spec : {M : Type 1} → statement M
 lay-sums-spec =
     tie.close
     (tie.spec
-    Inv-loop
-    μ-loop
-    loop-holds
-    mul-wide
-    shared-slice-read-wide
-    wide-requires
-    setting-at-requires
-    mul-wide-2
-    shared-slice-read-wide-2
-    wide-requires-2
-    lay-sum-requires
-    add-e
-    loop-less
-    loop-again
-    same-length
-    returns)
+    Inv-loop μ-loop loop-holds mul-wide shared-slice-read-wide (λ c κs. search needs) setting-at-requires mul-wide-2 shared-slice-read-wide-2
+    (λ c κs. search needs) lay-sum-requires (λ c. search needs) (λ c. search needs) loop-again same-length returns)

@@ -2,28 +2,10 @@
 use mathlib.Core.Path.{ap₂}
 use lib.ListN.{length-set}
 use lib.Seq.{getD-set-same, getD-set-other}
-use Rattle.labels.specs.Wide.{two}
+use Rattle.sets.specs.Wide.{two}
 use borrow.Author.Needs.{needs}
 use Rattle.labels.proofs.put_row.Statement.{statement}
 use Rattle.labels.proofs.put_row.Tie as tie
-
-mul-lows : tie.Need-mul-lows
-mul-lows c = search needs
-
-slice-write-lows : tie.Need-slice-write-lows
-slice-write-lows c = search needs
-
-mul-highs : tie.Need-mul-highs
-mul-highs c = search needs
-
-slice-write-highs : tie.Need-slice-write-highs
-slice-write-highs c = search needs
-
-same-length : tie.Need-same-length
-same-length c = search needs
-
-same-length-2 : tie.Need-same-length-2
-same-length-2 c = search needs
 
 returns : tie.Need-returns
 returns c =
@@ -43,10 +25,4 @@ pub put-row-spec : {M : Type 1} → statement M
 put-row-spec =
     tie.close
     (tie.spec
-    mul-lows
-    slice-write-lows
-    mul-highs
-    slice-write-highs
-    same-length
-    same-length-2
-    returns)
+    (λ c. search needs) (λ c. search needs) (λ c. search needs) (λ c. search needs) (λ c. search needs) (λ c. search needs) returns)

@@ -25,9 +25,6 @@ loop-holds c = (omega arith, sym (sum-zero _), omega arith)
 add-t9 : tie.Need-add-t9 Inv-loop μ-loop
 add-t9 c = omega (arith, c .before .before .before .pre .0 .few, c .before .before .before .pre .1)
 
-rem-t10 : tie.Need-rem-t10 Inv-loop μ-loop
-rem-t10 c = search needs
-
 -- the output of input i by wavelength w
 inside : (c : tie.In-loop Inv-loop μ-loop) → (c .before .loop .i + c .before .before .before .args .w) % c .before .before .before .args .n < c .before .before .before .args .n
 inside c = mod-lt (c .before .loop .i + c .before .before .before .args .w) (omega (arith, c .before .before .before .pre .1))
@@ -47,17 +44,8 @@ mul-wide c = omega (arith, place c)
 shared-slice-read-wide : tie.Need-shared-slice-read-wide Inv-loop μ-loop
 shared-slice-read-wide c = place (c .before)
 
-wide-requires : tie.Need-wide-requires Inv-loop μ-loop
-wide-requires c κs = search needs
-
 add-sum : tie.Need-add-sum Inv-loop μ-loop
 add-sum c = omega (arith, c .wide .ensures, c .before .shared-slice-known2 .given (c .before .before .cell-at .result), c .before .before .before .before .before .before .pre .0 .few)
-
-add-i : tie.Need-add-i Inv-loop μ-loop
-add-i c = search needs
-
-loop-less : tie.Need-loop-less Inv-loop μ-loop
-loop-less c = search needs
 
 loop-again : tie.Need-loop-again Inv-loop μ-loop
 unfolding cell
@@ -82,17 +70,5 @@ pub band-sum-spec : {M : Type 1} → statement M
 band-sum-spec =
     tie.close
     (tie.spec
-    Inv-loop
-    μ-loop
-    loop-holds
-    add-t9
-    rem-t10
-    cell-at-requires
-    mul-wide
-    shared-slice-read-wide
-    wide-requires
-    add-sum
-    add-i
-    loop-less
-    loop-again
-    returns)
+    Inv-loop μ-loop loop-holds add-t9 (λ c. search needs) cell-at-requires mul-wide shared-slice-read-wide (λ c κs. search needs) add-sum
+    (λ c. search needs) (λ c. search needs) loop-again returns)

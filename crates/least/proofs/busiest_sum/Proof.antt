@@ -22,15 +22,6 @@ loop-holds c = (omega arith, sym (most-zero _))
 band-sum-requires : tie.Need-band-sum-requires Inv-loop μ-loop
 band-sum-requires c κs = (c .before .before .before .pre, c .loop-test .taken)
 
-larger-requires : tie.Need-larger-requires Inv-loop μ-loop
-larger-requires c κs = search needs
-
-add-w : tie.Need-add-w Inv-loop μ-loop
-add-w c = search needs
-
-loop-less : tie.Need-loop-less Inv-loop μ-loop
-loop-less c = search needs
-
 loop-again : tie.Need-loop-again Inv-loop μ-loop
 loop-again c = (omega arith, c .larger .ensures ∙ ap₂ max (c .before .before .before .loop .inv .1) (c .before .band-sum .ensures) ∙ sym (most-next _ _))
 
@@ -46,12 +37,4 @@ pub busiest-sum-spec : {M : Type 1} → statement M
 busiest-sum-spec =
     tie.close
     (tie.spec
-    Inv-loop
-    μ-loop
-    loop-holds
-    band-sum-requires
-    larger-requires
-    add-w
-    loop-less
-    loop-again
-    returns)
+    Inv-loop μ-loop loop-holds band-sum-requires (λ c κs. search needs) (λ c. search needs) (λ c. search needs) loop-again returns)

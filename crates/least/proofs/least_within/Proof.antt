@@ -10,15 +10,6 @@ use borrow.Author.Needs.{needs}
 use Rattle.least.proofs.least_within.Statement.{statement}
 use Rattle.least.proofs.least_within.Tie as tie
 
-check-demand-requires : tie.Need-check-demand-requires
-check-demand-requires c κs = search needs
-
-enum-known-r : tie.Need-enum-known-r
-enum-known-r c = search needs
-
-enum-known-longest : tie.Need-enum-known-longest
-enum-known-longest c = search needs
-
 -- the demand is not refused by itself
 fine : (c : tie.After-longest) → checkDemand 64 (c .before .before .before .before .args .n) (c .before .before .before .before .args .cells .now) ≡ Fine (c .longest .given .0 .0)
 fine c = sym (c .before .before .check-demand .ensures) ∙ c .longest .given .1
@@ -32,9 +23,6 @@ busiest-sum-requires c κs = let k = fine-asked 64 _ _ _ (fine (c .before .befor
 rounded-up-requires : tie.Need-rounded-up-requires
 rounded-up-requires c κs = omega (arith, c .before .if1 .left)
 
-larger-requires : tie.Need-larger-requires
-larger-requires c κs = search needs
-
 returns-2 : tie.Need-returns-2
 returns-2 c = let a = c .before .before .before .before .before .args in least-fault (a .n) (a .cells .now) (a .limit) _ (sym (c .before .before .before .check-demand .ensures) ∙ c .before .r .given .1)
 
@@ -47,12 +35,5 @@ pub least-within-spec : {M : Type 1} → statement M
 least-within-spec =
     tie.close
     (tie.spec
-    check-demand-requires
-    enum-known-r
-    enum-known-longest
-    returns
-    busiest-sum-requires
-    rounded-up-requires
-    larger-requires
-    returns-2
+    (λ c κs. search needs) (λ c. search needs) (λ c. search needs) returns busiest-sum-requires rounded-up-requires (λ c κs. search needs) returns-2
     returns-3)

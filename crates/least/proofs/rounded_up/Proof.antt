@@ -10,12 +10,6 @@ use Rattle.least.proofs.rounded_up.Tie as tie
 returns : tie.Need-returns
 returns c = let a = c .before .args in none-up (a .sum) (a .by) (c .before .pre) (c .if1 .taken)
 
-sub-result : tie.Need-sub-result
-sub-result c = search needs
-
-div-result : tie.Need-div-result
-div-result c = search needs
-
 add-result : tie.Need-add-result
 add-result c = let a = c .before .args in omega (arith, c .if1 .left, div-le-self (a .sum - 1) (a .by))
 
@@ -23,11 +17,4 @@ returns-2 : tie.Need-returns-2
 returns-2 c = let a = c .before .args in some-up (a .sum) (a .by) (c .before .pre) (omega (arith, c .if1 .left))
 
 pub rounded-up-spec : {M : Type 1} → statement M
-rounded-up-spec =
-    tie.close
-    (tie.spec
-    returns
-    sub-result
-    div-result
-    add-result
-    returns-2)
+rounded-up-spec = tie.close (tie.spec returns (λ c. search needs) (λ c. search needs) add-result returns-2)

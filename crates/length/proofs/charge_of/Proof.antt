@@ -2,7 +2,7 @@
 use mathlib.Core.Path.{sym, _∙_}
 use Prim.Native.Nat.{_-_}
 use native.Mathlib.Omega.{arith}
-use Rattle.settings.proofs.Setting.{setting-long}
+use Rattle.tally.proofs.Setting.{setting-long}
 use Rattle.length.proofs.Length.{charged-first, charged-kept, charged-moved}
 use borrow.Author.Needs.{needs}
 use Rattle.length.proofs.charge_of.Statement.{statement}
@@ -10,15 +10,6 @@ use Rattle.length.proofs.charge_of.Tie as tie
 
 returns : tie.Need-returns
 returns c = (charged-first _ _ _ (c .if1 .taken), omega arith)
-
-sub-setting-at : tie.Need-sub-setting-at
-sub-setting-at c = search needs
-
-setting-at-requires : tie.Need-setting-at-requires
-setting-at-requires c κs = search needs
-
-setting-at-requires-2 : tie.Need-setting-at-requires-2
-setting-at-requires-2 c κs = search needs
 
 same-outputs-requires : tie.Need-same-outputs-requires
 same-outputs-requires c κs =
@@ -36,4 +27,4 @@ returns-3 c =
     (charged-moved _ _ _ _ (c .before .before .before .before .if1 .left) (p .1) _ _ (c .before .before .before .setting-at .ensures) (c .before .before .setting-at2 .ensures) _ (c .before .same-outputs .ensures) (c .if2 .left), omega arith)
 
 pub charge-of-spec : {M : Type 1} → statement M
-charge-of-spec = tie.close (tie.spec returns sub-setting-at setting-at-requires setting-at-requires-2 same-outputs-requires returns-2 returns-3)
+charge-of-spec = tie.close (tie.spec returns (λ c. search needs) (λ c κs. search needs) (λ c κs. search needs) same-outputs-requires returns-2 returns-3)

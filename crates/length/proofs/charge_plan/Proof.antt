@@ -29,9 +29,6 @@ record-fine-requires c κs =
     let p = c .before .before .before .before .pre in
     (omega (arith, p .few, p .bounded .ports, p .bounded .width), omega (arith, p .few, p .bounded .ports, read-size _ _ _ _ p _ 0 (omega arith) _ (c .record-at .ensures)))
 
-counted-requires : tie.Need-counted-requires Inv-loop μ-loop
-counted-requires c κs = search needs
-
 returns : tie.Need-returns Inv-loop μ-loop
 returns c =
     let l = c .before .before .before .before .before .loop in
@@ -39,9 +36,6 @@ returns c =
 
 hold-of-requires : tie.Need-hold-of-requires Inv-loop μ-loop
 hold-of-requires c κs = omega (arith, read-size _ _ _ _ (c .before .before .before .before .before .before .pre) _ 0 (omega arith) _ (c .before .before .record-at .ensures))
-
-cast-hold : tie.Need-cast-hold Inv-loop μ-loop
-cast-hold c = search needs
 
 add-total : tie.Need-add-total Inv-loop μ-loop
 add-total c = omega (arith, c .before .before .before .before .before .loop .inv .0 .small, c .before .before .before .before .before .before .before .pre .most)
@@ -55,12 +49,6 @@ add-length c = omega (arith, c .charge-of .ensures .1)
 add-length-2 : tie.Need-add-length-2 Inv-loop μ-loop
 add-length-2 c = omega (arith, c .charge-of .ensures .1, c .before .before .before .before .before .before .loop .inv .2, c .before .before .before .before .before .before .before .before .pre .most)
 
-add-k : tie.Need-add-k Inv-loop μ-loop
-add-k c = search needs
-
-loop-less : tie.Need-loop-less Inv-loop μ-loop
-loop-less c = search needs
-
 loop-again : tie.Need-loop-again Inv-loop μ-loop
 loop-again c =
     let p = c .before .before .before .before .before .before .before .before .pre in
@@ -69,9 +57,6 @@ loop-again c =
       omega (arith, l .inv .1, c .charge-of .ensures .0, sum-next (l .k) (charge (c .before .before .before .before .before .before .before .before .args .d) (planOf (c .before .before .before .before .before .before .before .before .args .e .width) (c .before .before .before .before .before .before .before .before .args .plan .now)))),
       omega (arith, l .inv .2, c .charge-of .ensures .1),
     )
-
-counted-requires-2 : tie.Need-counted-requires-2 Inv-loop μ-loop
-counted-requires-2 c κs = search needs
 
 returns-2 : tie.Need-returns-2 Inv-loop μ-loop
 returns-2 c =
@@ -83,21 +68,5 @@ pub charge-plan-spec : {M : Type 1} → statement M
 charge-plan-spec =
     tie.close
     (tie.spec
-    Inv-loop
-    μ-loop
-    loop-holds
-    record-at-requires
-    record-fine-requires
-    counted-requires
-    returns
-    hold-of-requires
-    cast-hold
-    add-total
-    charge-of-requires
-    add-length
-    add-length-2
-    add-k
-    loop-less
-    loop-again
-    counted-requires-2
-    returns-2)
+    Inv-loop μ-loop loop-holds record-at-requires record-fine-requires (λ c κs. search needs) returns hold-of-requires (λ c. search needs) add-total
+    charge-of-requires add-length add-length-2 (λ c. search needs) (λ c. search needs) loop-again (λ c κs. search needs) returns-2)

@@ -8,15 +8,6 @@ use borrow.Author.Needs.{needs}
 use Rattle.length.proofs.length_for.Statement.{statement}
 use Rattle.length.proofs.length_for.Tie as tie
 
-open-requires : tie.Need-open-requires
-open-requires c κs = search needs
-
-enum-known-opened : tie.Need-enum-known-opened
-enum-known-opened c = search needs
-
-enum-told : tie.Need-enum-told
-enum-told c = search needs
-
 returns : tie.Need-returns
 unfolding planLength
 returns c = c .enum-told .given .1 ∙ reading-refused _ _ _ _ (sym (c .enum-told .given .1) ∙ c .before .before .«open» .ensures)
@@ -37,13 +28,4 @@ returns-3 c =
     length-done _ _ _ _ o _ (p .0) (p .1) (omega arith)
 
 pub length-for-spec : {M : Type 1} → statement M
-length-for-spec =
-    tie.close
-    (tie.spec
-    open-requires
-    enum-known-opened
-    enum-told
-    returns
-    charge-plan-requires
-    returns-2
-    returns-3)
+length-for-spec = tie.close (tie.spec (λ c κs. search needs) (λ c. search needs) (λ c. search needs) returns charge-plan-requires returns-2 returns-3)

@@ -6,26 +6,11 @@ use native.Mathlib.Omega.{arith}
 use native.Mathlib.Nat.{le-of-eq}
 use lib.ListN.{length, replicate, length-replicate}
 use lib.Seq.{length-take-le}
-use Rattle.lines.specs.Put.{Put}
+use Rattle.text.specs.Put.{Put}
 use Rattle.listing.proofs.Answers.{Written, demand-refused, demand-done}
 use borrow.Author.Needs.{needs}
 use Rattle.listing.proofs.demand_text.Statement.{statement}
 use Rattle.listing.proofs.demand_text.Tie as tie
-
-slice-aggregate-exact-plan : tie.Need-slice-aggregate-exact-plan
-slice-aggregate-exact-plan c = search needs
-
-exact-plan-requires : tie.Need-exact-plan-requires
-exact-plan-requires c κs = search needs
-
-enum-known-outcome : tie.Need-enum-known-outcome
-enum-known-outcome c = search needs
-
-put-refusal-requires : tie.Need-put-refusal-requires
-put-refusal-requires c κs = search needs
-
-enum-known-outcome-2 : tie.Need-enum-known-outcome-2
-enum-known-outcome-2 c = search needs
 
 -- the plan buffer, as it is lent
 abbrev buffer : List ℕ
@@ -52,18 +37,12 @@ put-plan-requires c κs =
     let w = done (c .before .before .before .before) in
     (omega arith, le-of-eq (sym (length-take-le _ _ (w .room))), rw (w .text) (omega (arith, w .fits, c .before .before .before .before .before .before .before .before .before .before .before .pre .3)))
 
-same-length : tie.Need-same-length
-same-length c = search needs
-
 returns : tie.Need-returns
 returns c =
     let s = c .before .before .before .before .before .before .before .before .before .before .before .before in
     let p = c .before .before .put-refusal in
     let e = demand-refused _ _ buffer (s .pre .1) buffer-size _ (sym (sym (c .before .before .before .before .before .before .before .before .exact-plan .ensures .outcome) ∙ c .before .before .before .before .before .outcome .given .1)) in
     subst (λ (x : List ℕ). Put x (s .args .text .now) 0 (p .last .0) (p .result)) e (p .ensures)
-
-same-length-2 : tie.Need-same-length-2
-same-length-2 c = search needs
 
 returns-2 : tie.Need-returns-2
 returns-2 c =
@@ -75,16 +54,5 @@ pub demand-text-spec : {M : Type 1} → statement M
 demand-text-spec =
     tie.close
     (tie.spec
-    slice-aggregate-exact-plan
-    exact-plan-requires
-    enum-known-outcome
-    put-refusal-requires
-    enum-known-outcome-2
-    mul-end
-    array-share-prefix-plan
-    slice-aggregate-put-plan
-    put-plan-requires
-    same-length
-    returns
-    same-length-2
-    returns-2)
+    (λ c. search needs) (λ c κs. search needs) (λ c. search needs) (λ c κs. search needs) (λ c. search needs) mul-end array-share-prefix-plan
+    slice-aggregate-put-plan put-plan-requires (λ c. search needs) returns (λ c. search needs) returns-2)

@@ -7,7 +7,7 @@ use native.Mathlib.Omega.{arith}
 use lib.ListN.{length, take, replicate}
 use lib.Seq.{length-take-le}
 use Rattle.switch.proofs.Check.{no-ports, many-ports}
-use Rattle.lines.specs.Put.{Put}
+use Rattle.text.specs.Put.{Put}
 use Rattle.listing.specs.Listing.{wishText}
 use Rattle.listing.proofs.Answers.{wish-ports}
 use borrow.Author.Needs.{needs}
@@ -21,15 +21,6 @@ square n l = mul-le-mul l l
 cells-lent : (n : ℕ) → n ≤ 16 → length (take (n * n) (replicate {A = ℕ} 256 0)) ≡ n * n
 cells-lent n l = length-take-le (n * n) (replicate 256 0) (square n l)
 
-ports-of-requires : tie.Need-ports-of-requires
-ports-of-requires c κs = search needs
-
-put-refusal-requires : tie.Need-put-refusal-requires
-put-refusal-requires c κs = search needs
-
-same-length : tie.Need-same-length
-same-length c = search needs
-
 returns : tie.Need-returns
 returns c =
     let s = c .before .before .before .before .before .before .before .before in
@@ -37,12 +28,6 @@ returns c =
     let n = c .before .before .before .before .before .ports-of in
     subst (λ (x : List ℕ). Put x (s .args .text .now) 0 (p .last .0) (p .result))
     (wish-ports (n .result) (s .args .list .now) (no-ports 16 (n .result) (c .before .before .before .before .if1 .taken)) ∙ ap (λ (m : ℕ). wishText m (s .args .list .now)) (n .ensures)) (p .ensures)
-
-put-refusal-requires-2 : tie.Need-put-refusal-requires-2
-put-refusal-requires-2 c κs = search needs
-
-same-length-2 : tie.Need-same-length-2
-same-length-2 c = search needs
 
 returns-2 : tie.Need-returns-2
 returns-2 c =
@@ -64,9 +49,6 @@ slice-aggregate-wish-text c = sym (cells-lent (c .before .before .before .ports-
 wish-text-requires : tie.Need-wish-text-requires
 wish-text-requires c κs = (omega arith, omega arith, cells-lent (c .before .before .before .before .ports-of .result) (omega arith), omega arith)
 
-same-length-3 : tie.Need-same-length-3
-same-length-3 c = search needs
-
 returns-3 : tie.Need-returns-3
 returns-3 c =
     let s = c .before .before .before .before .before .before .before .before .before .before .before in
@@ -77,16 +59,5 @@ pub list-text-spec : {M : Type 1} → statement M
 list-text-spec =
     tie.close
     (tie.spec
-    ports-of-requires
-    put-refusal-requires
-    same-length
-    returns
-    put-refusal-requires-2
-    same-length-2
-    returns-2
-    mul-square
-    array-borrow-prefix-cells
-    slice-aggregate-wish-text
-    wish-text-requires
-    same-length-3
-    returns-3)
+    (λ c κs. search needs) (λ c κs. search needs) (λ c. search needs) returns (λ c κs. search needs) (λ c. search needs) returns-2 mul-square
+    array-borrow-prefix-cells slice-aggregate-wish-text wish-text-requires (λ c. search needs) returns-3)

@@ -7,17 +7,11 @@ use borrow.Author.Needs.{needs}
 use Rattle.listing.proofs.listing.Statement.{statement}
 use Rattle.listing.proofs.listing.Tie as tie
 
-list-text-requires : tie.Need-list-text-requires
-list-text-requires c κs = search needs
-
 returns : tie.Need-returns
 returns c = listed _ _ _ _ _ (c .list-text .ensures) (list-whole _ (omega arith))
 
 slice-aggregate-list-text : tie.Need-slice-aggregate-list-text
 slice-aggregate-list-text c = sym (length-take-le 4096 (c .before .before .before .args .input .now) (omega arith))
-
-list-text-requires-2 : tie.Need-list-text-requires-2
-list-text-requires-2 c κs = search needs
 
 returns-2 : tie.Need-returns-2
 returns-2 c = listed _ _ _ _ _ (c .list-text2 .ensures) (list-first _)
@@ -25,4 +19,4 @@ returns-2 c = listed _ _ _ _ _ (c .list-text2 .ensures) (list-first _)
 pub listing-spec : {M : Type 1} → statement M
 listing-spec =
     tie.close
-    (tie.spec list-text-requires returns slice-aggregate-list-text list-text-requires-2 returns-2)
+    (tie.spec (λ c κs. search needs) returns slice-aggregate-list-text (λ c κs. search needs) returns-2)

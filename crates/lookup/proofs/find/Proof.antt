@@ -16,9 +16,6 @@ found c =
     let a = c .before .before .before .before .args in
     c .spot-of .ensures ∙ ap (λ (e : Edition). spotOf e (a .n) (a .tonight .now) (a .standby .now) (a .slot)) (c .before .first-edition .ensures)
 
-first-edition-requires : tie.Need-first-edition-requires
-first-edition-requires c κs = search needs
-
 spot-of-requires : tie.Need-spot-of-requires
 spot-of-requires c κs = subst Bounded (sym (c .first-edition .ensures)) first-bounded
 
@@ -35,4 +32,4 @@ returns : tie.Need-returns
 returns c = c .found-of .ensures ∙ ap₂ foundOf (c .before .before .first-edition .ensures) (found (c .before))
 
 pub find-spec : {M : Type 1} → statement M
-find-spec = tie.close (tie.spec first-edition-requires spot-of-requires found-of-requires returns)
+find-spec = tie.close (tie.spec (λ c κs. search needs) spot-of-requires found-of-requires returns)

@@ -6,9 +6,6 @@ use borrow.Author.Needs.{needs}
 use Rattle.lookup.proofs.found_of.Statement.{statement}
 use Rattle.lookup.proofs.found_of.Tie as tie
 
-enum-known-spot : tie.Need-enum-known-spot
-enum-known-spot c = search needs
-
 add-part-found : tie.Need-add-part-found
 add-part-found c = omega (arith, c .before .before .before .before .pre .0 .width)
 
@@ -18,9 +15,6 @@ part-found-requires c κs =
     let inside = subst (Inside (s .args .e .records) (s .args .e .records)) (c .before .before .spot .given .1) (s .pre .1) in
     (omega (arith, s .pre .0 .records, inside), omega (arith, s .pre .0 .width))
 
-enum-known-spot-2 : tie.Need-enum-known-spot-2
-enum-known-spot-2 c = search needs
-
 add-part-found-2 : tie.Need-add-part-found-2
 add-part-found-2 c = omega (arith, c .before .before .before .before .pre .0 .width)
 
@@ -29,12 +23,6 @@ part-found-requires-2 c κs =
     let s = c .before .before .before .before in
     let inside = subst (Inside (s .args .e .records) (s .args .e .records)) (c .before .before .spot2 .given .1) (s .pre .1) in
     (omega (arith, s .pre .0 .records, inside), omega (arith, s .pre .0 .width))
-
-enum-known-spot-3 : tie.Need-enum-known-spot-3
-enum-known-spot-3 c = search needs
-
-none-found-requires : tie.Need-none-found-requires
-none-found-requires c κs = search needs
 
 returns : tie.Need-returns
 returns c = c .part-found .ensures ∙ ap (foundOf _) (sym (c .before .before .before .spot .given .1))
@@ -49,14 +37,5 @@ pub found-of-spec : {M : Type 1} → statement M
 found-of-spec =
     tie.close
     (tie.spec
-    enum-known-spot
-    add-part-found
-    part-found-requires
-    enum-known-spot-2
-    add-part-found-2
-    part-found-requires-2
-    enum-known-spot-3
-    none-found-requires
-    returns
-    returns-2
-    returns-3)
+    (λ c. search needs) add-part-found part-found-requires (λ c. search needs) add-part-found-2 part-found-requires-2 (λ c. search needs)
+    (λ c κs. search needs) returns returns-2 returns-3)

@@ -12,8 +12,5 @@ mul-t7 c =
     let s : c .args .size ≤ 132 = omega arith in
     omega (arith, mul-le-mul k s)
 
-returns : tie.Need-returns
-returns c = search needs
-
 pub part-found-spec : {M : Type 1} → statement M
-part-found-spec = tie.close (tie.spec mul-t7 returns)
+part-found-spec = tie.close (tie.spec mul-t7 (λ c. search needs))

@@ -19,14 +19,8 @@ found c =
     let a = c .before .before .before .before .args in
     c .spot-of .ensures ∙ ap (λ (e : Edition). spotOf e (a .n) (a .tonight .now) (a .standby .now) (a .slot)) (c .before .first-edition .ensures)
 
-first-edition-requires : tie.Need-first-edition-requires
-first-edition-requires c κs = search needs
-
 spot-of-requires : tie.Need-spot-of-requires
 spot-of-requires c κs = subst Bounded (sym (c .first-edition .ensures)) first-bounded
-
-enum-known-spot : tie.Need-enum-known-spot
-enum-known-spot c = search needs
 
 record-at-requires : tie.Need-record-at-requires
 record-at-requires c κs =
@@ -36,9 +30,6 @@ record-at-requires c κs =
           (spot-inside firstEdition (a .n) (a .tonight .now) (a .standby .now) (a .slot) first-bounded),
     )
 
-enum-known-spot-2 : tie.Need-enum-known-spot-2
-enum-known-spot-2 c = search needs
-
 record-at-requires-2 : tie.Need-record-at-requires-2
 record-at-requires-2 c κs =
     let a = c .before .before .before .before .before .before .before .args in (
@@ -46,18 +37,6 @@ record-at-requires-2 c κs =
       subst (Inside (whole 64 (a .tonight .now)) (whole 64 (a .standby .now))) (sym (found (c .before .before .before)) ∙ c .before .spot2 .given .1)
           (spot-inside firstEdition (a .n) (a .tonight .now) (a .standby .now) (a .slot) first-bounded),
     )
-
-enum-told : tie.Need-enum-told
-enum-told c = search needs
-
-sub-result : tie.Need-sub-result
-sub-result c = search needs
-
-part-result-start : tie.Need-part-result-start
-part-result-start c = search needs
-
-part-result-end : tie.Need-part-result-end
-part-result-end c = search needs
 
 returns : tie.Need-returns
 returns c =
@@ -81,16 +60,5 @@ pub part-in-force-spec : {M : Type 1} → statement M
 part-in-force-spec =
     tie.close
     (tie.spec
-    first-edition-requires
-    spot-of-requires
-    enum-known-spot
-    record-at-requires
-    enum-known-spot-2
-    record-at-requires-2
-    enum-told
-    sub-result
-    part-result-start
-    part-result-end
-    returns
-    returns-2
-    returns-3)
+    (λ c κs. search needs) spot-of-requires (λ c. search needs) record-at-requires (λ c. search needs) record-at-requires-2 (λ c. search needs)
+    (λ c. search needs) (λ c. search needs) (λ c. search needs) returns returns-2 returns-3)

@@ -34,21 +34,12 @@ hold-of-requires c κs =
     let fits = record-fits (a .width) (a .plan .now) k _ (omega arith) (whole-fits (a .width) (a .plan .now)) in
     omega (arith, ap length (c .record-at .ensures), record-size (a .width) (a .plan .now) k fits)
 
-cast-hold : tie.Need-cast-hold Inv-loop μ-loop
-cast-hold c = search needs
-
 returns : tie.Need-returns Inv-loop μ-loop
 returns c =
     let a = c .before .before .before .before .before .before .args in
     let l = c .before .before .before .before .loop in
     let h = c .before .hold-of .ensures ∙ ap hold (c .before .before .record-at .ensures) in
     omega (arith, l .inv .1, pass-here (a .width) (a .plan .now) (a .records) (l .k) (l .left) (omega arith) (omega (arith, h)))
-
-add-k : tie.Need-add-k Inv-loop μ-loop
-add-k c = search needs
-
-loop-less : tie.Need-loop-less Inv-loop μ-loop
-loop-less c = search needs
 
 loop-again : tie.Need-loop-again Inv-loop μ-loop
 loop-again c =
@@ -69,14 +60,5 @@ pub record-in-force-spec : {M : Type 1} → statement M
 record-in-force-spec =
     tie.close
     (tie.spec
-    Inv-loop
-    μ-loop
-    loop-holds
-    record-at-requires
-    hold-of-requires
-    cast-hold
-    returns
-    add-k
-    loop-less
-    loop-again
+    Inv-loop μ-loop loop-holds record-at-requires hold-of-requires (λ c. search needs) returns (λ c. search needs) (λ c. search needs) loop-again
     returns-2)

@@ -5,15 +5,6 @@ use borrow.Author.Needs.{needs}
 use Rattle.lookup.proofs.spot_after.Statement.{statement}
 use Rattle.lookup.proofs.spot_after.Tie as tie
 
-check-plan-requires : tie.Need-check-plan-requires
-check-plan-requires c κs = search needs
-
-enum-known-r : tie.Need-enum-known-r
-enum-known-r c = search needs
-
-enum-known-second : tie.Need-enum-known-second
-enum-known-second c = search needs
-
 spot-in-requires : tie.Need-spot-in-requires
 spot-in-requires c κs =
     let s = c .before .before .before .before .before .before in
@@ -26,12 +17,4 @@ returns-2 : tie.Need-returns-2
 returns-2 c = c .spot-in .ensures ∙ plan-judged _ _ (sym (c .before .before .second .given .1) ∙ c .before .before .before .before .check-plan .ensures)
 
 pub spot-after-spec : {M : Type 1} → statement M
-spot-after-spec =
-    tie.close
-    (tie.spec
-    check-plan-requires
-    enum-known-r
-    enum-known-second
-    spot-in-requires
-    returns
-    returns-2)
+spot-after-spec = tie.close (tie.spec (λ c κs. search needs) (λ c. search needs) (λ c. search needs) spot-in-requires returns returns-2)

@@ -11,9 +11,6 @@ use borrow.Author.Needs.{needs}
 use Rattle.lookup.proofs.spot_in.Statement.{statement}
 use Rattle.lookup.proofs.spot_in.Tie as tie
 
-record-in-force-requires : tie.Need-record-in-force-requires
-record-in-force-requires c κs = search needs
-
 returns : tie.Need-returns
 returns c =
     let p = c .before .before .before .before .before .pre in
@@ -31,9 +28,6 @@ rem-at c =
     let p = c .before .before .before .before .before .before .before .before .pre .2 in
     omega (arith, p .slots, p .held (omega (arith, c .before .before .if2 .left, p .records)))
 
-record-in-force-requires-2 : tie.Need-record-in-force-requires-2
-record-in-force-requires-2 c κs = search needs
-
 returns-3 : tie.Need-returns-3
 returns-3 c =
     let a = c .before .before .before .before .before .before .before .before .before .args in
@@ -45,12 +39,4 @@ returns-3 c =
     (λ e. c .before .before .before .if2 .left (omega (arith, e, p .2 .records, size)))
 
 pub spot-in-spec : {M : Type 1} → statement M
-spot-in-spec =
-    tie.close
-    (tie.spec
-    record-in-force-requires
-    returns
-    returns-2
-    rem-at
-    record-in-force-requires-2
-    returns-3)
+spot-in-spec = tie.close (tie.spec (λ c κs. search needs) returns returns-2 rem-at (λ c κs. search needs) returns-3)

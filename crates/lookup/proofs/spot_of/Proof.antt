@@ -13,15 +13,6 @@ returns c = of-ports _ _ _ _ _ (no-ports _ _ (c .if1 .taken))
 returns-2 : tie.Need-returns-2
 returns-2 c = of-ports _ _ _ _ _ (many-ports _ _ (c .if2 .taken))
 
-check-plan-requires : tie.Need-check-plan-requires
-check-plan-requires c κs = search needs
-
-enum-known-r : tie.Need-enum-known-r
-enum-known-r c = search needs
-
-enum-known-first : tie.Need-enum-known-first
-enum-known-first c = search needs
-
 spot-after-requires : tie.Need-spot-after-requires
 spot-after-requires c κs =
     let s = c .before .before .before .before .before .before .before .before .before in
@@ -43,11 +34,4 @@ pub spot-of-spec : {M : Type 1} → statement M
 spot-of-spec =
     tie.close
     (tie.spec
-    returns
-    returns-2
-    check-plan-requires
-    enum-known-r
-    enum-known-first
-    spot-after-requires
-    returns-3
-    returns-4)
+    returns returns-2 (λ c κs. search needs) (λ c. search needs) (λ c. search needs) spot-after-requires returns-3 returns-4)

@@ -3,7 +3,7 @@ use mathlib.Core.Path.{sym, ap, subst, _∙_}
 use Prim.Native.Nat.{ℕ, _<_}
 use native.Mathlib.Nat.{lt-of-lt-of-le}
 use lib.ListN.{length, length-set}
-use Rattle.labels.specs.Wide.{outputsOf}
+use Rattle.labels.specs.Ports.{outputsOf}
 use Rattle.search.specs.Tables.{triedOf, Allowed}
 use Rattle.search.specs.Search.{AskPost}
 use Rattle.search.proofs.Search.{same-holders, same-outputs}
@@ -34,9 +34,6 @@ ask-inputs-requires c κs =
     let r = c .before .before .before .before .before .before .release in
     (s .pre .0, rw (r .ensures) (lower-asks 128 (length (a .lows .now)) (Allowed (a .lows .now) (a .highs .now)) (a .by .now) (a .out .now) (triedOf (a .dead)) (outputsOf (a .lower)) (a .own .0) (a .i .0) (s .pre .1) (outputsOf (c .before .before .before .every .result)) (outputsOf (c .before .before .without .result)) (c .before .before .before .every .ensures) (c .before .before .without .ensures)))
 
-enum-known-a : tie.Need-enum-known-a
-enum-known-a c = search needs
-
 join-requires : tie.Need-join-requires
 join-requires c κs =
     let s = c .before .before .before .before .before .before .before .before .before .before .before .before .before .before .before .before .before .before .before .before .before .before in
@@ -49,9 +46,6 @@ join-requires c κs =
       lt-of-lt-of-le (s .pre .1 .here) (s .pre .0 .few),
       own-place 128 (length (a .lows .now)) (Allowed (a .lows .now) (a .highs .now)) (a .by .now) (a .out .now) (triedOf (a .dead)) (outputsOf (a .lower)) (a .own .0) (a .i .0) (s .pre .1),
     )
-
-enum-known-a-2 : tie.Need-enum-known-a-2
-enum-known-a-2 c = search needs
 
 join-requires-2 : tie.Need-join-requires-2
 join-requires-2 c κs =
@@ -129,17 +123,5 @@ pub ask-lower-spec : {M : Type 1} → statement M
 ask-lower-spec =
     tie.close
     (tie.spec
-    release-requires
-    every-requires
-    without-requires
-    ask-inputs-requires
-    enum-known-a
-    join-requires
-    enum-known-a-2
-    join-requires-2
-    same-length
-    same-length-2
-    returns
-    same-length-3
-    same-length-4
-    returns-2)
+    release-requires every-requires without-requires ask-inputs-requires (λ c. search needs) join-requires (λ c. search needs) join-requires-2
+    same-length same-length-2 returns same-length-3 same-length-4 returns-2)

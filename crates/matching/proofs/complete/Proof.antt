@@ -6,7 +6,7 @@ use native.Mathlib.Nat.{le-antisymm}
 use native.Mathlib.Omega.{arith}
 use borrow.Author.Tests.{not-true, not-false}
 use lib.ListN.{length}
-use Rattle.labels.specs.Wide.{outputsOf}
+use Rattle.labels.specs.Ports.{outputsOf}
 use Rattle.search.specs.Tables.{triedOf, Allowed}
 use Rattle.matching.specs.Chosen.{CompletePost}
 use Rattle.matching.proofs.Completing.{complete-start, complete-next, complete-more, complete-stops}
@@ -48,9 +48,6 @@ returns c =
     complete-stops 128 (length (a .lows .now)) (Allowed (a .lows .now) (a .highs .now)) (a .by .now) (a .out .now) (triedOf (a .fixed)) (l .i + 1) (length (a .lows .now)) (outputsOf (q .result .held)) (q .last .1 .1 .0) (q .last .1 .1 .1 .0) (q .result .full) (not-true _ (c .if1 .taken))
     (complete-more 128 (length (a .lows .now)) (Allowed (a .lows .now) (a .highs .now)) (a .by .now) (a .out .now) (triedOf (a .fixed)) (l .i) (outputsOf (l .s .held)) (outputsOf (q .result .held)) (l .by) (l .out) (q .last .1 .1 .0) (q .last .1 .1 .1 .0) (q .result .full) (l .inv .2) (q .ensures))
 
-add-i : tie.Need-add-i Inv-loop μ-loop
-add-i c = search needs
-
 loop-less : tie.Need-loop-less Inv-loop μ-loop
 loop-less c = omega (arith, c .before .before .before .before .before .before .before .before .before .loop-test .taken)
 
@@ -85,16 +82,5 @@ pub complete-spec : {M : Type 1} → statement M
 complete-spec =
     tie.close
     (tie.spec
-    Inv-loop
-    μ-loop
-    loop-holds
-    seat-requires
-    same-length
-    same-length-2
-    returns
-    add-i
-    loop-less
-    loop-again
-    same-length-3
-    same-length-4
+    Inv-loop μ-loop loop-holds seat-requires same-length same-length-2 returns (λ c. search needs) loop-less loop-again same-length-3 same-length-4
     returns-2)

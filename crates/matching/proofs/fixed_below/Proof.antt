@@ -3,7 +3,7 @@ use Prim.Native.Nat.{ℕ, _-_, _≤_}
 use mathlib.Core.Path.{subst}
 use native.Mathlib.Nat.{le-antisymm}
 use native.Mathlib.Omega.{arith}
-use Rattle.labels.specs.Label.{Marked}
+use Rattle.sets.specs.Label.{Marked}
 use Rattle.search.specs.Tables.{triedOf}
 use Rattle.matching.specs.Chosen.{Fixed}
 use Rattle.matching.proofs.Completing.{fixed-none, fixed-more}
@@ -17,9 +17,6 @@ Inv-loop out kept fixed₀ i₀ fixed i = (i ≤ kept) × Fixed out i (triedOf f
 abbrev μ-loop : tie.MeasureT-loop
 μ-loop out kept fixed₀ i₀ fixed i = kept - i
 
-none-requires : tie.Need-none-requires Inv-loop μ-loop
-none-requires c κs = search needs
-
 loop-holds : tie.Need-loop-holds Inv-loop μ-loop
 loop-holds c = (omega arith, fixed-none _ _ (c .none .ensures))
 
@@ -28,12 +25,6 @@ output-of-requires c κs = omega (arith, c .before .before .before .before .pre 
 
 mark-requires : tie.Need-mark-requires Inv-loop μ-loop
 mark-requires c κs = omega (arith, c .before .before .before .before .before .pre .1 (c .before .before .loop .i) (omega arith), c .output-of .ensures)
-
-add-i : tie.Need-add-i Inv-loop μ-loop
-add-i c = search needs
-
-loop-less : tie.Need-loop-less Inv-loop μ-loop
-loop-less c = search needs
 
 loop-again : tie.Need-loop-again Inv-loop μ-loop
 loop-again c =
@@ -53,13 +44,4 @@ pub fixed-below-spec : {M : Type 1} → statement M
 fixed-below-spec =
     tie.close
     (tie.spec
-    Inv-loop
-    μ-loop
-    none-requires
-    loop-holds
-    output-of-requires
-    mark-requires
-    add-i
-    loop-less
-    loop-again
-    returns)
+    Inv-loop μ-loop (λ c κs. search needs) loop-holds output-of-requires mark-requires (λ c. search needs) (λ c. search needs) loop-again returns)

@@ -4,8 +4,8 @@ use mathlib.Core.Logic.{inl, inr}
 use Prim.Native.Nat.{ℕ, _≤_, _<_}
 use native.Mathlib.Omega.{arith}
 use borrow.Author.Tests.{eqb-true, eqb-false}
-use Rattle.labels.specs.Label.{digit, In}
-use Rattle.labels.specs.Wide.{outputsOf}
+use Rattle.sets.specs.Label.{digit, In}
+use Rattle.labels.specs.Ports.{outputsOf}
 use Rattle.search.specs.Tables.{joined}
 use Rattle.matching.proofs.Giving.{clear-more}
 use borrow.Author.Needs.{needs}
@@ -20,9 +20,6 @@ abbrev μ-loop : tie.MeasureT-loop
 
 loop-holds : tie.Need-loop-holds Inv-loop μ-loop
 loop-holds c = (omega arith, λ m l q. absurd (omega arith))
-
-sub-firm : tie.Need-sub-firm Inv-loop μ-loop
-sub-firm c = search needs
 
 output-of-requires : tie.Need-output-of-requires Inv-loop μ-loop
 output-of-requires c κs = omega (arith, c .before .loop .inv .0, c .loop-test .taken, c .before .before .before .pre .1)
@@ -62,13 +59,4 @@ pub give-way-spec : {M : Type 1} → statement M
 give-way-spec =
     tie.close
     (tie.spec
-    Inv-loop
-    μ-loop
-    loop-holds
-    sub-firm
-    output-of-requires
-    has-requires
-    returns
-    loop-less
-    loop-again
-    returns-2)
+    Inv-loop μ-loop loop-holds (λ c. search needs) output-of-requires has-requires returns loop-less loop-again returns-2)

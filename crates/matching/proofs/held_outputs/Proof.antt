@@ -2,7 +2,7 @@
 use mathlib.Core.Logic.{⊎-elim}
 use Prim.Native.Nat.{_-_}
 use native.Mathlib.Omega.{arith}
-use Rattle.labels.specs.Wide.{outputsOf}
+use Rattle.labels.specs.Ports.{outputsOf}
 use Rattle.search.specs.Search.{Free}
 use Rattle.matching.proofs.Completing.{free-none, free-one}
 use borrow.Author.Needs.{needs}
@@ -15,9 +15,6 @@ Inv-loop by n held₀ k₀ held k = Free 128 by (outputsOf held)
 abbrev μ-loop : tie.MeasureT-loop
 μ-loop by n held₀ k₀ held k = n - k
 
-every-requires : tie.Need-every-requires Inv-loop μ-loop
-every-requires c κs = search needs
-
 loop-holds : tie.Need-loop-holds Inv-loop μ-loop
 loop-holds c = free-none 128 (c .before .before .args .by .now) (outputsOf (c .every .result)) (c .every .ensures)
 
@@ -26,12 +23,6 @@ shared-slice-read-if1 c = omega (arith, c .before .before .before .before .befor
 
 without-requires : tie.Need-without-requires Inv-loop μ-loop
 without-requires c κs = omega (arith, c .before .before .before .before .before .before .pre)
-
-add-k : tie.Need-add-k Inv-loop μ-loop
-add-k c = search needs
-
-loop-less : tie.Need-loop-less Inv-loop μ-loop
-loop-less c = search needs
 
 loop-again : tie.Need-loop-again Inv-loop μ-loop
 loop-again c =
@@ -45,13 +36,5 @@ pub held-outputs-spec : {M : Type 1} → statement M
 held-outputs-spec =
     tie.close
     (tie.spec
-    Inv-loop
-    μ-loop
-    every-requires
-    loop-holds
-    shared-slice-read-if1
-    without-requires
-    add-k
-    loop-less
-    loop-again
+    Inv-loop μ-loop (λ c κs. search needs) loop-holds shared-slice-read-if1 without-requires (λ c. search needs) (λ c. search needs) loop-again
     returns)

@@ -5,22 +5,13 @@ use borrow.Author.Needs.{needs}
 use Rattle.matching.proofs.holds.Statement.{statement}
 use Rattle.matching.proofs.holds.Tie as tie
 
-output-of-requires : tie.Need-output-of-requires
-output-of-requires c κs = search needs
-
 returns : tie.Need-returns
 returns c =
     let s = c .before .before .before .before in
     holds-out (s .args .by .now) (s .args .out .now) (s .args .i .0) (omega (arith, s .pre .1, c .before .output-of .ensures))
 
-shared-slice-read-result : tie.Need-shared-slice-read-result
-shared-slice-read-result c = search needs
-
 cast-result : tie.Need-cast-result
 cast-result c = omega (arith, c .shared-slice-known3 .given (c .before .before .output-of .result .0))
-
-add-result : tie.Need-add-result
-add-result c = search needs
 
 returns-2 : tie.Need-returns-2
 returns-2 c =
@@ -30,4 +21,4 @@ returns-2 c =
 pub holds-spec : {M : Type 1} → statement M
 holds-spec =
     tie.close
-    (tie.spec output-of-requires returns shared-slice-read-result cast-result add-result returns-2)
+    (tie.spec (λ c κs. search needs) returns (λ c. search needs) cast-result (λ c. search needs) returns-2)

@@ -1,14 +1,11 @@
 -- The lowest is one of them.
 use mathlib.Core.Path.{sym, subst}
 use mathlib.Core.Logic.{⊎-elim}
-use Rattle.labels.specs.Label.{In}
-use Rattle.labels.specs.Wide.{outputsOf}
+use Rattle.sets.specs.Label.{In}
+use Rattle.labels.specs.Ports.{outputsOf}
 use borrow.Author.Needs.{needs}
 use Rattle.matching.proofs.lowest_or_all.Statement.{statement}
 use Rattle.matching.proofs.lowest_or_all.Tie as tie
-
-none-requires : tie.Need-none-requires
-none-requires c κs = search needs
 
 mark-requires : tie.Need-mark-requires
 mark-requires c κs = c .before .before .pre .0
@@ -23,4 +20,4 @@ returns-2 : tie.Need-returns-2
 returns-2 c = (λ k x. x, c .before .pre .1)
 
 pub lowest-or-all-spec : {M : Type 1} → statement M
-lowest-or-all-spec = tie.close (tie.spec none-requires mark-requires returns returns-2)
+lowest-or-all-spec = tie.close (tie.spec (λ c κs. search needs) mark-requires returns returns-2)

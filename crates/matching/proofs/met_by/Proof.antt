@@ -1,26 +1,13 @@
 -- None of what was tried beyond the fixed outputs is free, so that its holders are asked, all of them.
 use mathlib.Core.Path.{sym, subst}
 use Prim.Native.Nat.{ℕ}
-use native.Mathlib.Omega.{arith}
-use Rattle.labels.specs.Label.{In}
-use Rattle.labels.specs.Wide.{outputsOf}
+use Rattle.sets.specs.Label.{In}
+use Rattle.labels.specs.Ports.{outputsOf}
 use Rattle.search.specs.Tables.{triedOf, Allowed}
 use Rattle.matching.proofs.Giving.{met-all}
 use borrow.Author.Needs.{needs}
 use Rattle.matching.proofs.met_by.Statement.{statement}
 use Rattle.matching.proofs.met_by.Tie as tie
-
-but-requires : tie.Need-but-requires
-but-requires c κs = search needs
-
-leads-to-requires : tie.Need-leads-to-requires
-leads-to-requires c κs = search needs
-
-row-of-requires : tie.Need-row-of-requires
-row-of-requires c κs = search needs
-
-with-requires : tie.Need-with-requires
-with-requires c κs = search needs
 
 returns : tie.Need-returns
 returns c =
@@ -34,4 +21,4 @@ returns c =
 
 pub met-by-spec : {M : Type 1} → statement M
 met-by-spec =
-    tie.close (tie.spec but-requires leads-to-requires row-of-requires with-requires returns)
+    tie.close (tie.spec (λ c κs. search needs) (λ c κs. search needs) (λ c κs. search needs) (λ c κs. search needs) returns)

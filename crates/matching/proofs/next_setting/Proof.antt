@@ -2,7 +2,7 @@
 use mathlib.Core.Path.{sym, _∙_}
 use native.Mathlib.Omega.{arith}
 use lib.ListN.{length}
-use Rattle.labels.specs.Wide.{outputsOf}
+use Rattle.labels.specs.Ports.{outputsOf}
 use Rattle.search.specs.Tables.{triedOf, Allowed}
 use Rattle.search.specs.Search.{Free}
 use Rattle.matching.proofs.Firm.{Firm, firm-start, firm-place, firm-completes, firm-settles, firm-some, firm-place', firm-less, firm-ends}
@@ -93,16 +93,5 @@ pub next-setting-spec : {M : Type 1} → statement M
 next-setting-spec =
     tie.close
     (tie.spec
-    Inv-loop
-    μ-loop
-    held-outputs-requires
-    loop-holds
-    fixed-below-requires
-    complete-requires
-    settle-from-requires
-    same-length
-    same-length-2
-    returns
-    give-way-requires
-    loop-less
-    loop-again)
+    Inv-loop μ-loop held-outputs-requires loop-holds fixed-below-requires complete-requires settle-from-requires same-length same-length-2 returns
+    give-way-requires loop-less loop-again)

@@ -4,8 +4,8 @@ use mathlib.Core.Path.{sym, ap, subst, _∙_}
 use Prim.Native.Nat.{ℕ}
 use native.Mathlib.Nat.{lt-of-lt-of-le}
 use lib.ListN.{length, length-set}
-use Rattle.labels.specs.Label.{In}
-use Rattle.labels.specs.Wide.{outputsOf}
+use Rattle.sets.specs.Label.{In}
+use Rattle.labels.specs.Ports.{outputsOf}
 use Rattle.search.specs.Tables.{triedOf, Allowed}
 use Rattle.search.specs.Search.{AskPost}
 use Rattle.search.proofs.Tables.{has-place}
@@ -18,12 +18,6 @@ use Rattle.matching.proofs.seat.Tie as tie
 
 holds-requires : tie.Need-holds-requires
 holds-requires c κs = let s = c .before .before .before .before .before .before in (has-place 128 (length (s .args .lows .now)) (s .args .i .0) (s .args .out .now) (s .pre .0 .few) (s .pre .1) (s .pre .2 .good .outputs), s .pre .2 .good .holders)
-
-same-length : tie.Need-same-length
-same-length c = search needs
-
-same-length-2 : tie.Need-same-length-2
-same-length-2 c = search needs
 
 returns : tie.Need-returns
 returns c =
@@ -40,9 +34,6 @@ ask-inputs-requires c κs =
     let a = s .args in
     (s .pre .0, seat-asks 128 (length (a .lows .now)) (Allowed (a .lows .now) (a .highs .now)) (a .by .now) (a .out .now) (triedOf (a .fixed)) (outputsOf (a .held)) (a .i .0) (s .pre .1) (s .pre .2))
 
-enum-known-a : tie.Need-enum-known-a
-enum-known-a c = search needs
-
 met-by-requires : tie.Need-met-by-requires
 met-by-requires c κs =
     let s = c .before .before .before .before .before .before .before .before .before .before .before .before .before .before .before .before .before .before .before .before in
@@ -53,9 +44,6 @@ met-by-requires c κs =
     let m = subst (AskPost 128 (length (a .lows .now)) (Allowed (a .lows .now) (a .highs .now)) (a .by .now) (a .out .now) (triedOf (a .fixed)) (outputsOf (r .result)) (q .last .1 .1 .0) (q .last .1 .1 .1 .0)) (x .1) (q .ensures .0) in
     let k = stuck-closed 128 (length (a .lows .now)) (Allowed (a .lows .now) (a .highs .now)) (a .by .now) (a .out .now) (triedOf (a .fixed)) (outputsOf (r .result)) (q .last .1 .1 .0) (q .last .1 .1 .1 .0) (triedOf (x .0 .0)) (s .pre .2 .good) m in
     (s .pre .0, s .pre .1, k .0, k .1)
-
-enum-known-a-2 : tie.Need-enum-known-a-2
-enum-known-a-2 c = search needs
 
 join-requires : tie.Need-join-requires
 join-requires c κs =
@@ -133,20 +121,5 @@ pub seat-spec : {M : Type 1} → statement M
 seat-spec =
     tie.close
     (tie.spec
-    holds-requires
-    same-length
-    same-length-2
-    returns
-    row-of-requires
-    ask-inputs-requires
-    enum-known-a
-    met-by-requires
-    enum-known-a-2
-    join-requires
-    mark-requires
-    same-length-3
-    same-length-4
-    returns-2
-    same-length-5
-    same-length-6
-    returns-3)
+    holds-requires (λ c. search needs) (λ c. search needs) returns row-of-requires ask-inputs-requires (λ c. search needs) met-by-requires
+    (λ c. search needs) join-requires mark-requires same-length-3 same-length-4 returns-2 same-length-5 same-length-6 returns-3)

@@ -3,8 +3,8 @@ use mathlib.Core.Path.{sym, subst, _∙_}
 use Prim.Native.Nat.{ℕ, _+_}
 use lib.ListN.{length}
 use native.Mathlib.Omega.{arith}
-use Rattle.labels.specs.Label.{In, absent}
-use Rattle.labels.specs.Wide.{outputsOf}
+use Rattle.sets.specs.Label.{In, absent}
+use Rattle.labels.specs.Ports.{outputsOf}
 use Rattle.search.specs.Tables.{triedOf, Allowed}
 use Rattle.matching.specs.Chosen.{Lowered}
 use Rattle.search.proofs.Tables.{has-place}
@@ -45,15 +45,6 @@ below-requires c κs =
     let a = s .args in
     let l = c .loop in
     lower-own 128 (length (a .lows .now)) (Allowed (a .lows .now) (a .highs .now)) (a .out .now) (l .by) (l .out) (triedOf (a .firm .fixed)) (triedOf (l .dead)) (l .own .0) (a .i .0) (s .pre .1) (l .inv)
-
-next-requires : tie.Need-next-requires Inv-loop μ-loop
-next-requires c κs = search needs
-
-enum-known-f : tie.Need-enum-known-f Inv-loop μ-loop
-enum-known-f c = search needs
-
-enum-told : tie.Need-enum-told Inv-loop μ-loop
-enum-told c = search needs
 
 mark-requires : tie.Need-mark-requires Inv-loop μ-loop
 mark-requires c κs =
@@ -105,9 +96,6 @@ ask-lower-requires c κs =
     let o = c .before .before .lowest-or-all in
     (s .pre .0, lower-may 128 (length (a .lows .now)) (Allowed (a .lows .now) (a .highs .now)) (a .out .now) (l .by) (l .out) (triedOf (a .firm .fixed)) (triedOf (l .dead)) (l .own .0) (a .i .0) (s .pre .1) (l .inv) (outputsOf (r .result)) (outputsOf (b .result)) (b .ensures) (outputsOf (o .result)) (o .ensures .0) (λ k e. subst (λ (y : ℕ). In y k) (r .ensures) e))
 
-enum-known-a : tie.Need-enum-known-a Inv-loop μ-loop
-enum-known-a c = search needs
-
 loop-less : tie.Need-loop-less Inv-loop μ-loop
 loop-less c =
     let s = c .before .before .before .before .before .before .before .before .before .before .before .before .before .before .before .before .before .before .before .before .before .before .before .before .before .before in
@@ -143,9 +131,6 @@ loop-again c =
     lower-more 128 (length (a .lows .now)) (Allowed (a .lows .now) (a .highs .now)) (a .out .now) (l .by) (l .out) (triedOf (a .firm .fixed)) (triedOf (l .dead)) (l .own .0) (a .i .0) (s .pre .1) (l .inv) (outputsOf (r .result)) (outputsOf (b .result)) (b .ensures) (outputsOf (o .result)) (x .0 .0 .0) (q .last .1 .1 .0) (q .last .1 .1 .1 .0) (y .0 .0) (o .ensures .1) (low .small) (low .new)
     (subst (Lowered 128 (length (a .lows .now)) (Allowed (a .lows .now) (a .highs .now)) (l .by) (l .out) (triedOf (l .dead)) (outputsOf (o .result)) (l .own .0) (a .i .0) (q .last .1 .1 .0) (q .last .1 .1 .1 .0)) (y .1) (q .ensures)) .0
 
-enum-known-a-2 : tie.Need-enum-known-a-2 Inv-loop μ-loop
-enum-known-a-2 c = search needs
-
 loop-less-2 : tie.Need-loop-less-2 Inv-loop μ-loop
 loop-less-2 c =
     let s = c .before .before .before .before .before .before .before .before .before .before .before .before .before .before .before .before .before .before .before .before .before .before .before .before .before .before .before in
@@ -179,26 +164,6 @@ pub settle-spec : {M : Type 1} → statement M
 settle-spec =
     tie.close
     (tie.spec
-    Inv-loop
-    μ-loop
-    row-of-requires
-    output-of-requires
-    dead-for-requires
-    loop-holds
-    below-requires
-    next-requires
-    enum-known-f
-    enum-told
-    mark-requires
-    mark-requires-2
-    same-length
-    same-length-2
-    returns
-    lowest-or-all-requires
-    ask-lower-requires
-    enum-known-a
-    loop-less
-    loop-again
-    enum-known-a-2
-    loop-less-2
-    loop-again-2)
+    Inv-loop μ-loop row-of-requires output-of-requires dead-for-requires loop-holds below-requires (λ c κs. search needs) (λ c. search needs)
+    (λ c. search needs) mark-requires mark-requires-2 same-length same-length-2 returns lowest-or-all-requires ask-lower-requires (λ c. search needs)
+    loop-less loop-again (λ c. search needs) loop-less-2 loop-again-2)

@@ -30,9 +30,6 @@ settle-requires c κs =
     let l = c .before .before .before .loop in
     (s .pre .0, c .before .before .loop-test .taken, l .inv .1 .settled, l .inv .2)
 
-add-i : tie.Need-add-i Inv-loop μ-loop
-add-i c = search needs
-
 loop-less : tie.Need-loop-less Inv-loop μ-loop
 loop-less c = omega (arith, c .before .before .before .before .before .before .before .loop-test .taken)
 
@@ -61,13 +58,4 @@ pub settle-from-spec : {M : Type 1} → statement M
 settle-from-spec =
     tie.close
     (tie.spec
-    Inv-loop
-    μ-loop
-    loop-holds
-    settle-requires
-    add-i
-    loop-less
-    loop-again
-    same-length
-    same-length-2
-    returns)
+    Inv-loop μ-loop loop-holds settle-requires (λ c. search needs) loop-less loop-again same-length same-length-2 returns)

@@ -1,5 +1,5 @@
 -- Each turn of the loop lays one output more.
-use mathlib.Core.Path.{_≡_, refl, _∙_}
+use mathlib.Core.Path.{_≡_, refl}
 use Prim.Native.Nat.{_+_, _-_, _≤_}
 use native.Mathlib.Omega.{arith}
 use lib.ListN.{length, take, length-set, length-take, length-drop}
@@ -20,21 +20,6 @@ abbrev μ-loop : tie.MeasureT-loop
 
 loop-holds : tie.Need-loop-holds Inv-loop μ-loop
 loop-holds c = (search needs, search needs, search needs, refl, copy-none _ _ (take (c .args .n) (outputs (c .args .rec .now))))
-
-add-setting : tie.Need-add-setting Inv-loop μ-loop
-add-setting c = search needs
-
-shared-slice-read-setting : tie.Need-shared-slice-read-setting Inv-loop μ-loop
-shared-slice-read-setting c = search needs
-
-slice-write-setting : tie.Need-slice-write-setting Inv-loop μ-loop
-slice-write-setting c = search needs
-
-add-i : tie.Need-add-i Inv-loop μ-loop
-add-i c = search needs
-
-loop-less : tie.Need-loop-less Inv-loop μ-loop
-loop-less c = search needs
 
 loop-again : tie.Need-loop-again Inv-loop μ-loop
 loop-again c =
@@ -58,14 +43,5 @@ pub copy-first-spec : {M : Type 1} → statement M
 copy-first-spec =
     tie.close
     (tie.spec
-    Inv-loop
-    μ-loop
-    loop-holds
-    add-setting
-    shared-slice-read-setting
-    slice-write-setting
-    add-i
-    loop-less
-    loop-again
-    same-length
-    returns)
+    Inv-loop μ-loop loop-holds (λ c. search needs) (λ c. search needs) (λ c. search needs) (λ c. search needs) (λ c. search needs) loop-again
+    same-length returns)

@@ -6,15 +6,6 @@ use borrow.Author.Needs.{needs}
 use Rattle.moving.proofs.move_for.Statement.{statement}
 use Rattle.moving.proofs.move_for.Tie as tie
 
-check-plan-requires : tie.Need-check-plan-requires
-check-plan-requires c κs = search needs
-
-enum-known-checked : tie.Need-enum-known-checked
-enum-known-checked c = search needs
-
-enum-told : tie.Need-enum-told
-enum-told c = search needs
-
 returns : tie.Need-returns
 returns c =
     let a = c .before .before .before .before .before .args in
@@ -22,9 +13,6 @@ returns c =
 
 add-if1 : tie.Need-add-if1
 add-if1 c = omega (arith, c .before .before .before .before .before .before .before .pre .1 .width)
-
-div-if1 : tie.Need-div-if1
-div-if1 c = search needs
 
 returns-2 : tie.Need-returns-2
 returns-2 c =
@@ -37,9 +25,6 @@ move-records-requires c κs =
     let p = c .before .before .before .before .before .before .before .before .before .pre in
     can-move (a .from) (a .to) (a .n) (a .plan .now) (a .moved .now) (sym (c .before .before .before .before .checked .given .1) ∙ c .before .before .before .before .before .before .check-plan .ensures) (p .0) (c .before .if1 .left) (p .1) (p .2)
 
-same-length : tie.Need-same-length
-same-length c = search needs
-
 returns-3 : tie.Need-returns-3
 returns-3 c =
     let a = c .before .before .before .before .before .before .before .before .before .before .before .before .args in
@@ -50,13 +35,5 @@ pub move-for-spec : {M : Type 1} → statement M
 move-for-spec =
     tie.close
     (tie.spec
-    check-plan-requires
-    enum-known-checked
-    enum-told
-    returns
-    add-if1
-    div-if1
-    returns-2
-    move-records-requires
-    same-length
-    returns-3)
+    (λ c κs. search needs) (λ c. search needs) (λ c. search needs) returns add-if1 (λ c. search needs) returns-2 move-records-requires
+    (λ c. search needs) returns-3)

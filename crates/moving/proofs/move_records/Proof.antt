@@ -1,10 +1,9 @@
 -- Each turn of the loop lays one record more behind those before it.
-use mathlib.Core.Path.{_≡_, ap, sym, _∙_}
+use mathlib.Core.Path.{_≡_, ap}
 use Prim.Native.Nat.{_-_, _≤_}
 use native.Mathlib.Omega.{arith}
 use lib.ListN.{length}
-use Rattle.records.specs.Bytes.{planFrom, laid}
-use Rattle.records.specs.Record.{decoded}
+use Rattle.records.specs.Bytes.{planFrom}
 use Rattle.records.proofs.Written.{Written}
 use Rattle.moving.specs.Move.{movedPlan}
 use Rattle.moving.proofs.Laying.{here-long, laying-none, laying-room, laying-next, laying-all}
@@ -42,12 +41,6 @@ add-at-2 c =
     let l = c .before .before .before .before .before .before .before .loop in
     omega (arith, laying-room _ _ _ _ _ _ p (l .k) _ (omega arith) _ (l .inv .1))
 
-add-k : tie.Need-add-k Inv-loop μ-loop
-add-k c = search needs
-
-loop-less : tie.Need-loop-less Inv-loop μ-loop
-loop-less c = search needs
-
 loop-again : tie.Need-loop-again Inv-loop μ-loop
 loop-again c =
     let p = c .before .before .before .before .before .before .before .before .before .before .pre in
@@ -66,15 +59,5 @@ pub move-records-spec : {M : Type 1} → statement M
 move-records-spec =
     tie.close
     (tie.spec
-    Inv-loop
-    μ-loop
-    loop-holds
-    record-at-requires
-    move-record-requires
-    add-at
-    add-at-2
-    add-k
-    loop-less
-    loop-again
-    same-length
+    Inv-loop μ-loop loop-holds record-at-requires move-record-requires add-at add-at-2 (λ c. search needs) (λ c. search needs) loop-again same-length
     returns)

@@ -6,17 +6,8 @@ use borrow.Author.Needs.{needs}
 use Rattle.moving.proofs.to_first.Statement.{statement}
 use Rattle.moving.proofs.to_first.Tie as tie
 
-movable-edition-requires : tie.Need-movable-edition-requires
-movable-edition-requires c κs = search needs
-
-first-edition-requires : tie.Need-first-edition-requires
-first-edition-requires c κs = search needs
-
 move-for-requires : tie.Need-move-for-requires
 move-for-requires c κs = rw (c .before .before .movable-edition .ensures, c .before .first-edition .ensures) (movable-bounded, first-bounded, omega arith)
-
-same-length : tie.Need-same-length
-same-length c = search needs
 
 returns : tie.Need-returns
 returns c = rw (c .before .before .before .before .before .movable-edition .ensures, c .before .before .before .before .first-edition .ensures) at (c .before .before .move-for .ensures)
@@ -24,4 +15,4 @@ returns c = rw (c .before .before .before .before .before .movable-edition .ensu
 pub to-first-spec : {M : Type 1} → statement M
 to-first-spec =
     tie.close
-    (tie.spec movable-edition-requires first-edition-requires move-for-requires same-length returns)
+    (tie.spec (λ c κs. search needs) (λ c κs. search needs) move-for-requires (λ c. search needs) returns)

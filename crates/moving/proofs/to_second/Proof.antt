@@ -5,17 +5,8 @@ use borrow.Author.Needs.{needs}
 use Rattle.moving.proofs.to_second.Statement.{statement}
 use Rattle.moving.proofs.to_second.Tie as tie
 
-first-edition-requires : tie.Need-first-edition-requires
-first-edition-requires c κs = search needs
-
-second-edition-requires : tie.Need-second-edition-requires
-second-edition-requires c κs = search needs
-
 move-for-requires : tie.Need-move-for-requires
 move-for-requires c κs = rw (c .before .before .first-edition .ensures, c .before .second-edition .ensures) (first-bounded, second-bounded, omega arith)
-
-same-length : tie.Need-same-length
-same-length c = search needs
 
 returns : tie.Need-returns
 returns c = rw (c .before .before .before .before .before .first-edition .ensures, c .before .before .before .before .second-edition .ensures) at (c .before .before .move-for .ensures)
@@ -23,4 +14,4 @@ returns c = rw (c .before .before .before .before .before .first-edition .ensure
 pub to-second-spec : {M : Type 1} → statement M
 to-second-spec =
     tie.close
-    (tie.spec first-edition-requires second-edition-requires move-for-requires same-length returns)
+    (tie.spec (λ c κs. search needs) (λ c κs. search needs) move-for-requires (λ c. search needs) returns)

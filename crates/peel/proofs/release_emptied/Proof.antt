@@ -5,9 +5,9 @@ use Prim.Native.Nat.{ℕ, _-_, _≤_}
 use native.Mathlib.Omega.{arith}
 use lib.ListN.{getD, set}
 use borrow.Author.Tests.{not-false, eqb-true}
-use Rattle.labels.specs.Label.{In}
+use Rattle.sets.specs.Label.{In}
 use Rattle.search.specs.Tables.{Allowed}
-use Rattle.work.proofs.Cells.{getD-any}
+use Rattle.board.proofs.Cells.{getD-any}
 use Rattle.peel.proofs.Release.{Looked, looked-start, looked-keep, looked-free, looked-all}
 use borrow.Author.Needs.{needs}
 use Rattle.peel.proofs.release_emptied.Statement.{statement}
@@ -21,9 +21,6 @@ abbrev μ-loop : tie.MeasureT-loop
 
 loop-holds : tie.Need-loop-holds Inv-loop μ-loop
 loop-holds c = (omega arith, looked-start _ _ _ _ _ (c .before .before .before .before .pre))
-
-sub-i : tie.Need-sub-i Inv-loop μ-loop
-sub-i c = search needs
 
 shared-slice-read-t12 : tie.Need-shared-slice-read-t12 Inv-loop μ-loop
 shared-slice-read-t12 c = let p = c .before .before .before .before .before .before .before .pre in omega (arith, p .outputs, p .few)
@@ -88,18 +85,5 @@ pub release-emptied-spec : {M : Type 1} → statement M
 release-emptied-spec =
     tie.close
     (tie.spec
-    Inv-loop
-    μ-loop
-    loop-holds
-    sub-i
-    shared-slice-read-t12
-    cast-t13
-    row-of-requires
-    has-requires
-    release-requires
-    loop-less
-    loop-again
-    loop-less-2
-    loop-again-2
-    same-length
-    returns)
+    Inv-loop μ-loop loop-holds (λ c. search needs) shared-slice-read-t12 cast-t13 row-of-requires has-requires release-requires loop-less loop-again
+    loop-less-2 loop-again-2 same-length returns)

@@ -19,21 +19,6 @@ subtract-requires c κs =
 release-emptied-requires : tie.Need-release-emptied-requires
 release-emptied-requires c κs = seated _ _ _ _ _ _ _ (c .before .before .before .before .before .before .before .before .before .before .before .before .before .before .before .before .before .before .before .before .before .before .before .before .before .before .before .before .before .before .before .before .pre .0) _ _ (c .before .before .before .before .before .before .before .before .before .before .before .before .before .before .before .before .before .before .before .before .before .before .next-setting .ensures) _ (c .before .before .before .before .before .before .before .before .before .before .before .before .before .before .before .smallest .ensures) _ _ _ (c .before .before .before .before .before .before .before .before .before .before .subtract .ensures)
 
-same-length : tie.Need-same-length
-same-length c = search needs
-
-same-length-2 : tie.Need-same-length-2
-same-length-2 c = search needs
-
-same-length-3 : tie.Need-same-length-3
-same-length-3 c = search needs
-
-same-length-4 : tie.Need-same-length-4
-same-length-4 c = search needs
-
-same-length-5 : tie.Need-same-length-5
-same-length-5 c = search needs
-
 returns : tie.Need-returns
 returns c = taken _ _ _ _ _ _ _ (c .before .before .before .before .before .before .before .before .before .before .before .before .before .before .before .before .before .before .before .before .before .before .before .before .before .before .before .before .before .before .before .before .before .before .before .pre .0) _ _ (c .before .before .before .before .before .before .before .before .before .before .before .before .before .before .before .before .before .before .before .before .before .before .before .before .before .next-setting .ensures) _ (c .before .before .before .before .before .before .before .before .before .before .before .before .before .before .before .before .before .before .smallest .ensures) _ _ _ (c .before .before .before .before .before .before .before .before .before .before .before .before .before .subtract .ensures) _ _ (c .before .before .release-emptied .ensures)
 
@@ -41,13 +26,5 @@ pub take-off-spec : {M : Type 1} → statement M
 take-off-spec =
     tie.close
     (tie.spec
-    next-setting-requires
-    smallest-requires
-    subtract-requires
-    release-emptied-requires
-    same-length
-    same-length-2
-    same-length-3
-    same-length-4
-    same-length-5
-    returns)
+    next-setting-requires smallest-requires subtract-requires release-emptied-requires (λ c. search needs) (λ c. search needs) (λ c. search needs)
+    (λ c. search needs) (λ c. search needs) returns)

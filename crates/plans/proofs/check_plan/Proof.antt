@@ -6,15 +6,6 @@ use borrow.Author.Needs.{needs}
 use Rattle.plans.proofs.check_plan.Statement.{statement}
 use Rattle.plans.proofs.check_plan.Tie as tie
 
-open-requires : tie.Need-open-requires
-open-requires c κs = search needs
-
-enum-known-opened : tie.Need-enum-known-opened
-enum-known-opened c = search needs
-
-enum-told : tie.Need-enum-told
-enum-told c = search needs
-
 returns : tie.Need-returns
 returns c = c .enum-told .given .1 ∙ check-refused _ _ _ (sym (c .enum-told .given .1) ∙ c .before .before .«open» .ensures)
 
@@ -26,9 +17,6 @@ returns-2 c =
     let o = sym (c .before .before .before .before .opened .given .1) ∙ c .before .before .before .before .before .before .«open» .ensures in
     checking-stopped _ _ _ o _ _ (c .before .before .judge .ensures) (c .if1 .taken)
 
-counted-requires : tie.Need-counted-requires
-counted-requires c κs = search needs
-
 returns-3 : tie.Need-returns-3
 returns-3 c =
     let o = sym (c .before .before .before .before .before .opened .given .1) ∙ c .before .before .before .before .before .before .before .«open» .ensures in
@@ -38,11 +26,4 @@ pub check-plan-spec : {M : Type 1} → statement M
 check-plan-spec =
     tie.close
     (tie.spec
-    open-requires
-    enum-known-opened
-    enum-told
-    returns
-    judge-requires
-    returns-2
-    counted-requires
-    returns-3)
+    (λ c κs. search needs) (λ c. search needs) (λ c. search needs) returns judge-requires returns-2 (λ c κs. search needs) returns-3)

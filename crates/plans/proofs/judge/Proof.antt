@@ -23,9 +23,6 @@ record-fine-requires c κs =
     let p = c .before .before .before .before .pre in
     (omega (arith, p .few, p .bounded .ports, p .bounded .width), omega (arith, p .few, p .bounded .ports, read-size _ _ _ _ p _ 0 (omega arith) _ (c .record-at .ensures)))
 
-counted-requires : tie.Need-counted-requires Inv-loop μ-loop
-counted-requires c κs = search needs
-
 returns : tie.Need-returns Inv-loop μ-loop
 returns c =
     let l = c .before .before .before .before .before .loop in
@@ -35,26 +32,14 @@ returns c =
 hold-of-requires : tie.Need-hold-of-requires Inv-loop μ-loop
 hold-of-requires c κs = omega (arith, read-size _ _ _ _ (c .before .before .before .before .before .before .pre) _ 0 (omega arith) _ (c .before .before .record-at .ensures))
 
-cast-total : tie.Need-cast-total Inv-loop μ-loop
-cast-total c = search needs
-
 add-total : tie.Need-add-total Inv-loop μ-loop
 add-total c = omega (arith, c .before .before .before .before .before .loop .inv .small, c .before .before .before .before .before .before .before .pre .most)
-
-add-k : tie.Need-add-k Inv-loop μ-loop
-add-k c = search needs
-
-loop-less : tie.Need-loop-less Inv-loop μ-loop
-loop-less c = search needs
 
 loop-again : tie.Need-loop-again Inv-loop μ-loop
 loop-again c =
     let l = c .before .before .before .before .before .loop in
     let is = c .before .before .before .record-at .ensures in
     pass-more _ _ _ _ (c .before .before .before .before .before .before .before .pre) _ _ (omega arith) _ is (l .inv) _ (c .before .before .record-fine .ensures) (c .before .if1 .left) _ (c .hold-of .ensures) (omega arith)
-
-counted-requires-2 : tie.Need-counted-requires-2 Inv-loop μ-loop
-counted-requires-2 c κs = search needs
 
 returns-2 : tie.Need-returns-2 Inv-loop μ-loop
 returns-2 c =
@@ -65,18 +50,5 @@ pub judge-spec : {M : Type 1} → statement M
 judge-spec =
     tie.close
     (tie.spec
-    Inv-loop
-    μ-loop
-    loop-holds
-    record-at-requires
-    record-fine-requires
-    counted-requires
-    returns
-    hold-of-requires
-    cast-total
-    add-total
-    add-k
-    loop-less
-    loop-again
-    counted-requires-2
-    returns-2)
+    Inv-loop μ-loop loop-holds record-at-requires record-fine-requires (λ c κs. search needs) returns hold-of-requires (λ c. search needs) add-total
+    (λ c. search needs) (λ c. search needs) loop-again (λ c κs. search needs) returns-2)

@@ -12,15 +12,6 @@ returns c = opening-ports _ _ _ (no-ports _ _ (c .if1 .taken))
 returns-2 : tie.Need-returns-2
 returns-2 c = opening-ports _ _ _ (many-ports _ _ (c .if2 .taken))
 
-add-size : tie.Need-add-size
-add-size c = search needs
-
-div-records : tie.Need-div-records
-div-records c = search needs
-
-rem-if3 : tie.Need-rem-if3
-rem-if3 c = search needs
-
 returns-3 : tie.Need-returns-3
 returns-3 c = opening-torn (c .before .before .before .before .before .args .e) _ _ (omega arith) (c .before .before .if2 .left) (c .if3 .taken)
 
@@ -33,4 +24,4 @@ returns-5 c = opening-done (c .before .before .before .before .before .before .b
 pub open-spec : {M : Type 1} → statement M
 open-spec =
     tie.close
-    (tie.spec returns returns-2 add-size div-records rem-if3 returns-3 returns-4 returns-5)
+    (tie.spec returns returns-2 (λ c. search needs) (λ c. search needs) (λ c. search needs) returns-3 returns-4 returns-5)

@@ -4,9 +4,6 @@ use borrow.Author.Needs.{needs}
 use Rattle.plans.proofs.open_plan.Statement.{statement}
 use Rattle.plans.proofs.open_plan.Tie as tie
 
-first-edition-requires : tie.Need-first-edition-requires
-first-edition-requires c κs = search needs
-
 open-requires : tie.Need-open-requires
 open-requires c κs = rw (c .first-edition .ensures) first-bounded
 
@@ -14,4 +11,4 @@ returns : tie.Need-returns
 returns c = rw (c .before .first-edition .ensures) at (c .«open» .ensures)
 
 pub open-plan-spec : {M : Type 1} → statement M
-open-plan-spec = tie.close (tie.spec first-edition-requires open-requires returns)
+open-plan-spec = tie.close (tie.spec (λ c κs. search needs) open-requires returns)

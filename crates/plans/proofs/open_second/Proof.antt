@@ -4,9 +4,6 @@ use borrow.Author.Needs.{needs}
 use Rattle.plans.proofs.open_second.Statement.{statement}
 use Rattle.plans.proofs.open_second.Tie as tie
 
-second-edition-requires : tie.Need-second-edition-requires
-second-edition-requires c κs = search needs
-
 open-requires : tie.Need-open-requires
 open-requires c κs = rw (c .second-edition .ensures) second-bounded
 
@@ -14,4 +11,4 @@ returns : tie.Need-returns
 returns c = rw (c .before .second-edition .ensures) at (c .«open» .ensures)
 
 pub open-second-spec : {M : Type 1} → statement M
-open-second-spec = tie.close (tie.spec second-edition-requires open-requires returns)
+open-second-spec = tie.close (tie.spec (λ c κs. search needs) open-requires returns)

@@ -5,20 +5,11 @@ use borrow.Author.Needs.{needs}
 use Rattle.plans.proofs.record_at.Statement.{statement}
 use Rattle.plans.proofs.record_at.Tie as tie
 
-add-size : tie.Need-add-size
-add-size c = search needs
-
 mul-start : tie.Need-mul-start
 mul-start c = omega (arith, record-fits (c .args .width) (c .args .plan .now) (c .args .k) _ (c .pre .1) (whole-fits (c .args .width) (c .args .plan .now)))
 
 add-end : tie.Need-add-end
 add-end c = omega (arith, record-fits (c .args .width) (c .args .plan .now) (c .args .k) _ (c .pre .1) (whole-fits (c .args .width) (c .args .plan .now)))
-
-sub-result : tie.Need-sub-result
-sub-result c = search needs
-
-part-result-start : tie.Need-part-result-start
-part-result-start c = search needs
 
 part-result-end : tie.Need-part-result-end
 part-result-end c = omega (arith, record-fits (c .args .width) (c .args .plan .now) (c .args .k) _ (c .pre .1) (whole-fits (c .args .width) (c .args .plan .now)))
@@ -29,4 +20,4 @@ returns c = part-record (c .before .args .width) (c .before .args .plan .now) (c
 pub record-at-spec : {M : Type 1} → statement M
 record-at-spec =
     tie.close
-    (tie.spec add-size mul-start add-end sub-result part-result-start part-result-end returns)
+    (tie.spec (λ c. search needs) mul-start add-end (λ c. search needs) (λ c. search needs) part-result-end returns)

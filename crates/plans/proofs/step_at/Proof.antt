@@ -1,16 +1,10 @@
 -- The first edition keeps to the bounds of every edition, and the lent outputs are idle.
-use mathlib.Core.Path.{refl, _∙_}
+use mathlib.Core.Path.{refl}
 use Rattle.switch.proofs.Editions.{first-bounded}
 use Rattle.plans.proofs.Read.{takes}
 use borrow.Author.Needs.{needs}
 use Rattle.plans.proofs.step_at.Statement.{statement}
 use Rattle.plans.proofs.step_at.Tie as tie
-
-first-edition-requires : tie.Need-first-edition-requires
-first-edition-requires c κs = search needs
-
-slice-aggregate-step-for : tie.Need-slice-aggregate-step-for
-slice-aggregate-step-for c = search needs
 
 step-for-requires : tie.Need-step-for-requires
 step-for-requires c κs = rw (c .before .first-edition .ensures) (first-bounded, refl)
@@ -20,4 +14,4 @@ returns c = takes (rw (c .before .before .before .first-edition .ensures) at (c 
 
 pub step-at-spec : {M : Type 1} → statement M
 step-at-spec =
-    tie.close (tie.spec first-edition-requires slice-aggregate-step-for step-for-requires returns)
+    tie.close (tie.spec (λ c κs. search needs) (λ c. search needs) step-for-requires returns)

@@ -8,25 +8,10 @@ use borrow.Author.Needs.{needs}
 use Rattle.plans.proofs.step_for.Statement.{statement}
 use Rattle.plans.proofs.step_for.Tie as tie
 
-open-requires : tie.Need-open-requires
-open-requires c κs = search needs
-
-enum-known-opened : tie.Need-enum-known-opened
-enum-known-opened c = search needs
-
-enum-told : tie.Need-enum-told
-enum-told c = search needs
-
-no-record-requires : tie.Need-no-record-requires
-no-record-requires c κs = search needs
-
 returns : tie.Need-returns
 returns c =
     let a = c .before .before .before .before .before .before .args in
     takes-none (a .e) _ (a .at) (step-refused (a .e) (a .n) (a .plan .now) (a .at) (sym (c .before .enum-told .given .1) ∙ c .before .before .before .«open» .ensures)) (c .no-record .ensures) (c .before .before .before .before .before .before .pre .1)
-
-no-record-requires-2 : tie.Need-no-record-requires-2
-no-record-requires-2 c κs = search needs
 
 returns-2 : tie.Need-returns-2
 returns-2 c =
@@ -47,9 +32,6 @@ record-fine-requires c κs =
     let b = c .before .before .before .before .before .before .before .before .before .pre .0 in
     let few = opened (a .e) (a .n) (a .plan .now) _ o .few in
     (omega (arith, few, b .ports, b .width), omega (arith, few, b .ports, here-size (a .e) b (a .n) (a .plan .now) o (a .at) (c .before .if1 .left) _ (c .record-at .ensures)))
-
-no-record-requires-3 : tie.Need-no-record-requires-3
-no-record-requires-3 c κs = search needs
 
 returns-3 : tie.Need-returns-3
 returns-3 c =
@@ -72,12 +54,6 @@ hold-of-requires c κs =
     let o = sym (c .before .before .before .before .before .before .before .before .before .before .opened .given .1) ∙ c .before .before .before .before .before .before .before .before .before .before .before .before .«open» .ensures in
     omega (arith, here-size (a .e) (c .before .before .before .before .before .before .before .before .before .before .before .before .before .before .before .pre .0) (a .n) (a .plan .now) o (a .at) (c .before .before .before .before .before .before .before .if1 .left) _ (c .before .before .before .before .before .before .record-at .ensures))
 
-add-t19 : tie.Need-add-t19
-add-t19 c = search needs
-
-same-length : tie.Need-same-length
-same-length c = search needs
-
 returns-4 : tie.Need-returns-4
 returns-4 c =
     let a = c .before .before .before .before .before .before .before .before .before .before .before .before .before .before .before .before .args in
@@ -89,19 +65,5 @@ pub step-for-spec : {M : Type 1} → statement M
 step-for-spec =
     tie.close
     (tie.spec
-    open-requires
-    enum-known-opened
-    enum-told
-    no-record-requires
-    returns
-    no-record-requires-2
-    returns-2
-    record-at-requires
-    record-fine-requires
-    no-record-requires-3
-    returns-3
-    copy-outputs-requires
-    hold-of-requires
-    add-t19
-    same-length
-    returns-4)
+    (λ c κs. search needs) (λ c. search needs) (λ c. search needs) (λ c κs. search needs) returns (λ c κs. search needs) returns-2 record-at-requires
+    record-fine-requires (λ c κs. search needs) returns-3 copy-outputs-requires hold-of-requires (λ c. search needs) (λ c. search needs) returns-4)

@@ -1,6 +1,5 @@
 -- What is checked are the demand's own cells, in the copy; more of them than the copy has room for are never fine.
 use mathlib.Core.Path.{_≡_, refl, sym, ap, _∙_, subst}
-use mathlib.Core.List.{List}
 use native.Mathlib.Nat.{mul-le-mul}
 use native.Mathlib.Omega.{arith}
 use lib.ListN.{length, take, drop}
@@ -13,9 +12,6 @@ use borrow.Author.Needs.{needs}
 use Rattle.quick.proofs.copy_checked.Statement.{statement}
 use Rattle.quick.proofs.copy_checked.Tie as tie
 
-check-demand-requires : tie.Need-check-demand-requires
-check-demand-requires c κs = search needs
-
 returns : tie.Need-returns
 returns c =
     record {
@@ -25,20 +21,8 @@ returns c =
           absurd (omega (arith, k .size, mul-le-mul (k .few) (k .few), c .before .before .before .before .pre .1, c .before .if1 .taken));
     }
 
-copy-requires : tie.Need-copy-requires
-copy-requires c κs = search needs
-
-slice-reshare-prefix-check-demand : tie.Need-slice-reshare-prefix-check-demand
-slice-reshare-prefix-check-demand c = search needs
-
 slice-aggregate-check-demand : tie.Need-slice-aggregate-check-demand
 slice-aggregate-check-demand c = sym (length-take-le (length (c .before .before .before .before .before .before .before .before .args .cells .now)) (c .before .before .before .copy .last .1 .0) (omega (arith, c .before .before .before .copy .kept .1 .0, c .before .before .before .before .before .if1 .left)))
-
-check-demand-requires-2 : tie.Need-check-demand-requires-2
-check-demand-requires-2 c κs = search needs
-
-same-length : tie.Need-same-length
-same-length c = search needs
 
 returns-2 : tie.Need-returns-2
 returns-2 c =
@@ -56,11 +40,5 @@ pub copy-checked-spec : {M : Type 1} → statement M
 copy-checked-spec =
     tie.close
     (tie.spec
-    check-demand-requires
-    returns
-    copy-requires
-    slice-reshare-prefix-check-demand
-    slice-aggregate-check-demand
-    check-demand-requires-2
-    same-length
+    (λ c κs. search needs) returns (λ c κs. search needs) (λ c. search needs) slice-aggregate-check-demand (λ c κs. search needs) (λ c. search needs)
     returns-2)

@@ -90,18 +90,5 @@ pub fill-slots-spec : {M : Type 1} → statement M
 fill-slots-spec =
     tie.close
     (tie.spec
-    Inv-loop
-    μ-loop
-    load-requires
-    loop-holds
-    fill-slot-requires
-    lay-requires
-    add-s
-    loop-less
-    loop-again
-    same-length
-    same-length-2
-    same-length-3
-    same-length-4
-    same-length-5
-    returns)
+    Inv-loop μ-loop load-requires loop-holds fill-slot-requires lay-requires add-s loop-less loop-again same-length same-length-2 same-length-3
+    same-length-4 same-length-5 returns)

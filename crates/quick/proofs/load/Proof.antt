@@ -5,21 +5,6 @@ use borrow.Author.Needs.{needs}
 use Rattle.quick.proofs.load.Statement.{statement}
 use Rattle.quick.proofs.load.Tie as tie
 
-label-rows-requires : tie.Need-label-rows-requires
-label-rows-requires c κs = search needs
-
-first-requires : tie.Need-first-requires
-first-requires c κs = search needs
-
-asked-slots-requires : tie.Need-asked-slots-requires
-asked-slots-requires c κs = search needs
-
-same-length : tie.Need-same-length
-same-length c = search needs
-
-same-length-2 : tie.Need-same-length-2
-same-length-2 c = search needs
-
 returns : tie.Need-returns
 unfolding leftIn allSlots
 returns c =
@@ -34,12 +19,4 @@ returns c =
     }
 
 pub load-spec : {M : Type 1} → statement M
-load-spec =
-    tie.close
-    (tie.spec
-    label-rows-requires
-    first-requires
-    asked-slots-requires
-    same-length
-    same-length-2
-    returns)
+load-spec = tie.close (tie.spec (λ c κs. search needs) (λ c κs. search needs) (λ c κs. search needs) (λ c. search needs) (λ c. search needs) returns)

@@ -10,8 +10,8 @@ use Rattle.demand.proofs.Check.{fine-asked}
 use Rattle.records.specs.Bytes.{whole, bytes, laid}
 use Rattle.rules.specs.Quick.{quickPlan}
 use Rattle.planner.proofs.Planned.{shortage-none, shortage-some}
-use Rattle.work.specs.Level.{Sized}
-use Rattle.work.proofs.Cells.{sized-as}
+use Rattle.board.specs.Level.{Sized}
+use Rattle.board.proofs.Cells.{sized-as}
 use Rattle.slot.specs.Filled.{leftover}
 use Rattle.quick.specs.Lent.{laidIf}
 use Rattle.quick.proofs.Loading.{copied-short, copied-plan}
@@ -19,24 +19,6 @@ use Rattle.quick.proofs.Planning.{plan-fits, gives-room, gives-plan}
 use borrow.Author.Needs.{needs}
 use Rattle.quick.proofs.plan_checked.Statement.{statement}
 use Rattle.quick.proofs.plan_checked.Tie as tie
-
-short-of-requires : tie.Need-short-of-requires
-short-of-requires c κs = search needs
-
-same-length : tie.Need-same-length
-same-length c = search needs
-
-same-length-2 : tie.Need-same-length-2
-same-length-2 c = search needs
-
-same-length-3 : tie.Need-same-length-3
-same-length-3 c = search needs
-
-same-length-4 : tie.Need-same-length-4
-same-length-4 c = search needs
-
-same-length-5 : tie.Need-same-length-5
-same-length-5 c = search needs
 
 abbrev start : tie.After-short-of → tie.Start
 start c = c .before .before .before .before .before .before .before .before .before .before .before .before
@@ -78,21 +60,6 @@ fill-slots-requires c κs =
           (omega (arith, plan-fits (a .e .width) (a .e .byte) (a .n) (a .cells .now) (a .plan .now) (fits v z), ap length (v .short-of .ensures .same))),
     )
 
-same-length-6 : tie.Need-same-length-6
-same-length-6 c = search needs
-
-same-length-7 : tie.Need-same-length-7
-same-length-7 c = search needs
-
-same-length-8 : tie.Need-same-length-8
-same-length-8 c = search needs
-
-same-length-9 : tie.Need-same-length-9
-same-length-9 c = search needs
-
-same-length-10 : tie.Need-same-length-10
-same-length-10 c = search needs
-
 returns-2 : tie.Need-returns-2
 unfolding laidIf
 returns-2 c =
@@ -109,17 +76,5 @@ pub plan-checked-spec : {M : Type 1} → statement M
 plan-checked-spec =
     tie.close
     (tie.spec
-    short-of-requires
-    same-length
-    same-length-2
-    same-length-3
-    same-length-4
-    same-length-5
-    returns
-    fill-slots-requires
-    same-length-6
-    same-length-7
-    same-length-8
-    same-length-9
-    same-length-10
-    returns-2)
+    (λ c κs. search needs) (λ c. search needs) (λ c. search needs) (λ c. search needs) (λ c. search needs) (λ c. search needs) returns
+    fill-slots-requires (λ c. search needs) (λ c. search needs) (λ c. search needs) (λ c. search needs) (λ c. search needs) returns-2)

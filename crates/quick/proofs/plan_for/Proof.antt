@@ -11,18 +11,6 @@ use borrow.Author.Needs.{needs}
 use Rattle.quick.proofs.plan_for.Statement.{statement}
 use Rattle.quick.proofs.plan_for.Tie as tie
 
-copy-checked-requires : tie.Need-copy-checked-requires
-copy-checked-requires c κs = search needs
-
-enum-known-checked : tie.Need-enum-known-checked
-enum-known-checked c = search needs
-
-enum-known-checked-2 : tie.Need-enum-known-checked-2
-enum-known-checked-2 c = search needs
-
-same-length : tie.Need-same-length
-same-length c = search needs
-
 -- the demand is not refused by itself
 abbrev start : tie.After-checked2 → tie.Start
 start c = c .before .before .before .before .before .before .before .before .before .before .before .before
@@ -72,52 +60,16 @@ plan-checked-requires c κs =
       p .wide,
     )
 
-same-length-2 : tie.Need-same-length-2
-same-length-2 c = search needs
-
 returns-2 : tie.Need-returns-2
 returns-2 c =
     let k = c .before in
     let a = c .before .before .before .before .before .before .before .before .before .before .before .before .before .args in
     gives-fault (a .e) (a .n) (a .cells .now) (a .plan .now) (k .checked .given .0 .0) (sym (c .before .before .before .before .before .copy-checked .ensures .checked) ∙ k .checked .given .1)
 
-same-length-3 : tie.Need-same-length-3
-same-length-3 c = search needs
-
-same-length-4 : tie.Need-same-length-4
-same-length-4 c = search needs
-
-same-length-5 : tie.Need-same-length-5
-same-length-5 c = search needs
-
-same-length-6 : tie.Need-same-length-6
-same-length-6 c = search needs
-
-same-length-7 : tie.Need-same-length-7
-same-length-7 c = search needs
-
-returns-3 : tie.Need-returns-3
-returns-3 c = search needs
-
 pub plan-for-spec : {M : Type 1} → statement M
 plan-for-spec =
     tie.close
     (tie.spec
-    copy-checked-requires
-    enum-known-checked
-    enum-known-checked-2
-    same-length
-    returns
-    slice-relend-prefix-plan-checked
-    slice-aggregate-plan-checked
-    slice-relend-prefix-plan-checked-2
-    slice-aggregate-plan-checked-2
-    plan-checked-requires
-    same-length-2
-    returns-2
-    same-length-3
-    same-length-4
-    same-length-5
-    same-length-6
-    same-length-7
-    returns-3)
+    (λ c κs. search needs) (λ c. search needs) (λ c. search needs) (λ c. search needs) returns slice-relend-prefix-plan-checked
+    slice-aggregate-plan-checked slice-relend-prefix-plan-checked-2 slice-aggregate-plan-checked-2 plan-checked-requires (λ c. search needs) returns-2
+    (λ c. search needs) (λ c. search needs) (λ c. search needs) (λ c. search needs) (λ c. search needs) (λ c. search needs))

@@ -10,9 +10,6 @@ use borrow.Author.Needs.{needs}
 use Rattle.quick.proofs.quick_plan.Statement.{statement}
 use Rattle.quick.proofs.quick_plan.Tie as tie
 
-first-edition-requires : tie.Need-first-edition-requires
-first-edition-requires c κs = search needs
-
 slice-aggregate-plan-for : tie.Need-slice-aggregate-plan-for
 slice-aggregate-plan-for c = refl
 
@@ -29,9 +26,6 @@ plan-for-requires : tie.Need-plan-for-requires
 plan-for-requires c κs = rw (c .before .before .before .before .before .first-edition .ensures)
     (record { bounded = first-bounded; cells = omega arith; low = omega arith; high = omega arith; wide = omega arith })
 
-same-length : tie.Need-same-length
-same-length c = search needs
-
 returns : tie.Need-returns
 returns c =
     let a = c .before .before .before .before .before .before .before .before .before .before .before .before .before .before .before .args in
@@ -43,11 +37,5 @@ pub quick-plan-spec : {M : Type 1} → statement M
 quick-plan-spec =
     tie.close
     (tie.spec
-    first-edition-requires
-    slice-aggregate-plan-for
-    slice-aggregate-plan-for-2
-    slice-aggregate-plan-for-3
-    slice-aggregate-plan-for-4
-    plan-for-requires
-    same-length
-    returns)
+    (λ c κs. search needs) slice-aggregate-plan-for slice-aggregate-plan-for-2 slice-aggregate-plan-for-3 slice-aggregate-plan-for-4 plan-for-requires
+    (λ c. search needs) returns)

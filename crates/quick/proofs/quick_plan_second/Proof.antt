@@ -10,9 +10,6 @@ use borrow.Author.Needs.{needs}
 use Rattle.quick.proofs.quick_plan_second.Statement.{statement}
 use Rattle.quick.proofs.quick_plan_second.Tie as tie
 
-second-edition-requires : tie.Need-second-edition-requires
-second-edition-requires c κs = search needs
-
 slice-aggregate-plan-for : tie.Need-slice-aggregate-plan-for
 slice-aggregate-plan-for c = refl
 
@@ -29,9 +26,6 @@ plan-for-requires : tie.Need-plan-for-requires
 plan-for-requires c κs = rw (c .before .before .before .before .before .second-edition .ensures)
     (record { bounded = second-bounded; cells = omega arith; low = omega arith; high = omega arith; wide = omega arith })
 
-same-length : tie.Need-same-length
-same-length c = search needs
-
 returns : tie.Need-returns
 returns c =
     let a = c .before .before .before .before .before .before .before .before .before .before .before .before .before .before .before .args in
@@ -43,11 +37,5 @@ pub quick-plan-second-spec : {M : Type 1} → statement M
 quick-plan-second-spec =
     tie.close
     (tie.spec
-    second-edition-requires
-    slice-aggregate-plan-for
-    slice-aggregate-plan-for-2
-    slice-aggregate-plan-for-3
-    slice-aggregate-plan-for-4
-    plan-for-requires
-    same-length
-    returns)
+    (λ c κs. search needs) slice-aggregate-plan-for slice-aggregate-plan-for-2 slice-aggregate-plan-for-3 slice-aggregate-plan-for-4 plan-for-requires
+    (λ c. search needs) returns)

@@ -17,15 +17,6 @@ use borrow.Author.Needs.{needs}
 use Rattle.quick.proofs.short_of.Statement.{statement}
 use Rattle.quick.proofs.short_of.Tie as tie
 
-add-room : tie.Need-add-room
-add-room c = search needs
-
-div-room : tie.Need-div-room
-div-room c = search needs
-
-quick-records-requires : tie.Need-quick-records-requires
-quick-records-requires c κs = search needs
-
 returns : tie.Need-returns
 returns c =
     let s = c .before .before .before .before .before .before .before .before in
@@ -42,21 +33,6 @@ fill-slots-requires : tie.Need-fill-slots-requires
 fill-slots-requires c κs =
     let s = c .before .before .before .before .before .before .before .before .before .before .before .before .before in
     (copied-short _ _ _ _ (s .pre .1 .sized) (s .pre .0 .copied) _ (fine-asked _ _ _ _ (s .pre .0 .fine)), s .pre .1, λ e. absurd (true≢false (sym e)))
-
-same-length : tie.Need-same-length
-same-length c = search needs
-
-same-length-2 : tie.Need-same-length-2
-same-length-2 c = search needs
-
-same-length-3 : tie.Need-same-length-3
-same-length-3 c = search needs
-
-same-length-4 : tie.Need-same-length-4
-same-length-4 c = search needs
-
-same-length-5 : tie.Need-same-length-5
-same-length-5 c = search needs
 
 -- the records are counted, and nothing is written
 abbrev start : tie.After-fill-slots → tie.Start
@@ -82,21 +58,6 @@ copy-requires c κs =
     let s = c .before .before .before .before .before .before .before .before .before .before .before .before .before .before .before .before .before .before .before .before .before .before .before .before .before .before in
     omega (arith, fine-asked _ _ _ _ (s .pre .0 .fine) .size, s .pre .1 .sized .room, c .before .before .before .before .before .before .before .before .before .before .before .before .fill-slots .kept .1 .1 .1 .1 .0)
 
-same-length-6 : tie.Need-same-length-6
-same-length-6 c = search needs
-
-same-length-7 : tie.Need-same-length-7
-same-length-7 c = search needs
-
-same-length-8 : tie.Need-same-length-8
-same-length-8 c = search needs
-
-same-length-9 : tie.Need-same-length-9
-same-length-9 c = search needs
-
-same-length-10 : tie.Need-same-length-10
-same-length-10 c = search needs
-
 returns-3 : tie.Need-returns-3
 returns-3 c =
     let f = c .before .before .before .before .before .before .before .before .before .before .before .before .before .before .before in
@@ -111,21 +72,6 @@ pub short-of-spec : {M : Type 1} → statement M
 short-of-spec =
     tie.close
     (tie.spec
-    add-room
-    div-room
-    quick-records-requires
-    returns
-    fill-slots-requires
-    same-length
-    same-length-2
-    same-length-3
-    same-length-4
-    same-length-5
-    returns-2
-    copy-requires
-    same-length-6
-    same-length-7
-    same-length-8
-    same-length-9
-    same-length-10
-    returns-3)
+    (λ c. search needs) (λ c. search needs) (λ c κs. search needs) returns fill-slots-requires (λ c. search needs) (λ c. search needs)
+    (λ c. search needs) (λ c. search needs) (λ c. search needs) returns-2 copy-requires (λ c. search needs) (λ c. search needs) (λ c. search needs)
+    (λ c. search needs) (λ c. search needs) returns-3)

@@ -9,7 +9,7 @@ use Rattle.counting.specs.Count.{ind, count}
 use Rattle.counting.proofs.Sum.{sum-zero, sum-next}
 use Rattle.counting.proofs.Count.{ind-le}
 use Rattle.switch.specs.Demand.{cell}
-use Rattle.work.proofs.Cells.{index-in}
+use Rattle.board.proofs.Cells.{index-in}
 use borrow.Author.Needs.{needs}
 use Rattle.quiet.proofs.asked_of.Statement.{statement}
 use Rattle.quiet.proofs.asked_of.Tie as tie
@@ -35,17 +35,8 @@ mul-one-if c = let p = c .before .before .before .before .pre in omega (arith, i
 shared-slice-read-one-if : tie.Need-shared-slice-read-one-if Inv-loop μ-loop
 shared-slice-read-one-if c = let p = c .before .before .before .before .before .pre in index-in _ _ _ _ (p .0) (p .1) (c .before .loop-test .taken) .0
 
-one-if-requires : tie.Need-one-if-requires Inv-loop μ-loop
-one-if-requires c κs = search needs
-
 add-asked : tie.Need-add-asked Inv-loop μ-loop
 add-asked c = omega (arith, c .one-if .ensures, ind-le (ltb 0 (getD (c .before .before .before .before .before .before .args .cells .now) (c .before .before .before .before .before .before .args .i .0 * c .before .before .before .before .before .before .args .n + c .before .before .before .loop .j) 0)), c .before .before .before .before .before .before .pre .0 .few)
-
-add-j : tie.Need-add-j Inv-loop μ-loop
-add-j c = search needs
-
-loop-less : tie.Need-loop-less Inv-loop μ-loop
-loop-less c = search needs
 
 loop-again : tie.Need-loop-again Inv-loop μ-loop
 loop-again c =
@@ -66,16 +57,5 @@ pub asked-of-spec : {M : Type 1} → statement M
 asked-of-spec =
     tie.close
     (tie.spec
-    Inv-loop
-    μ-loop
-    mul-row
-    loop-holds
-    add-one-if
-    mul-one-if
-    shared-slice-read-one-if
-    one-if-requires
-    add-asked
-    add-j
-    loop-less
-    loop-again
-    returns)
+    Inv-loop μ-loop mul-row loop-holds add-one-if mul-one-if shared-slice-read-one-if (λ c κs. search needs) add-asked (λ c. search needs)
+    (λ c. search needs) loop-again returns)

@@ -32,12 +32,6 @@ few c = let a = c .before .before .before .before .args in omega (arith, c .aske
 add-asked : tie.Need-add-asked Inv-loop μ-loop
 add-asked c = omega (arith, few c, c .before .before .before .before .pre .few)
 
-add-i : tie.Need-add-i Inv-loop μ-loop
-add-i c = search needs
-
-loop-less : tie.Need-loop-less Inv-loop μ-loop
-loop-less c = search needs
-
 loop-again : tie.Need-loop-again Inv-loop μ-loop
 loop-again c =
     let a = c .before .before .before .before .args in
@@ -56,12 +50,4 @@ pub asked-pairs-spec : {M : Type 1} → statement M
 asked-pairs-spec =
     tie.close
     (tie.spec
-    Inv-loop
-    μ-loop
-    loop-holds
-    asked-of-requires
-    add-asked
-    add-i
-    loop-less
-    loop-again
-    returns)
+    Inv-loop μ-loop loop-holds asked-of-requires add-asked (λ c. search needs) (λ c. search needs) loop-again returns)

@@ -4,7 +4,6 @@ use native.Mathlib.Omega.{arith}
 use lib.ListN.{length}
 use Rattle.quiet.specs.Taking.{leftover}
 use Rattle.quiet.proofs.Running.{Running, running-first, running-last, running-less, running-small, running-next}
-use borrow.Author.Needs.{needs}
 use Rattle.quiet.proofs.count_records.Statement.{statement}
 use Rattle.quiet.proofs.count_records.Tie as tie
 
@@ -73,15 +72,5 @@ pub count-records-spec : {M : Type 1} → statement M
 count-records-spec =
     tie.close
     (tie.spec
-    Inv-loop
-    μ-loop
-    loop-holds
-    slice-aggregate-next-record
-    next-record-requires
-    same-length
-    same-length-2
-    same-length-3
-    returns
-    add-records
-    loop-less
+    Inv-loop μ-loop loop-holds slice-aggregate-next-record next-record-requires same-length same-length-2 same-length-3 returns add-records loop-less
     loop-again)

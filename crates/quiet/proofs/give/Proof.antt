@@ -2,8 +2,8 @@
 use mathlib.Core.Path.{_≡_}
 use native.Mathlib.Omega.{arith}
 use lib.ListN.{getD}
-use Rattle.work.specs.Level.{outOf}
-use Rattle.work.proofs.Cells.{getD-any}
+use Rattle.board.specs.Level.{outOf}
+use Rattle.board.proofs.Cells.{getD-any}
 use Rattle.quiet.proofs.Taking.{give-pre, given-joined, given-idle}
 use borrow.Author.Needs.{needs}
 use Rattle.quiet.proofs.give.Statement.{statement}
@@ -25,15 +25,6 @@ returns c = given-idle _ _ _ _ _ _ _ (c .before .before .before .before .before 
 take-requires : tie.Need-take-requires
 take-requires c κs = give-pre _ _ _ _ _ _ _ (c .before .before .before .before .before .before .before .before .before .pre) _ (told (c .before .before .before .before .before .before .before .before .before)) (c .before .before .before .if1 .left)
 
-same-length : tie.Need-same-length
-same-length c = search needs
-
-same-length-2 : tie.Need-same-length-2
-same-length-2 c = search needs
-
-same-length-3 : tie.Need-same-length-3
-same-length-3 c = search needs
-
 returns-2 : tie.Need-returns-2
 returns-2 c = given-joined _ _ _ _ _ _ _ (c .before .before .before .before .before .before .before .before .before .before .before .before .before .before .before .before .pre) _ (told (c .before .before .before .before .before .before .before .before .before .before .before .before .before .before .before .before)) (c .before .before .before .before .before .before .before .before .before .before .if1 .left) _ _ _ (c .before .before .before .before .before .before .take .ensures)
 
@@ -41,11 +32,4 @@ pub give-spec : {M : Type 1} → statement M
 give-spec =
     tie.close
     (tie.spec
-    shared-slice-read-j
-    cast-j
-    returns
-    take-requires
-    same-length
-    same-length-2
-    same-length-3
-    returns-2)
+    shared-slice-read-j cast-j returns take-requires (λ c. search needs) (λ c. search needs) (λ c. search needs) returns-2)

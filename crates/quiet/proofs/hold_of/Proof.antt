@@ -3,7 +3,7 @@ use mathlib.Core.Path.{_≡_, sym, ap, ap₂, _∙_}
 use Prim.Native.Nat.{ℕ, _-_, _≤_}
 use native.Mathlib.Omega.{arith}
 use Rattle.switch.specs.Demand.{cell}
-use Rattle.work.specs.Level.{outOf}
+use Rattle.board.specs.Level.{outOf}
 use Rattle.quiet_rule.specs.Quiet.{lesser, smallest, joinedCell}
 use Rattle.quiet_rule.proofs.QuietFrom.{smallest-zero, smallest-next}
 use borrow.Author.Needs.{needs}
@@ -22,15 +22,6 @@ loop-holds c = (omega arith, sym (smallest-zero _))
 cell-of-requires : tie.Need-cell-of-requires Inv-loop μ-loop
 cell-of-requires c κs = (c .before .before .before .before .pre .0, c .loop-test .taken, c .before .before .before .before .pre .1)
 
-lesser-of-requires : tie.Need-lesser-of-requires Inv-loop μ-loop
-lesser-of-requires c κs = search needs
-
-add-i : tie.Need-add-i Inv-loop μ-loop
-add-i c = search needs
-
-loop-less : tie.Need-loop-less Inv-loop μ-loop
-loop-less c = search needs
-
 loop-again : tie.Need-loop-again Inv-loop μ-loop
 loop-again c = (omega arith, c .lesser-of .ensures ∙ ap₂ lesser (c .before .before .before .loop .inv .1) (c .before .cell-of .ensures) ∙ sym (smallest-next _ _))
 
@@ -41,12 +32,4 @@ pub hold-of-spec : {M : Type 1} → statement M
 hold-of-spec =
     tie.close
     (tie.spec
-    Inv-loop
-    μ-loop
-    loop-holds
-    cell-of-requires
-    lesser-of-requires
-    add-i
-    loop-less
-    loop-again
-    returns)
+    Inv-loop μ-loop loop-holds cell-of-requires (λ c κs. search needs) (λ c. search needs) (λ c. search needs) loop-again returns)

@@ -3,7 +3,7 @@ use mathlib.Core.Path.{_≡_, refl, sym, ap, _∙_}
 use Prim.Native.Nat.{ℕ, _+_, _<_}
 use native.Mathlib.Omega.{arith}
 use lib.ListN.{length}
-use Rattle.quiet.specs.Taking.{leftover, Stepped}
+use Rattle.quiet.specs.Taking.{leftover}
 use Rattle.quiet.proofs.Running.{Running, running-first, running-last, running-less, running-small, running-next, Laying, laying-first, laying-last, laying-hold, laying-room, laying-small, laying-next}
 use borrow.Author.Needs.{needs}
 use Rattle.quiet.proofs.lay_records.Statement.{statement}
@@ -87,9 +87,6 @@ put-record-requires c κs = (omega (arith, c .before .before .before .before .be
 add-at : tie.Need-add-at Inv-loop μ-loop
 add-at c = omega (arith, room (c .before .before .before .before .before), long (c .before .before .before .before .before))
 
-wide-requires : tie.Need-wide-requires Inv-loop μ-loop
-wide-requires c κs = search needs
-
 add-held : tie.Need-add-held Inv-loop μ-loop
 add-held c =
     let k = c .before .before .before .before .before .before .before .before .before .before .before .before .before .before .next-record in
@@ -133,22 +130,5 @@ pub lay-records-spec : {M : Type 1} → statement M
 lay-records-spec =
     tie.close
     (tie.spec
-    Inv-loop
-    μ-loop
-    loop-holds
-    slice-aggregate-next-record
-    next-record-requires
-    same-length
-    same-length-2
-    same-length-3
-    same-length-4
-    returns
-    cast-put-record
-    slice-aggregate-put-record
-    put-record-requires
-    add-at
-    wide-requires
-    add-held
-    add-records
-    loop-less
-    loop-again)
+    Inv-loop μ-loop loop-holds slice-aggregate-next-record next-record-requires same-length same-length-2 same-length-3 same-length-4 returns
+    cast-put-record slice-aggregate-put-record put-record-requires add-at (λ c κs. search needs) add-held add-records loop-less loop-again)

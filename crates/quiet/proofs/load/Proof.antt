@@ -1,7 +1,7 @@
 -- The demand is copied in, and its rows labelled.
 use native.Mathlib.Omega.{arith}
 use lib.ListN.{length, drop}
-use Rattle.work.proofs.Cells.{sized-as}
+use Rattle.board.proofs.Cells.{sized-as}
 use Rattle.quiet.proofs.Planning.{copied}
 use borrow.Author.Needs.{needs}
 use Rattle.quiet.proofs.load.Statement.{statement}
@@ -16,15 +16,6 @@ label-rows-requires c κs =
     let k = c .before .before .before .before .before .copy in
     (sized-as (s .args .n) (s .args .work .now) (k .last .1 .0) (k .kept .1 .0) (s .pre .1 .sized), s .pre .1 .low, s .pre .1 .high)
 
-same-length : tie.Need-same-length
-same-length c = search needs
-
-same-length-2 : tie.Need-same-length-2
-same-length-2 c = search needs
-
-same-length-3 : tie.Need-same-length-3
-same-length-3 c = search needs
-
 returns : tie.Need-returns
 returns c =
     let s = c .before .before .before .before .before .before .before .before .before .before .before .before .before .before .before .before in
@@ -35,12 +26,4 @@ returns c =
     (k .ensures) (sized-as (a .n) (a .work .now) (k .last .1 .0) (k .kept .1 .0) (s .pre .1 .sized)) (r .ensures)
 
 pub load-spec : {M : Type 1} → statement M
-load-spec =
-    tie.close
-    (tie.spec
-    copy-requires
-    label-rows-requires
-    same-length
-    same-length-2
-    same-length-3
-    returns)
+load-spec = tie.close (tie.spec copy-requires label-rows-requires (λ c. search needs) (λ c. search needs) (λ c. search needs) returns)

@@ -4,7 +4,6 @@ use Prim.Native.Nat.{ℕ, _^_, _<_}
 use native.Mathlib.Omega.{arith}
 use lib.ListN.{getD}
 use Rattle.quiet.proofs.Taking.{rows, step-enough, stepped}
-use borrow.Author.Needs.{needs}
 use Rattle.quiet.proofs.next_record.Statement.{statement}
 use Rattle.quiet.proofs.next_record.Tie as tie
 
@@ -55,11 +54,4 @@ pub next-record-spec : {M : Type 1} → statement M
 next-record-spec =
     tie.close
     (tie.spec
-    choose-requires
-    hold-of-requires
-    subtract-requires
-    same-length
-    same-length-2
-    same-length-3
-    same-length-4
-    returns)
+    choose-requires hold-of-requires subtract-requires same-length same-length-2 same-length-3 same-length-4 returns)

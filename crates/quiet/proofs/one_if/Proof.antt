@@ -1,5 +1,5 @@
 -- Not zero is above zero.
-use mathlib.Core.Path.{_≡_, sym, ap, _∙_}
+use mathlib.Core.Path.{_≡_}
 use native.Mathlib.Omega.{arith}
 use borrow.Author.Tests.{lt-ltb, le-ltb}
 use Rattle.counting.specs.Count.{ind}
@@ -15,8 +15,4 @@ unfolding ind
 returns-2 c = rw (lt-ltb 0 (c .before .args .cell) (omega (arith, c .if1 .left)))
 
 pub one-if-spec : {M : Type 1} → statement M
-one-if-spec =
-    tie.close
-    (tie.spec
-    returns
-    returns-2)
+one-if-spec = tie.close (tie.spec returns returns-2)

@@ -18,15 +18,6 @@ use Rattle.quiet.proofs.plan_fine.Tie as tie
 short-of-requires : tie.Need-short-of-requires
 short-of-requires c κs = let s = c .before .before .before .before .before .before .before .before in (s .pre .0, small-of (s .args .n) (s .args .longest) (s .args .cells .now) (s .pre .1), s .pre .2)
 
-same-length : tie.Need-same-length
-same-length c = search needs
-
-same-length-2 : tie.Need-same-length-2
-same-length-2 c = search needs
-
-same-length-3 : tie.Need-same-length-3
-same-length-3 c = search needs
-
 returns : tie.Need-returns
 returns c =
     let s = c .before .before .before .before .before .before .before .before .before .before .before .before .before .before .before .before in
@@ -58,9 +49,6 @@ lay-records-requires c κs =
       copied-fits (a .n) (a .limit) (a .cells .now) _ _ _ (copy f z) m (s .pre .0) (a .plan .now) (fits f z),
     )
 
-same-length-4 : tie.Need-same-length-4
-same-length-4 c = search needs
-
 same-length-5 : tie.Need-same-length-5
 same-length-5 c = c .before .before .before .before .before .before .before .before .lay-records .kept .1 .1 .1 .0 ∙ c .before .before .before .before .before .before .before .before .before .before .before .before .before .before .before .before .before .before .before .before .short-of .kept .1 .1 .1 .1 .0
 
@@ -84,14 +72,5 @@ pub plan-fine-spec : {M : Type 1} → statement M
 plan-fine-spec =
     tie.close
     (tie.spec
-    short-of-requires
-    same-length
-    same-length-2
-    same-length-3
-    returns
-    lay-records-requires
-    same-length-4
-    same-length-5
-    same-length-6
-    same-length-7
-    returns-2)
+    short-of-requires (λ c. search needs) (λ c. search needs) (λ c. search needs) returns lay-records-requires (λ c. search needs) same-length-5
+    same-length-6 same-length-7 returns-2)

@@ -1,8 +1,8 @@
 -- What the demand is refused for by itself comes first, then a limit of 0, and then what is left to the room.
-use mathlib.Core.Path.{_≡_, refl, sym, _∙_}
+use mathlib.Core.Path.{_≡_, sym, _∙_}
 use Prim.Native.Nat.{ℕ, _≤_}
 use native.Mathlib.Omega.{arith}
-use lib.ListN.{length, take, replicate, length-replicate}
+use lib.ListN.{take, replicate, length-replicate}
 use Rattle.demand.specs.declared.Checked.the-variants.{Fine}
 use Rattle.demand.specs.Check.{checkDemand}
 use Rattle.quiet.specs.Lent.{Space}
@@ -10,15 +10,6 @@ use Rattle.quiet.proofs.Planning.{gives-fault, gives-limit, lends}
 use borrow.Author.Needs.{needs}
 use Rattle.quiet.proofs.quiet_plan.Statement.{statement}
 use Rattle.quiet.proofs.quiet_plan.Tie as tie
-
-check-demand-requires : tie.Need-check-demand-requires
-check-demand-requires c κs = search needs
-
-enum-known-r : tie.Need-enum-known-r
-enum-known-r c = search needs
-
-enum-known-longest : tie.Need-enum-known-longest
-enum-known-longest c = search needs
 
 -- the demand is not refused by itself
 fine : (c : tie.After-longest) → checkDemand 64 (c .before .before .before .before .before .args .n) (c .before .before .before .before .before .args .cells .now) ≡ Fine (c .longest .given .0 .0)
@@ -30,9 +21,6 @@ returns c = let a = c .before .before .before .before .before .before .before .a
 -- what it lends
 lent : (c : tie.After-longest) → (c .before .before .before .before .before .args .n ≤ 64) × Space (c .before .before .before .before .before .args .n) (replicate 4096 0) (take (c .before .before .before .before .before .args .n) (replicate 64 0)) (take (c .before .before .before .before .before .args .n) (replicate 64 0))
 lent c = lends (c .before .before .before .before .before .args .n) (c .longest .given .0 .0) (c .before .before .before .before .before .args .cells .now) (fine c) _ _ _ (length-replicate {A = ℕ} 4096 0) (length-replicate {A = ℕ} 64 0) (length-replicate {A = ℕ} 64 0)
-
-slice-aggregate-plan-fine : tie.Need-slice-aggregate-plan-fine
-slice-aggregate-plan-fine c = search needs
 
 array-borrow-prefix-lows : tie.Need-array-borrow-prefix-lows
 array-borrow-prefix-lows c = lent (c .before .before .before .before) .0
@@ -54,9 +42,6 @@ returns-2 c =
     let a = c .before .before .before .before .before .before .args in
     gives-fault (a .n) (a .cells .now) (a .limit) (a .plan .now) (c .before .r .given .0 .0) (sym (c .before .before .before .check-demand .ensures) ∙ c .before .r .given .1)
 
-same-length : tie.Need-same-length
-same-length c = search needs
-
 returns-3 : tie.Need-returns-3
 returns-3 c = c .before .before .before .before .before .plan-fine .ensures
 
@@ -64,16 +49,5 @@ pub quiet-plan-spec : {M : Type 1} → statement M
 quiet-plan-spec =
     tie.close
     (tie.spec
-    check-demand-requires
-    enum-known-r
-    enum-known-longest
-    returns
-    slice-aggregate-plan-fine
-    array-borrow-prefix-lows
-    slice-aggregate-plan-fine-2
-    array-borrow-prefix-highs
-    slice-aggregate-plan-fine-3
-    plan-fine-requires
-    returns-2
-    same-length
-    returns-3)
+    (λ c κs. search needs) (λ c. search needs) (λ c. search needs) returns (λ c. search needs) array-borrow-prefix-lows slice-aggregate-plan-fine-2
+    array-borrow-prefix-highs slice-aggregate-plan-fine-3 plan-fine-requires returns-2 (λ c. search needs) returns-3)

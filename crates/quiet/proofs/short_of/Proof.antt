@@ -1,10 +1,10 @@
 -- Where the room is for as many records as there are cells that are not zero all fit; else they are counted, and only where all fit is the demand copied in
 -- again.
-use mathlib.Core.Path.{_≡_, sym, ap, _∙_}
+use mathlib.Core.Path.{_≡_, ap, _∙_}
 use native.Mathlib.Omega.{arith}
 use lib.ListN.{length}
 use Rattle.planner.proofs.Planned.{fits-room, lacks-room}
-use Rattle.work.proofs.Cells.{sized-as}
+use Rattle.board.proofs.Cells.{sized-as}
 use Rattle.quiet_rule.specs.Quiet.{quietPlan}
 use Rattle.quiet.specs.Lent.{Space}
 use Rattle.quiet.proofs.Planning.{copied-plan, copied-enough}
@@ -17,15 +17,6 @@ load-requires c κs = let p = c .before .before .before .before .before .before 
 
 asked-pairs-requires : tie.Need-asked-pairs-requires
 asked-pairs-requires c κs = c .before .before .before .before .before .before .before .load .ensures .copy .sized
-
-same-length : tie.Need-same-length
-same-length c = search needs
-
-same-length-2 : tie.Need-same-length-2
-same-length-2 c = search needs
-
-same-length-3 : tie.Need-same-length-3
-same-length-3 c = search needs
 
 returns : tie.Need-returns
 returns c =
@@ -96,19 +87,5 @@ pub short-of-spec : {M : Type 1} → statement M
 short-of-spec =
     tie.close
     (tie.spec
-    load-requires
-    asked-pairs-requires
-    same-length
-    same-length-2
-    same-length-3
-    returns
-    count-records-requires
-    same-length-4
-    same-length-5
-    same-length-6
-    returns-2
-    load-requires-2
-    same-length-7
-    same-length-8
-    same-length-9
-    returns-3)
+    load-requires asked-pairs-requires (λ c. search needs) (λ c. search needs) (λ c. search needs) returns count-records-requires same-length-4
+    same-length-5 same-length-6 returns-2 load-requires-2 same-length-7 same-length-8 same-length-9 returns-3)

@@ -4,7 +4,7 @@ use Prim.Native.Nat.{_-_, _≤_}
 use native.Mathlib.Omega.{arith}
 use Rattle.rules.specs.Peel.{peelTo}
 use Rattle.rules.proofs.Peel.{peelTo-zero}
-use Rattle.work.specs.Level.{outOf}
+use Rattle.board.specs.Level.{outOf}
 use Rattle.quiet.specs.Taking.{Loaded}
 use Rattle.quiet.proofs.Taking.{still-whole, peeled-length, peeled-next}
 use borrow.Author.Needs.{needs}
@@ -30,12 +30,6 @@ give-requires c κs =
       wide = s .pre .1;
       enough = λ o. omega (arith, still-whole (s .args .n) (s .args .hold) (s .args .work .now) (s .args .out .now) (s .pre .0 .sized .room) (l .work) (l .i) (l .inv .2) o, s .pre .2 (l .i) (c .before .before .before .loop-test .taken) o);
     }
-
-add-i : tie.Need-add-i Inv-loop μ-loop
-add-i c = search needs
-
-loop-less : tie.Need-loop-less Inv-loop μ-loop
-loop-less c = search needs
 
 loop-again : tie.Need-loop-again Inv-loop μ-loop
 loop-again c =
@@ -66,14 +60,4 @@ pub subtract-spec : {M : Type 1} → statement M
 subtract-spec =
     tie.close
     (tie.spec
-    Inv-loop
-    μ-loop
-    loop-holds
-    give-requires
-    add-i
-    loop-less
-    loop-again
-    same-length
-    same-length-2
-    same-length-3
-    returns)
+    Inv-loop μ-loop loop-holds give-requires (λ c. search needs) (λ c. search needs) loop-again same-length same-length-2 same-length-3 returns)

@@ -3,7 +3,7 @@ use mathlib.Core.Path.{_≡_, refl, sym, _∙_}
 use Prim.Native.Nat.{_≤_, _-_}
 use native.Mathlib.Omega.{arith}
 use lib.ListN.{length}
-use Rattle.grants.proofs.Grant.{blank-zeros}
+use Rattle.switch.proofs.Demand.{blank-zeros}
 use Rattle.quiet_setting.specs.Choosing.{Choosing}
 use Rattle.quiet_setting.proofs.Visiting.{visit-first, visit-last}
 use borrow.Author.Needs.{needs}
@@ -15,15 +15,6 @@ Inv-loop n limit lows out₀ counts₀ busy₀ i₀ out counts busy i = (i ≤ n
 
 abbrev μ-loop : tie.MeasureT-loop
 μ-loop n limit lows out₀ counts₀ busy₀ i₀ out counts busy i = n - i
-
-idle-all-requires : tie.Need-idle-all-requires Inv-loop μ-loop
-idle-all-requires c κs = search needs
-
-none-requires : tie.Need-none-requires Inv-loop μ-loop
-none-requires c κs = search needs
-
-none-requires-2 : tie.Need-none-requires-2 Inv-loop μ-loop
-none-requires-2 c κs = search needs
 
 loop-holds : tie.Need-loop-holds Inv-loop μ-loop
 loop-holds c =
@@ -42,12 +33,6 @@ slice-aggregate-visit c = sym (c .before .before .before .loop .inv .3)
 visit-requires : tie.Need-visit-requires Inv-loop μ-loop
 visit-requires c κs = (c .before .before .loop-test .taken, c .before .before .before .before .before .before .before .before .before .before .before .before .pre .1, c .before .before .before .loop .inv .1)
 
-add-i : tie.Need-add-i Inv-loop μ-loop
-add-i c = search needs
-
-loop-less : tie.Need-loop-less Inv-loop μ-loop
-loop-less c = search needs
-
 loop-again : tie.Need-loop-again Inv-loop μ-loop
 loop-again c =
     let v = c .before .before .before .visit in
@@ -64,16 +49,5 @@ pub choose-spec : {M : Type 1} → statement M
 choose-spec =
     tie.close
     (tie.spec
-    Inv-loop
-    μ-loop
-    idle-all-requires
-    none-requires
-    none-requires-2
-    loop-holds
-    slice-aggregate-visit
-    visit-requires
-    add-i
-    loop-less
-    loop-again
-    same-length
-    returns)
+    Inv-loop μ-loop (λ c κs. search needs) (λ c κs. search needs) (λ c κs. search needs) loop-holds slice-aggregate-visit visit-requires
+    (λ c. search needs) (λ c. search needs) loop-again same-length returns)

@@ -5,9 +5,6 @@ use borrow.Author.Needs.{needs}
 use Rattle.quiet_setting.proofs.mark_if.Statement.{statement}
 use Rattle.quiet_setting.proofs.mark_if.Tie as tie
 
-mark-requires : tie.Need-mark-requires
-mark-requires c κs = search needs
-
 returns : tie.Need-returns
 returns c = record { marked = λ _. c .mark .ensures; same = λ e. absurd (true≢false (sym (c .before .if1 .taken) ∙ e)) }
 
@@ -15,4 +12,4 @@ returns-2 : tie.Need-returns-2
 returns-2 c = record { marked = λ e. absurd (true≢false (sym e ∙ c .if1 .left)); same = λ _. refl }
 
 pub mark-if-spec : {M : Type 1} → statement M
-mark-if-spec = tie.close (tie.spec mark-requires returns returns-2)
+mark-if-spec = tie.close (tie.spec (λ c κs. search needs) returns returns-2)

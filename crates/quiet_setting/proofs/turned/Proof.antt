@@ -1,18 +1,12 @@
 -- 1 << (n - 1) is the last place, so the two parts are what stands below it and what stands there.
 use Prim.Native.Nat.{ℕ, _+_, _-_, _*_, _/_, _%_, _^_, _<_}
 use native.Mathlib.Omega.{arith}
-use Rattle.labels.proofs.Digits.{one-shifted}
+use Rattle.sets.proofs.Digits.{one-shifted}
 use Rattle.quiet_setting.specs.Choosing.{Around}
 use Rattle.quiet_setting.proofs.Turning.{turned-word}
 use borrow.Author.Needs.{needs}
 use Rattle.quiet_setting.proofs.turned.Statement.{statement}
 use Rattle.quiet_setting.proofs.turned.Tie as tie
-
-sub-last : tie.Need-sub-last
-sub-last c = search needs
-
-shl-first : tie.Need-shl-first
-shl-first c = search needs
 
 abbrev place : tie.Start → ℕ
 place s = (1 * 2 ^ (s .args .n - 1)) % 2 ^ 64
@@ -36,4 +30,4 @@ returns : tie.Need-returns
 returns c = word (c .before .before) .2
 
 pub turned-spec : {M : Type 1} → statement M
-turned-spec = tie.close (tie.spec sub-last shl-first rem-t5 mul-t6 div-t7 add-t8 returns)
+turned-spec = tie.close (tie.spec (λ c. search needs) (λ c. search needs) rem-t5 mul-t6 div-t7 add-t8 returns)

@@ -3,8 +3,8 @@ use mathlib.Core.Path.{refl, subst}
 use Prim.Native.Nat.{ℕ, _<_}
 use native.Mathlib.Omega.{arith}
 use lib.ListN.{getD}
-use Rattle.labels.specs.declared.Found.{Found}
-use Rattle.labels.specs.Label.{Lowest, LowestAt}
+use Rattle.sets.specs.declared.Found.{Found}
+use Rattle.sets.specs.Label.{Lowest, LowestAt}
 use Rattle.quiet_setting.proofs.Visiting.{given-none, given-at, not-full, visit-none, count-small, visit-at, marked-inside}
 use borrow.Author.Needs.{needs}
 use Rattle.quiet_setting.proofs.visit.Statement.{statement}
@@ -15,21 +15,6 @@ mul-mark-if c = omega (arith, c .before .before .before .before .before .pre .1 
 
 shared-slice-read-mark-if : tie.Need-shared-slice-read-mark-if
 shared-slice-read-mark-if c = omega (arith, c .before .before .before .before .before .before .pre .0, c .before .before .before .before .before .before .pre .1 .size)
-
-with-requires : tie.Need-with-requires
-with-requires c κs = search needs
-
-but-requires : tie.Need-but-requires
-but-requires c κs = search needs
-
-lowest-requires : tie.Need-lowest-requires
-lowest-requires c κs = search needs
-
-enum-known-j : tie.Need-enum-known-j
-enum-known-j c = search needs
-
-enum-told : tie.Need-enum-told
-enum-told c = search needs
 
 turned-requires : tie.Need-turned-requires
 turned-requires c κs = let p = c .before .before .before .before .before .before .before .before .before .before .before .pre in (p .1 .some, p .1 .few, p .2 .full .inside)
@@ -100,12 +85,6 @@ turned-requires-2 c κs =
     let p = c .before .before .before .before .before .before .before .before .before .before .before .before .before .before .before .before .pre in
     (p .1 .some, p .1 .few, marked-inside _ _ _ _ _ (p .2 .full .inside) (inside (c .before .before .before .before .before)) (c .before .mark-if .ensures))
 
-same-length : tie.Need-same-length
-same-length c = search needs
-
-same-length-2 : tie.Need-same-length-2
-same-length-2 c = search needs
-
 returns-2 : tie.Need-returns-2
 returns-2 c =
     let s = c .before .before .before .before .before .before .before .before .before .before .before .before .before .before .before .before .before in
@@ -122,25 +101,6 @@ pub visit-spec : {M : Type 1} → statement M
 visit-spec =
     tie.close
     (tie.spec
-    mul-mark-if
-    shared-slice-read-mark-if
-    with-requires
-    but-requires
-    lowest-requires
-    enum-known-j
-    enum-told
-    turned-requires
-    returns
-    wavelength-of-requires
-    slice-read-used
-    add-used
-    slice-write-counts
-    cast-out
-    slice-write-out
-    cast-mark-if
-    mark-if-requires
-    mark-requires
-    turned-requires-2
-    same-length
-    same-length-2
-    returns-2)
+    mul-mark-if shared-slice-read-mark-if (λ c κs. search needs) (λ c κs. search needs) (λ c κs. search needs) (λ c. search needs) (λ c. search needs)
+    turned-requires returns wavelength-of-requires slice-read-used add-used slice-write-counts cast-out slice-write-out cast-mark-if mark-if-requires
+    mark-requires turned-requires-2 (λ c. search needs) (λ c. search needs) returns-2)

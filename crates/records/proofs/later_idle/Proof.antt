@@ -1,6 +1,5 @@
 -- The flag says of all outputs so far whether they may stand there; each turn judges one more.
 use mathlib.Core.Path.{_≡_, refl, sym}
-use mathlib.Core.Bool.{true}
 use Prim.Native.Nat.{_-_, _≤_}
 use native.Mathlib.Omega.{arith}
 use lib.ListN.{length}
@@ -20,15 +19,6 @@ abbrev μ-loop : tie.MeasureT-loop
 loop-holds : tie.Need-loop-holds Inv-loop μ-loop
 loop-holds c = (search needs, search needs, search needs, sym (all-intro _ _ (λ k l. later-early _ _ k l)))
 
-shared-slice-read-idle : tie.Need-shared-slice-read-idle Inv-loop μ-loop
-shared-slice-read-idle c = search needs
-
-add-i : tie.Need-add-i Inv-loop μ-loop
-add-i c = search needs
-
-loop-less : tie.Need-loop-less Inv-loop μ-loop
-loop-less c = search needs
-
 loop-again : tie.Need-loop-again Inv-loop μ-loop
 loop-again c = (omega arith, omega arith, refl, later-more _ _ _ (c .before .before .loop .inv .0) _ (c .before .before .loop .inv .3))
 
@@ -40,4 +30,4 @@ returns c =
 pub later-idle-spec : {M : Type 1} → statement M
 later-idle-spec =
     tie.close
-    (tie.spec Inv-loop μ-loop loop-holds shared-slice-read-idle add-i loop-less loop-again returns)
+    (tie.spec Inv-loop μ-loop loop-holds (λ c. search needs) (λ c. search needs) (λ c. search needs) loop-again returns)

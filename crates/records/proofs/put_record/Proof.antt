@@ -16,56 +16,17 @@ Inv-loop plan₀ at edition hold n outputs i₀ i-end plan i =
 abbrev μ-loop : tie.MeasureT-loop
 μ-loop plan₀ at edition hold n outputs i₀ i-end plan i = length outputs - i
 
-cast-plan : tie.Need-cast-plan Inv-loop μ-loop
-cast-plan c = search needs
-
-slice-write-plan : tie.Need-slice-write-plan Inv-loop μ-loop
-slice-write-plan c = search needs
-
-cast-plan-2 : tie.Need-cast-plan-2 Inv-loop μ-loop
-cast-plan-2 c = search needs
-
-add-plan : tie.Need-add-plan Inv-loop μ-loop
-add-plan c = search needs
-
 slice-write-plan-2 : tie.Need-slice-write-plan-2 Inv-loop μ-loop
 slice-write-plan-2 c = simp length-set (omega arith)
 
-cast-plan-3 : tie.Need-cast-plan-3 Inv-loop μ-loop
-cast-plan-3 c = search needs
-
-add-plan-2 : tie.Need-add-plan-2 Inv-loop μ-loop
-add-plan-2 c = search needs
-
 slice-write-plan-3 : tie.Need-slice-write-plan-3 Inv-loop μ-loop
 slice-write-plan-3 c = simp length-set (omega arith)
-
-add-plan-3 : tie.Need-add-plan-3 Inv-loop μ-loop
-add-plan-3 c = search needs
 
 slice-write-plan-4 : tie.Need-slice-write-plan-4 Inv-loop μ-loop
 slice-write-plan-4 c = simp length-set (omega arith)
 
 loop-holds : tie.Need-loop-holds Inv-loop μ-loop
 loop-holds c = (search needs, refl, simp length-set (omega arith), refl, copy-none _ _ (c .args .outputs .now))
-
-shared-slice-read-plan : tie.Need-shared-slice-read-plan Inv-loop μ-loop
-shared-slice-read-plan c = search needs
-
-add-plan-4 : tie.Need-add-plan-4 Inv-loop μ-loop
-add-plan-4 c = search needs
-
-add-plan-5 : tie.Need-add-plan-5 Inv-loop μ-loop
-add-plan-5 c = search needs
-
-slice-write-plan-5 : tie.Need-slice-write-plan-5 Inv-loop μ-loop
-slice-write-plan-5 c = search needs
-
-add-i : tie.Need-add-i Inv-loop μ-loop
-add-i c = search needs
-
-loop-less : tie.Need-loop-less Inv-loop μ-loop
-loop-less c = search needs
 
 loop-again : tie.Need-loop-again Inv-loop μ-loop
 loop-again c =
@@ -87,25 +48,6 @@ pub put-record-spec : {M : Type 1} → statement M
 put-record-spec =
     tie.close
     (tie.spec
-    Inv-loop
-    μ-loop
-    cast-plan
-    slice-write-plan
-    cast-plan-2
-    add-plan
-    slice-write-plan-2
-    cast-plan-3
-    add-plan-2
-    slice-write-plan-3
-    add-plan-3
-    slice-write-plan-4
-    loop-holds
-    shared-slice-read-plan
-    add-plan-4
-    add-plan-5
-    slice-write-plan-5
-    add-i
-    loop-less
-    loop-again
-    same-length
-    returns)
+    Inv-loop μ-loop (λ c. search needs) (λ c. search needs) (λ c. search needs) (λ c. search needs) slice-write-plan-2 (λ c. search needs)
+    (λ c. search needs) slice-write-plan-3 (λ c. search needs) slice-write-plan-4 loop-holds (λ c. search needs) (λ c. search needs)
+    (λ c. search needs) (λ c. search needs) (λ c. search needs) (λ c. search needs) loop-again same-length returns)

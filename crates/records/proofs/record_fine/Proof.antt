@@ -12,38 +12,14 @@ use borrow.Author.Needs.{needs}
 use Rattle.records.proofs.record_fine.Statement.{statement}
 use Rattle.records.proofs.record_fine.Tie as tie
 
-hold-of-requires : tie.Need-hold-of-requires
-hold-of-requires c κs = search needs
-
 returns : tie.Need-returns
 returns c = sym (no-hold _ _ _ _ (sym (c .before .hold-of .ensures) ∙ c .if1 .taken))
-
-shared-slice-read-wide : tie.Need-shared-slice-read-wide
-shared-slice-read-wide c = search needs
-
-wide-requires : tie.Need-wide-requires
-wide-requires c κs = search needs
 
 returns-2 : tie.Need-returns-2
 returns-2 c = sym (bad-ports _ _ _ _ (λ q. c .if2 .taken (c .before .wide .ensures .0 ∙ q)))
 
-shared-slice-read-if3 : tie.Need-shared-slice-read-if3
-shared-slice-read-if3 c = search needs
-
 returns-3 : tie.Need-returns-3
 returns-3 c = sym (bad-edition _ _ _ _ (c .if3 .taken))
-
-sub-outputs-fine : tie.Need-sub-outputs-fine
-sub-outputs-fine c = search needs
-
-part-outputs-fine-start : tie.Need-part-outputs-fine-start
-part-outputs-fine-start c = search needs
-
-part-outputs-fine-end : tie.Need-part-outputs-fine-end
-part-outputs-fine-end c = search needs
-
-outputs-fine-requires : tie.Need-outputs-fine-requires
-outputs-fine-requires c κs = search needs
 
 returns-4 : tie.Need-returns-4
 returns-4 c =
@@ -62,15 +38,5 @@ pub record-fine-spec : {M : Type 1} → statement M
 record-fine-spec =
     tie.close
     (tie.spec
-    hold-of-requires
-    returns
-    shared-slice-read-wide
-    wide-requires
-    returns-2
-    shared-slice-read-if3
-    returns-3
-    sub-outputs-fine
-    part-outputs-fine-start
-    part-outputs-fine-end
-    outputs-fine-requires
-    returns-4)
+    (λ c κs. search needs) returns (λ c. search needs) (λ c κs. search needs) returns-2 (λ c. search needs) returns-3 (λ c. search needs)
+    (λ c. search needs) (λ c. search needs) (λ c κs. search needs) returns-4)

@@ -19,9 +19,6 @@ returns-2 c =
     let a = c .before .before .before .before .before .args in
     gives (sym (write-ports (a .e) (a .hold) (a .n) (a .outputs .now) (a .plan .now) (many-ports _ _ (c .if2 .taken)))) refl refl
 
-add-if3 : tie.Need-add-if3
-add-if3 c = search needs
-
 returns-3 : tie.Need-returns-3
 returns-3 c =
     let a = c .before .before .before .before .before .before .before .args in
@@ -33,20 +30,11 @@ returns-4 c =
     let z = encode-idle _ _ _ _ _ (c .if4 .taken) in
     gives (sym (write-malformed (a .e) (a .hold) (a .n) (a .outputs .now) (a .plan .now) (omega arith) (c .before .before .before .if2 .left) (c .before .if3 .left) z)) refl refl
 
-outputs-fine-requires : tie.Need-outputs-fine-requires
-outputs-fine-requires c κs = search needs
-
 returns-5 : tie.Need-returns-5
 returns-5 c =
     let a = c .before .before .before .before .before .before .before .before .before .before .args in
     let w = asked-fine (a .e) (a .hold) (a .n) (a .outputs .now) (a .plan .now) (c .before .before .if4 .left) (c .before .before .before .before .before .before .before .before .before .before .pre .1) (c .before .outputs-fine .ensures) ∙ not-true _ (c .if5 .taken) in
     gives (sym (write-malformed (a .e) (a .hold) (a .n) (a .outputs .now) (a .plan .now) (omega arith) (c .before .before .before .before .before .if2 .left) (c .before .before .before .if3 .left) w)) refl refl
-
-put-record-requires : tie.Need-put-record-requires
-put-record-requires c κs = search needs
-
-same-length : tie.Need-same-length
-same-length c = search needs
 
 returns-6 : tie.Need-returns-6
 returns-6 c =
@@ -58,13 +46,4 @@ pub write-for-spec : {M : Type 1} → statement M
 write-for-spec =
     tie.close
     (tie.spec
-    returns
-    returns-2
-    add-if3
-    returns-3
-    returns-4
-    outputs-fine-requires
-    returns-5
-    put-record-requires
-    same-length
-    returns-6)
+    returns returns-2 (λ c. search needs) returns-3 returns-4 (λ c κs. search needs) returns-5 (λ c κs. search needs) (λ c. search needs) returns-6)

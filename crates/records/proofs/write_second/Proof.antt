@@ -4,18 +4,12 @@ use borrow.Author.Needs.{needs}
 use Rattle.records.proofs.write_second.Statement.{statement}
 use Rattle.records.proofs.write_second.Tie as tie
 
-second-edition-requires : tie.Need-second-edition-requires
-second-edition-requires c κs = search needs
-
 write-for-requires : tie.Need-write-for-requires
 write-for-requires c κs = rw (c .second-edition .ensures) (second-bounded, search needs)
-
-same-length : tie.Need-same-length
-same-length c = search needs
 
 returns : tie.Need-returns
 returns c = rw (c .before .before .before .second-edition .ensures) at (c .before .before .write-for .ensures)
 
 pub write-second-spec : {M : Type 1} → statement M
 write-second-spec =
-    tie.close (tie.spec second-edition-requires write-for-requires same-length returns)
+    tie.close (tie.spec (λ c κs. search needs) write-for-requires (λ c. search needs) returns)

@@ -10,22 +10,10 @@ use Rattle.rescue.proofs.check_in.Tie as tie
 check-demand-requires : tie.Need-check-demand-requires
 check-demand-requires c κs = omega (arith, c .before .before .pre .ports, c .before .before .pre .width)
 
-enum-told : tie.Need-enum-told
-enum-told c = search needs
-
-enum-told-2 : tie.Need-enum-told-2
-enum-told-2 c = search needs
-
 returns : tie.Need-returns
 returns c =
     let e = c .enum-told2 .given .1 in
     e ∙ in-faulty _ _ _ _ (sym e ∙ c .before .before .check-demand .ensures)
-
-add-records : tie.Need-add-records
-add-records c = search needs
-
-div-records : tie.Need-div-records
-div-records c = search needs
 
 torn-requires : tie.Need-torn-requires
 torn-requires c κs = c .before .before .before .before .before .before .pre .width
@@ -49,13 +37,5 @@ pub check-in-spec : {M : Type 1} → statement M
 check-in-spec =
     tie.close
     (tie.spec
-    check-demand-requires
-    enum-told
-    enum-told-2
-    returns
-    add-records
-    div-records
-    torn-requires
-    add-if1
-    returns-2
+    check-demand-requires (λ c. search needs) (λ c. search needs) returns (λ c. search needs) (λ c. search needs) torn-requires add-if1 returns-2
     returns-3)

@@ -27,9 +27,6 @@ hold-of-requires c κs =
     let p = c .before .before .before .before .before .pre in
     omega (arith, read-size _ _ _ _ (p .0) _ (p .1) _ (c .before .before .record-at .ensures))
 
-cast-grant-record : tie.Need-cast-grant-record
-cast-grant-record c = search needs
-
 grant-record-requires : tie.Need-grant-record-requires
 grant-record-requires c κs =
     let p = c .before .before .before .before .before .before .before .pre in
@@ -39,15 +36,6 @@ add-t16 : tie.Need-add-t16
 add-t16 c =
     let s = c .before .before .before .before .before .before .before .before .before .before .before in
     omega (arith, s .pre .2 .records, kept-few (s .args .e .width) (s .args .e .byte) (s .args .n) (s .args .plan .now) (s .args .k), s .pre .0 .most, s .pre .1)
-
-cast-t17 : tie.Need-cast-t17
-cast-t17 c = search needs
-
-add-t18 : tie.Need-add-t18
-add-t18 c = search needs
-
-same-length : tie.Need-same-length
-same-length c = search needs
 
 returns-2 : tie.Need-returns-2
 returns-2 c =
@@ -63,14 +51,5 @@ pub keep-record-spec : {M : Type 1} → statement M
 keep-record-spec =
     tie.close
     (tie.spec
-    record-at-requires
-    record-fine-requires
-    returns
-    hold-of-requires
-    cast-grant-record
-    grant-record-requires
-    add-t16
-    cast-t17
-    add-t18
-    same-length
-    returns-2)
+    record-at-requires record-fine-requires returns hold-of-requires (λ c. search needs) grant-record-requires add-t16 (λ c. search needs)
+    (λ c. search needs) (λ c. search needs) returns-2)

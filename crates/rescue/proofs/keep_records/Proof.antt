@@ -21,12 +21,6 @@ loop-holds c = (keeping-none _ _ _ _ _ (c .before .before .pre .1), omega arith,
 keep-record-requires : tie.Need-keep-record-requires Inv-loop μ-loop
 keep-record-requires c κs = (c .before .before .before .before .before .pre .0, omega arith, c .before .before .loop .inv .0)
 
-add-k : tie.Need-add-k Inv-loop μ-loop
-add-k c = search needs
-
-loop-less : tie.Need-loop-less Inv-loop μ-loop
-loop-less c = search needs
-
 loop-again : tie.Need-loop-again Inv-loop μ-loop
 loop-again c = (c .before .before .keep-record .ensures .0, omega arith, c .before .before .keep-record .ensures .1 ∙ c .before .before .before .before .before .loop .inv .2)
 
@@ -42,12 +36,4 @@ pub keep-records-spec : {M : Type 1} → statement M
 keep-records-spec =
     tie.close
     (tie.spec
-    Inv-loop
-    μ-loop
-    loop-holds
-    keep-record-requires
-    add-k
-    loop-less
-    loop-again
-    same-length
-    returns)
+    Inv-loop μ-loop loop-holds keep-record-requires (λ c. search needs) (λ c. search needs) loop-again same-length returns)

@@ -22,12 +22,6 @@ loop-holds c = laying-none _ _ (no-bytes _ _ _ _) _ _
 lay-record-requires : tie.Need-lay-record-requires Inv-loop μ-loop
 lay-record-requires c κs = (c .before .before .before .before .before .pre .0, omega arith, laying-room _ _ (next-bytes _ _ _ _) _ _ (c .before .before .before .before .before .pre .1) _ (omega arith) _ _ (c .before .before .loop .inv))
 
-add-k : tie.Need-add-k Inv-loop μ-loop
-add-k c = search needs
-
-loop-less : tie.Need-loop-less Inv-loop μ-loop
-loop-less c = search needs
-
 loop-again : tie.Need-loop-again Inv-loop μ-loop
 loop-again c = laying-more _ _ (next-bytes _ _ _ _) _ _ (c .before .before .before .before .before .before .before .before .pre .1) _ (omega arith) _ _ (c .before .before .before .before .before .loop .inv) _ (c .before .before .lay-record .ensures .1) _ (c .before .before .lay-record .ensures .0)
 
@@ -43,12 +37,4 @@ pub lay-kept-spec : {M : Type 1} → statement M
 lay-kept-spec =
     tie.close
     (tie.spec
-    Inv-loop
-    μ-loop
-    loop-holds
-    lay-record-requires
-    add-k
-    loop-less
-    loop-again
-    same-length
-    returns)
+    Inv-loop μ-loop loop-holds lay-record-requires (λ c. search needs) (λ c. search needs) loop-again same-length returns)

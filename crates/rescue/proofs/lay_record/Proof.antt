@@ -38,9 +38,6 @@ part-put-record-start c =
     let p = c .before .before .before .before .before .before .before .pre in
     omega (arith, read-size _ _ _ _ (p .0) _ (p .1) _ (c .before .before .before .before .record-at .ensures))
 
-part-put-record-end : tie.Need-part-put-record-end
-part-put-record-end c = search needs
-
 put-record-requires : tie.Need-put-record-requires
 put-record-requires c κs =
     let p = c .before .before .before .before .before .before .before .before .pre in
@@ -50,15 +47,6 @@ put-record-requires c κs =
       omega (arith, ports-fit _ _ _ _ (p .0) .1),
       omega (arith, p .2, read-size _ _ _ _ (p .0) _ (p .1) _ is, part-size (c .before .before .before .before .before .record-at .result .now) long, lay-size _ _ _ _ (p .0) _ (p .1) _ is _ fine (c .before .before .before .if1 .left) _ (c .before .before .hold-of .ensures)),
     )
-
-add-result : tie.Need-add-result
-add-result c = search needs
-
-add-result-2 : tie.Need-add-result-2
-add-result-2 c = search needs
-
-same-length : tie.Need-same-length
-same-length c = search needs
 
 returns-2 : tie.Need-returns-2
 returns-2 c =
@@ -74,15 +62,5 @@ pub lay-record-spec : {M : Type 1} → statement M
 lay-record-spec =
     tie.close
     (tie.spec
-    record-at-requires
-    record-fine-requires
-    returns
-    hold-of-requires
-    sub-put-record
-    part-put-record-start
-    part-put-record-end
-    put-record-requires
-    add-result
-    add-result-2
-    same-length
-    returns-2)
+    record-at-requires record-fine-requires returns hold-of-requires sub-put-record part-put-record-start (λ c. search needs) put-record-requires
+    (λ c. search needs) (λ c. search needs) (λ c. search needs) returns-2)

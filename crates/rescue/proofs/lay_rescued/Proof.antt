@@ -5,12 +5,6 @@ use borrow.Author.Needs.{needs}
 use Rattle.rescue.proofs.lay_rescued.Statement.{statement}
 use Rattle.rescue.proofs.lay_rescued.Tie as tie
 
-add-size : tie.Need-add-size
-add-size c = search needs
-
-div-lay-kept : tie.Need-div-lay-kept
-div-lay-kept c = search needs
-
 lay-kept-requires : tie.Need-lay-kept-requires
 lay-kept-requires c κs =
     let s = c .before .before .before .before .before in
@@ -26,12 +20,6 @@ lay-requires c κs =
     let s = c .before .before .before .before .before .before .before .before .before .before in
     (s .pre .1, place-behind (s .args .e) (s .args .n) (s .args .left) (s .args .kept) (s .args .damaged .now) (s .args .work .now) (s .args .plan .now) (s .pre .0) (s .pre .1) (s .pre .2) (s .pre .3) _ (c .before .before .before .before .lay-kept .ensures))
 
-same-length : tie.Need-same-length
-same-length c = search needs
-
-same-length-2 : tie.Need-same-length-2
-same-length-2 c = search needs
-
 returns : tie.Need-returns
 returns c =
     let s = c .before .before .before .before .before .before .before .before .before .before .before .before .before .before .before in
@@ -42,11 +30,4 @@ pub lay-rescued-spec : {M : Type 1} → statement M
 lay-rescued-spec =
     tie.close
     (tie.spec
-    add-size
-    div-lay-kept
-    lay-kept-requires
-    mul-lay
-    lay-requires
-    same-length
-    same-length-2
-    returns)
+    (λ c. search needs) (λ c. search needs) lay-kept-requires mul-lay lay-requires (λ c. search needs) (λ c. search needs) returns)

@@ -18,12 +18,6 @@ mul-square c =
     let s = c .before .before in
     omega (arith, mul-le-mul (s .pre .1 .few) (s .pre .1 .few))
 
-sub-copy : tie.Need-sub-copy
-sub-copy c = search needs
-
-part-copy-start : tie.Need-part-copy-start
-part-copy-start c = search needs
-
 part-copy-end : tie.Need-part-copy-end
 part-copy-end c = omega (arith, c .before .before .pre .1 .room)
 
@@ -31,9 +25,6 @@ copy-requires : tie.Need-copy-requires
 copy-requires c κs =
     let s = c .before .before .before .before in
     omega (arith, s .pre .2, length-take-le (s .args .n * s .args .n - 0) (s .args .left .now) (omega (arith, s .pre .1 .room)))
-
-behind-requires : tie.Need-behind-requires
-behind-requires c κs = search needs
 
 short-of-requires : tie.Need-short-of-requires
 short-of-requires c κs =
@@ -44,9 +35,6 @@ add-result c =
     let s = c .before .before .before .before .before .before .before .before .before .before .before .before in
     let told = c .before .before .short-of .ensures 128 (s .pre .1 .few) (omega arith) in
     omega (arith, s .pre .0, need-small _ _ _ _ _ (copied-cells _ _ _ _ _ (s .pre .1) (c .before .before .before .before .before .before .before .copy .ensures)) told)
-
-same-length : tie.Need-same-length
-same-length c = search needs
 
 returns : tie.Need-returns
 returns c =
@@ -59,13 +47,5 @@ pub records-known-spec : {M : Type 1} → statement M
 records-known-spec =
     tie.close
     (tie.spec
-    mul-square
-    sub-copy
-    part-copy-start
-    part-copy-end
-    copy-requires
-    behind-requires
-    short-of-requires
-    add-result
-    same-length
-    returns)
+    mul-square (λ c. search needs) (λ c. search needs) part-copy-end copy-requires (λ c κs. search needs) short-of-requires add-result
+    (λ c. search needs) returns)

@@ -11,15 +11,6 @@ use Rattle.rescue.proofs.rescue_for.Tie as tie
 check-in-requires : tie.Need-check-in-requires
 check-in-requires c κs = c .before .before .before .before .before .before .pre .0
 
-enum-known-r : tie.Need-enum-known-r
-enum-known-r c = search needs
-
-refused-requires : tie.Need-refused-requires
-refused-requires c κs = search needs
-
-enum-known-longest : tie.Need-enum-known-longest
-enum-known-longest c = search needs
-
 take-stock-requires : tie.Need-take-stock-requires
 take-stock-requires c κs =
     let s = c .before .before .before .before .before .before .before .before .before .before .before in
@@ -35,18 +26,6 @@ returns : tie.Need-returns
 returns c =
     saves-refusal (rescuing-faulty _ _ _ _ _ _ (sym (c .before .before .r .given .1) ∙ c .before .before .before .before .check-in .ensures)) (c .refused .ensures)
 
-same-length : tie.Need-same-length
-same-length c = search needs
-
-same-length-2 : tie.Need-same-length-2
-same-length-2 c = search needs
-
-same-length-3 : tie.Need-same-length-3
-same-length-3 c = search needs
-
-same-length-4 : tie.Need-same-length-4
-same-length-4 c = search needs
-
 returns-2 : tie.Need-returns-2
 returns-2 c =
     let e = sym (c .before .before .before .before .before .before .before .before .before .before .before .before .before .before .before .before .before .before .longest .given .1) ∙ c .before .before .before .before .before .before .before .before .before .before .before .before .before .before .before .before .before .before .before .before .check-in .ensures in
@@ -56,15 +35,5 @@ pub rescue-for-spec : {M : Type 1} → statement M
 rescue-for-spec =
     tie.close
     (tie.spec
-    check-in-requires
-    enum-known-r
-    refused-requires
-    enum-known-longest
-    take-stock-requires
-    write-or-refuse-requires
-    returns
-    same-length
-    same-length-2
-    same-length-3
-    same-length-4
-    returns-2)
+    check-in-requires (λ c. search needs) (λ c κs. search needs) (λ c. search needs) take-stock-requires write-or-refuse-requires returns
+    (λ c. search needs) (λ c. search needs) (λ c. search needs) (λ c. search needs) returns-2)

@@ -6,7 +6,7 @@ use native.Mathlib.Omega.{arith}
 use lib.ListN.{length, getD}
 use Rattle.counting.specs.Sum.{sum}
 use Rattle.counting.proofs.Sum.{sum-zero, sum-next}
-use Rattle.checker.proofs.Cover.{beyond-cells}
+use Rattle.switch.proofs.Empty.{beyond-cells}
 use borrow.Author.Needs.{needs}
 use Rattle.rescue.proofs.surplus.Statement.{statement}
 use Rattle.rescue.proofs.surplus.Tie as tie
@@ -20,34 +20,10 @@ abbrev μ-loop : tie.MeasureT-loop
 loop-holds : tie.Need-loop-holds Inv-loop μ-loop
 loop-holds c = (refl, omega arith, sym (sum-zero _), omega arith)
 
-mul-less : tie.Need-mul-less Inv-loop μ-loop
-mul-less c = search needs
-
-shared-slice-read-less : tie.Need-shared-slice-read-less Inv-loop μ-loop
-shared-slice-read-less c = search needs
-
-mul-less-2 : tie.Need-mul-less-2 Inv-loop μ-loop
-mul-less-2 c = search needs
-
-shared-slice-read-less-2 : tie.Need-shared-slice-read-less-2 Inv-loop μ-loop
-shared-slice-read-less-2 c = search needs
-
-less-requires : tie.Need-less-requires Inv-loop μ-loop
-less-requires c κs = search needs
-
-cast-empty : tie.Need-cast-empty Inv-loop μ-loop
-cast-empty c = search needs
-
 add-empty : tie.Need-add-empty Inv-loop μ-loop
 add-empty c =
     let p = c .before .before .before .before .before .before .before .pre in
     omega (arith, c .before .before .before .before .loop .inv .3, c .less .ensures, mul-le-mul (p .0) (p .0))
-
-add-k : tie.Need-add-k Inv-loop μ-loop
-add-k c = search needs
-
-loop-less : tie.Need-loop-less Inv-loop μ-loop
-loop-less c = search needs
 
 loop-again : tie.Need-loop-again Inv-loop μ-loop
 loop-again c =
@@ -66,17 +42,5 @@ pub surplus-spec : {M : Type 1} → statement M
 surplus-spec =
     tie.close
     (tie.spec
-    Inv-loop
-    μ-loop
-    loop-holds
-    mul-less
-    shared-slice-read-less
-    mul-less-2
-    shared-slice-read-less-2
-    less-requires
-    cast-empty
-    add-empty
-    add-k
-    loop-less
-    loop-again
-    returns)
+    Inv-loop μ-loop loop-holds (λ c. search needs) (λ c. search needs) (λ c. search needs) (λ c. search needs) (λ c κs. search needs)
+    (λ c. search needs) add-empty (λ c. search needs) (λ c. search needs) loop-again returns)

@@ -9,12 +9,6 @@ use borrow.Author.Needs.{needs}
 use Rattle.rescue.proofs.take_stock.Statement.{statement}
 use Rattle.rescue.proofs.take_stock.Tie as tie
 
-add-records : tie.Need-add-records
-add-records c = search needs
-
-div-records : tie.Need-div-records
-div-records c = search needs
-
 keep-records-requires : tie.Need-keep-records-requires
 keep-records-requires c κs =
     let s = c .before .before .before .before .before in
@@ -81,9 +75,6 @@ add-t27 c =
     let small = rest-small _ (s .pre .0) _ _ _ _ n _ _ k _ (c .before .before .before .before .before .before .before .before .before .leave .ensures) _ (c .before .before .before .before .before .longest-line .ensures) in
     omega (arith, c .before .before .before .before .before .before .before .before .before .before .before .surplus .ensures .1, mul-le-mul l l, mul-le-mul l small, c .empty-slots .ensures)
 
-same-length : tie.Need-same-length
-same-length c = search needs
-
 returns : tie.Need-returns
 returns c =
     let s = c .before .before .before .before .before .before .before .before .before .before .before .before .before .before .before .before .before .before .before .before .before in
@@ -94,17 +85,5 @@ pub take-stock-spec : {M : Type 1} → statement M
 take-stock-spec =
     tie.close
     (tie.spec
-    add-records
-    div-records
-    keep-records-requires
-    surplus-requires
-    leave-requires
-    longest-line-requires
-    sub-t11
-    torn-requires
-    add-t22
-    add-t23
-    empty-slots-requires
-    add-t27
-    same-length
-    returns)
+    (λ c. search needs) (λ c. search needs) keep-records-requires surplus-requires leave-requires longest-line-requires sub-t11 torn-requires add-t22
+    add-t23 empty-slots-requires add-t27 (λ c. search needs) returns)

@@ -28,15 +28,6 @@ add-t17 c =
     let l : 1 ≤ s .args .e .width + 4 = omega arith in
     omega (arith, s .pre .1, mul-le-mul-left (s .args .stock .kept + length (exactPlan (s .args .e .width) (s .args .n) (s .args .left .now))) l, c .before .before .before .before .before .before .before .before .before .lay-rescued .ensures .0)
 
-same-length : tie.Need-same-length
-same-length c = search needs
-
-same-length-2 : tie.Need-same-length-2
-same-length-2 c = search needs
-
-same-length-3 : tie.Need-same-length-3
-same-length-3 c = search needs
-
 returns : tie.Need-returns
 returns c =
     written _ _ _ _ _ (c .before .before .before .before .before .before .before .before .before .before .before .before .before .before .before .before .pre .0) _ _ _ _ _ (c .before .before .before .before .before .before .before .before .before .lay-rescued .ensures .0) (c .before .before .before .before .before .before .before .before .before .lay-rescued .ensures .1) (c .before .before .before .list-dropped .ensures)
@@ -45,10 +36,4 @@ pub write-spec : {M : Type 1} → statement M
 write-spec =
     tie.close
     (tie.spec
-    lay-rescued-requires
-    list-dropped-requires
-    add-t17
-    same-length
-    same-length-2
-    same-length-3
-    returns)
+    lay-rescued-requires list-dropped-requires add-t17 (λ c. search needs) (λ c. search needs) (λ c. search needs) returns)

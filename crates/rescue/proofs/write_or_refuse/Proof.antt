@@ -16,29 +16,11 @@ use borrow.Author.Needs.{needs}
 use Rattle.rescue.proofs.write_or_refuse.Statement.{statement}
 use Rattle.rescue.proofs.write_or_refuse.Tie as tie
 
-add-room : tie.Need-add-room
-add-room c = search needs
-
-div-room : tie.Need-div-room
-div-room c = search needs
-
-smaller-requires : tie.Need-smaller-requires
-smaller-requires c κs = search needs
-
 records-known-requires : tie.Need-records-known-requires
 records-known-requires c κs =
     let s = c .before .before .before .before .before .before .before .before .before in
     let st = s .pre .0 in
     (omega (arith, st .stays, kept-few (s .args .e .width) (s .args .e .byte) (s .args .n) (s .args .damaged .now) (whole (s .args .e .width) (s .args .damaged .now)), st .few), st .cells, s .pre .1)
-
-refused-requires : tie.Need-refused-requires
-refused-requires c κs = search needs
-
-same-length : tie.Need-same-length
-same-length c = search needs
-
-same-length-2 : tie.Need-same-length-2
-same-length-2 c = search needs
 
 returns : tie.Need-returns
 returns c =
@@ -49,15 +31,6 @@ returns c =
     let over = all-over _ _ _ _ _ st _ _ k _ (c .before .before .before .before .before .before .before .before .smaller .ensures .0) (c .before .if1 .taken) in
     saves-refusal (fitting-many _ _ _ _ _ _ _ _ _ (omega (arith, over, c .before .if1 .taken))) (c .refused .ensures)
 
-refused-requires-2 : tie.Need-refused-requires-2
-refused-requires-2 c κs = search needs
-
-same-length-3 : tie.Need-same-length-3
-same-length-3 c = search needs
-
-same-length-4 : tie.Need-same-length-4
-same-length-4 c = search needs
-
 returns-2 : tie.Need-returns-2
 returns-2 c =
     let s = c .before .before .before .before .before .before .before .before .before .before .before .before .before .before .before .before in
@@ -67,15 +40,6 @@ returns-2 c =
     let over = all-over _ _ _ _ _ st _ _ k _ (c .before .before .before .before .before .before .before .before .before .smaller .ensures .1) (c .before .if2 .taken) in
     let few = all-within _ _ _ _ _ st _ _ k _ (c .before .before .before .before .before .before .before .before .before .smaller .ensures .0) (c .before .before .if1 .left) in
     saves-refusal (fitting-room _ _ _ _ _ _ _ _ _ few (omega (arith, over, c .before .if2 .taken))) (c .refused2 .ensures ∙ ap {B = Answer} (λ (x : ℕ). refusal (Room x)) over)
-
-refused-requires-3 : tie.Need-refused-requires-3
-refused-requires-3 c κs = search needs
-
-same-length-5 : tie.Need-same-length-5
-same-length-5 c = search needs
-
-same-length-6 : tie.Need-same-length-6
-same-length-6 c = search needs
 
 returns-3 : tie.Need-returns-3
 returns-3 c =
@@ -99,18 +63,6 @@ write-requires c κs =
       omega (arith, c .before .before .before .if3 .left),
     )
 
-same-length-7 : tie.Need-same-length-7
-same-length-7 c = search needs
-
-same-length-8 : tie.Need-same-length-8
-same-length-8 c = search needs
-
-same-length-9 : tie.Need-same-length-9
-same-length-9 c = search needs
-
-same-length-10 : tie.Need-same-length-10
-same-length-10 c = search needs
-
 returns-4 : tie.Need-returns-4
 returns-4 c =
     let s = c .before .before .before .before .before .before .before .before .before .before .before .before .before .before .before .before .before .before .before .before .before .before .before .before .before .before .before in
@@ -125,25 +77,6 @@ pub write-or-refuse-spec : {M : Type 1} → statement M
 write-or-refuse-spec =
     tie.close
     (tie.spec
-    add-room
-    div-room
-    smaller-requires
-    records-known-requires
-    refused-requires
-    same-length
-    same-length-2
-    returns
-    refused-requires-2
-    same-length-3
-    same-length-4
-    returns-2
-    refused-requires-3
-    same-length-5
-    same-length-6
-    returns-3
-    write-requires
-    same-length-7
-    same-length-8
-    same-length-9
-    same-length-10
-    returns-4)
+    (λ c. search needs) (λ c. search needs) (λ c κs. search needs) records-known-requires (λ c κs. search needs) (λ c. search needs)
+    (λ c. search needs) returns (λ c κs. search needs) (λ c. search needs) (λ c. search needs) returns-2 (λ c κs. search needs) (λ c. search needs)
+    (λ c. search needs) returns-3 write-requires (λ c. search needs) (λ c. search needs) (λ c. search needs) (λ c. search needs) returns-4)

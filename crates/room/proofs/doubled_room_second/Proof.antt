@@ -8,9 +8,6 @@ use Rattle.switch.proofs.Editions.{second-bounded}
 use Rattle.room.proofs.doubled_room_second.Statement.{statement}
 use Rattle.room.proofs.doubled_room_second.Tie as tie
 
-second-edition-requires : tie.Need-second-edition-requires
-second-edition-requires c κs = search needs
-
 room-for-requires : tie.Need-room-for-requires
 room-for-requires c κs = rw (c .second-edition .ensures) second-bounded
 
@@ -20,4 +17,4 @@ returns c =
     c .room-for .ensures ∙ ap (λ (e : Edition). roomed e Doubled (a .n) (a .longest)) (c .before .second-edition .ensures)
 
 pub doubled-room-second-spec : {M : Type 1} → statement M
-doubled-room-second-spec = tie.close (tie.spec second-edition-requires room-for-requires returns)
+doubled-room-second-spec = tie.close (tie.spec (λ c κs. search needs) room-for-requires returns)

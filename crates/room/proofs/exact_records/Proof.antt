@@ -13,9 +13,6 @@ mul-most c = let f = c .pre .0 in omega (arith, mul-le-mul f f)
 add-most : tie.Need-add-most
 add-most c = let f = c .pre .0 in omega (arith, mul-le-mul f f)
 
-mul-most-2 : tie.Need-mul-most-2
-mul-most-2 c = search needs
-
 sub-most : tie.Need-sub-most
 sub-most c = twice-small _
 
@@ -28,4 +25,4 @@ unfolding exactRoom
 returns-2 c = omega (arith, c .if1 .left)
 
 pub exact-records-spec : {M : Type 1} → statement M
-exact-records-spec = tie.close (tie.spec mul-most add-most mul-most-2 sub-most returns returns-2)
+exact-records-spec = tie.close (tie.spec mul-most add-most (λ c. search needs) sub-most returns returns-2)

@@ -9,15 +9,9 @@ returns : tie.Need-returns
 unfolding quickRoom
 returns c = omega (arith, c .if1 .taken)
 
-mul-result : tie.Need-mul-result
-mul-result c = search needs
-
-sub-result : tie.Need-sub-result
-sub-result c = search needs
-
 returns-2 : tie.Need-returns-2
 unfolding quickRoom
 returns-2 c = omega arith
 
 pub quick-records-spec : {M : Type 1} → statement M
-quick-records-spec = tie.close (tie.spec returns mul-result sub-result returns-2)
+quick-records-spec = tie.close (tie.spec returns (λ c. search needs) (λ c. search needs) returns-2)

@@ -8,9 +8,6 @@ use Rattle.room.specs.Room.{roomed}
 use Rattle.room.proofs.quick_room.Statement.{statement}
 use Rattle.room.proofs.quick_room.Tie as tie
 
-first-edition-requires : tie.Need-first-edition-requires
-first-edition-requires c κs = search needs
-
 room-for-requires : tie.Need-room-for-requires
 room-for-requires c κs = rw (c .first-edition .ensures) first-bounded
 
@@ -20,4 +17,4 @@ returns c =
     c .room-for .ensures ∙ ap (λ (e : Edition). roomed e Quick (a .n) (a .longest)) (c .before .first-edition .ensures)
 
 pub quick-room-spec : {M : Type 1} → statement M
-quick-room-spec = tie.close (tie.spec first-edition-requires room-for-requires returns)
+quick-room-spec = tie.close (tie.spec (λ c κs. search needs) room-for-requires returns)

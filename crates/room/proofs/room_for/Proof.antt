@@ -15,11 +15,8 @@ returns-2 c = roomed-many _ _ _ _ (c .if2 .taken)
 returns-3 : tie.Need-returns-3
 returns-3 c = roomed-over _ _ _ _ (omega arith) (c .before .if2 .left) (c .if3 .taken)
 
-room-of-requires : tie.Need-room-of-requires
-room-of-requires c κs = search needs
-
 returns-4 : tie.Need-returns-4
 returns-4 c = c .room-of .ensures ∙ roomed-fine _ _ _ _ (omega arith) (omega arith) (omega arith)
 
 pub room-for-spec : {M : Type 1} → statement M
-room-for-spec = tie.close (tie.spec returns returns-2 returns-3 room-of-requires returns-4)
+room-for-spec = tie.close (tie.spec returns returns-2 returns-3 (λ c κs. search needs) returns-4)

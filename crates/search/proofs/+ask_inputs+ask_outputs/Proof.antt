@@ -4,8 +4,8 @@ use Prim.Native.Nat.{ℕ, _+_, _*_, _<_}
 use borrow.Author.Needs.{needs}
 use native.Mathlib.Omega.{arith}
 use lib.ListN.{length}
-use Rattle.labels.specs.Label.{Sub, absent}
-use Rattle.labels.specs.Wide.{outputsOf}
+use Rattle.sets.specs.Label.{Sub, absent}
+use Rattle.labels.specs.Ports.{outputsOf}
 use Rattle.labels.specs.declared.FoundOutput.{FoundOutput}
 use Rattle.search.specs.declared.Asked.{Asked}
 use Rattle.search.specs.Tables.{triedOf, Allowed}

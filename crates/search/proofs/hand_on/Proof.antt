@@ -3,7 +3,7 @@ use mathlib.Core.Path.{ap, _∙_}
 use native.Mathlib.Nat.{lt-of-lt-of-le}
 use native.Mathlib.Omega.{arith}
 use lib.ListN.{length, length-set}
-use Rattle.labels.specs.Wide.{outputsOf}
+use Rattle.labels.specs.Ports.{outputsOf}
 use Rattle.search.specs.Tables.{Allowed}
 use Rattle.search.proofs.Tables.{held-in}
 use Rattle.search.proofs.Waves.{holder-port, handed}
@@ -48,15 +48,4 @@ returns c =
     handed 128 _ (Allowed (a .lows .now) (a .highs .now)) (a .by .now) (outputsOf (a .wave)) (a .wanted .0) (s .pre .3) (m .result .0) (m .ensures .0) (a .out .now) (r .last .0) (j .last .0) (j .last .1 .0) (m .ensures) (r .ensures) (j .ensures .0) (j .ensures .1)
 
 pub hand-on-spec : {M : Type 1} → statement M
-hand-on-spec =
-    tie.close
-    (tie.spec
-    mover-requires
-    slice-read-v
-    cast-v
-    release-requires
-    sub-t21
-    join-requires
-    same-length
-    same-length-2
-    returns)
+hand-on-spec = tie.close (tie.spec mover-requires slice-read-v cast-v release-requires sub-t21 join-requires same-length same-length-2 returns)

@@ -1,23 +1,14 @@
 -- The low word is asked first, and the high one only where none of the low one is free.
 use native.Mathlib.Omega.{arith}
-use Rattle.labels.specs.Wide.{outputsOf}
+use Rattle.labels.specs.Ports.{outputsOf}
 use Rattle.search.specs.Tables.{Allowed}
 use Rattle.search.proofs.Waves.{low-leads, high-leads}
 use borrow.Author.Needs.{needs}
 use Rattle.search.proofs.leads_to.Statement.{statement}
 use Rattle.search.proofs.leads_to.Tie as tie
 
-none-requires : tie.Need-none-requires
-none-requires c κs = search needs
-
 word-leads-to-requires : tie.Need-word-leads-to-requires
 word-leads-to-requires c κs = let s = c .before .before .before .before .before in (s .pre .0, s .pre .1, omega arith)
-
-enum-told : tie.Need-enum-told
-enum-told c = search needs
-
-enum-told-2 : tie.Need-enum-told-2
-enum-told-2 c = search needs
 
 word-leads-to-requires-2 : tie.Need-word-leads-to-requires-2
 word-leads-to-requires-2 c κs = let s = c .before .before .before .before .before .before .before .before in (s .pre .0, s .pre .1, omega arith)
@@ -40,10 +31,4 @@ pub leads-to-spec : {M : Type 1} → statement M
 leads-to-spec =
     tie.close
     (tie.spec
-    none-requires
-    word-leads-to-requires
-    enum-told
-    enum-told-2
-    word-leads-to-requires-2
-    returns
-    returns-2)
+    (λ c κs. search needs) word-leads-to-requires (λ c. search needs) (λ c. search needs) word-leads-to-requires-2 returns returns-2)

@@ -5,9 +5,9 @@ use native.Mathlib.Omega.{arith}
 use borrow.Author.Tests.{eqb-true, eqb-false}
 use lib.ListN.{getD}
 use Rattle.labels.specs.declared.FoundOutput.{FoundOutput}
-use Rattle.labels.specs.Label.{digit, In, Sub, Lowest, LowestAt, absent}
-use Rattle.labels.specs.Wide.{outputsOf, outputFound}
-use Rattle.labels.proofs.Digits.{fewer}
+use Rattle.sets.specs.Label.{digit, In, Sub, Lowest, LowestAt, absent}
+use Rattle.labels.specs.Ports.{outputsOf, outputFound}
+use Rattle.sets.proofs.Digits.{fewer}
 use Rattle.search.specs.Tables.{Allowed}
 use Rattle.search.specs.Search.{Mover}
 use Rattle.search.proofs.Waves.{holder-of, holder-port, not-mover}
@@ -24,15 +24,6 @@ abbrev μ-loop : tie.MeasureT-loop
 
 loop-holds : tie.Need-loop-holds Inv-loop μ-loop
 loop-holds c = (λ k x. x, λ j m. m .0)
-
-lowest-requires : tie.Need-lowest-requires Inv-loop μ-loop
-lowest-requires c κs = search needs
-
-enum-known-f : tie.Need-enum-known-f Inv-loop μ-loop
-enum-known-f c = search needs
-
-enum-told : tie.Need-enum-told Inv-loop μ-loop
-enum-told c = search needs
 
 returns : tie.Need-returns Inv-loop μ-loop
 returns c =
@@ -80,9 +71,6 @@ returns-2 c =
       ),
     )
 
-without-lowest-requires : tie.Need-without-lowest-requires Inv-loop μ-loop
-without-lowest-requires c κs = search needs
-
 loop-less : tie.Need-loop-less Inv-loop μ-loop
 loop-less c = let l = low (c .before .before .before .before .before .before) in fewer 128 _ _ _ (l .small) (l .here) (c .without-lowest .ensures .cleared _ (l .here) (l .past))
 
@@ -103,19 +91,5 @@ pub mover-spec : {M : Type 1} → statement M
 mover-spec =
     tie.close
     (tie.spec
-    Inv-loop
-    μ-loop
-    loop-holds
-    lowest-requires
-    enum-known-f
-    enum-told
-    returns
-    shared-slice-read-v
-    cast-v
-    sub-t14
-    row-of-requires
-    has-requires
-    returns-2
-    without-lowest-requires
-    loop-less
-    loop-again)
+    Inv-loop μ-loop loop-holds (λ c κs. search needs) (λ c. search needs) (λ c. search needs) returns shared-slice-read-v cast-v sub-t14
+    row-of-requires has-requires returns-2 (λ c κs. search needs) loop-less loop-again)

@@ -3,9 +3,9 @@ use mathlib.Core.Path.{refl, sym, subst}
 use Prim.Native.Nat.{ℕ, _+_, _-_}
 use native.Mathlib.Omega.{arith}
 use lib.ListN.{getD}
-use Rattle.labels.specs.Label.{In, Lowest, LowestAt, absent}
-use Rattle.labels.specs.Wide.{outputsOf}
-use Rattle.labels.proofs.Digits.{fewer}
+use Rattle.sets.specs.Label.{In, Lowest, LowestAt, absent}
+use Rattle.labels.specs.Ports.{outputsOf}
+use Rattle.sets.proofs.Digits.{fewer}
 use Rattle.search.specs.Tables.{Allowed}
 use Rattle.search.proofs.Search.{one-up}
 use Rattle.search.proofs.Waves.{Part, part-start, part-more, part-end}
@@ -21,15 +21,6 @@ abbrev μ-loop : tie.MeasureT-loop
 
 loop-holds : tie.Need-loop-holds Inv-loop μ-loop
 loop-holds c = part-start _ _ _ _ _
-
-lowest-requires : tie.Need-lowest-requires Inv-loop μ-loop
-lowest-requires c κs = search needs
-
-enum-known-f : tie.Need-enum-known-f Inv-loop μ-loop
-enum-known-f c = search needs
-
-enum-told : tie.Need-enum-told Inv-loop μ-loop
-enum-told c = search needs
 
 returns : tie.Need-returns Inv-loop μ-loop
 returns c =
@@ -57,9 +48,6 @@ returns-2 c =
 cast-w : tie.Need-cast-w Inv-loop μ-loop
 cast-w c = omega (arith, c .before .shared-slice-known4 .given (c .before .before .before .before .before .before .before .before .before .before .args .base + c .before .before .before .f .given .0 .0))
 
-sub-t21 : tie.Need-sub-t21 Inv-loop μ-loop
-sub-t21 c = search needs
-
 row-of-requires : tie.Need-row-of-requires Inv-loop μ-loop
 row-of-requires c κs =
     let s = c .before .before .before .before .before .before .before .before .before .before in
@@ -67,12 +55,6 @@ row-of-requires c κs =
     let v = getD (s .args .by .now) k 0 in
     let h = s .pre .1 .port k (v - 1) (one-up v (c .if1 .left)) in
     (h, omega (arith, h, s .pre .0 .same))
-
-with-requires : tie.Need-with-requires Inv-loop μ-loop
-with-requires c κs = search needs
-
-without-lowest-requires : tie.Need-without-lowest-requires Inv-loop μ-loop
-without-lowest-requires c κs = search needs
 
 loop-less : tie.Need-loop-less Inv-loop μ-loop
 loop-less c = let l = low (c .before .before .before .before .before .before) in fewer 64 _ _ _ (l .small) (l .here) (c .without-lowest .ensures .cleared _ (l .here) (l .past))
@@ -93,20 +75,5 @@ pub word-leads-to-spec : {M : Type 1} → statement M
 word-leads-to-spec =
     tie.close
     (tie.spec
-    Inv-loop
-    μ-loop
-    loop-holds
-    lowest-requires
-    enum-known-f
-    enum-told
-    returns
-    add-k
-    shared-slice-read-v
-    returns-2
-    cast-w
-    sub-t21
-    row-of-requires
-    with-requires
-    without-lowest-requires
-    loop-less
-    loop-again)
+    Inv-loop μ-loop loop-holds (λ c κs. search needs) (λ c. search needs) (λ c. search needs) returns add-k shared-slice-read-v returns-2 cast-w
+    (λ c. search needs) row-of-requires (λ c κs. search needs) (λ c κs. search needs) loop-less loop-again)

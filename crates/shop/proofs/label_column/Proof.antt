@@ -18,9 +18,6 @@ Inv-loop cells n output asks₀ i₀ asks i = (i ≤ n) × Column i n cells outp
 abbrev μ-loop : tie.MeasureT-loop
 μ-loop cells n output asks₀ i₀ asks i = n - i
 
-none-requires : tie.Need-none-requires Inv-loop μ-loop
-none-requires c κs = search needs
-
 loop-holds : tie.Need-loop-holds Inv-loop μ-loop
 loop-holds c = (omega arith, column-none _ _ _ _ (c .none .ensures))
 
@@ -48,15 +45,6 @@ shared-slice-read-if1 c =
     let p = pair-in (s .args .n) (c .before .before .loop .i) (s .args .j .0) (s .args .cells .now) (s .pre .0) (s .pre .1) (omega arith) (s .pre .2) in
     p .0
 
-mark-requires : tie.Need-mark-requires Inv-loop μ-loop
-mark-requires c κs = search needs
-
-add-i : tie.Need-add-i Inv-loop μ-loop
-add-i c = search needs
-
-loop-less : tie.Need-loop-less Inv-loop μ-loop
-loop-less c = search needs
-
 loop-again : tie.Need-loop-again Inv-loop μ-loop
 loop-again c =
     let a = c .before .before .before .before .before .before .args in
@@ -80,16 +68,5 @@ pub label-column-spec : {M : Type 1} → statement M
 label-column-spec =
     tie.close
     (tie.spec
-    Inv-loop
-    μ-loop
-    none-requires
-    loop-holds
-    mul-if1
-    add-if1
-    mul-if1-2
-    shared-slice-read-if1
-    mark-requires
-    add-i
-    loop-less
-    loop-again
-    returns)
+    Inv-loop μ-loop (λ c κs. search needs) loop-holds mul-if1 add-if1 mul-if1-2 shared-slice-read-if1 (λ c κs. search needs) (λ c. search needs)
+    (λ c. search needs) loop-again returns)

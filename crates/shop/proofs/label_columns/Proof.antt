@@ -21,17 +21,8 @@ loop-holds c = (omega arith, c .before .before .pre .2, λ a la. absurd (omega a
 label-column-requires : tie.Need-label-column-requires Inv-loop μ-loop
 label-column-requires c κs = (c .before .before .before .before .pre .0, c .before .before .before .before .pre .1, c .loop-test .taken)
 
-mul-waiting : tie.Need-mul-waiting Inv-loop μ-loop
-mul-waiting c = search needs
-
 slice-write-waiting : tie.Need-slice-write-waiting Inv-loop μ-loop
 slice-write-waiting c = omega (arith, c .before .before .before .loop .inv .1, c .before .before .before .before .before .before .pre .0, c .before .before .loop-test .taken)
-
-add-j : tie.Need-add-j Inv-loop μ-loop
-add-j c = search needs
-
-loop-less : tie.Need-loop-less Inv-loop μ-loop
-loop-less c = search needs
 
 loop-again : tie.Need-loop-again Inv-loop μ-loop
 loop-again c =
@@ -52,14 +43,5 @@ pub label-columns-spec : {M : Type 1} → statement M
 label-columns-spec =
     tie.close
     (tie.spec
-    Inv-loop
-    μ-loop
-    loop-holds
-    label-column-requires
-    mul-waiting
-    slice-write-waiting
-    add-j
-    loop-less
-    loop-again
-    same-length
-    returns)
+    Inv-loop μ-loop loop-holds label-column-requires (λ c. search needs) slice-write-waiting (λ c. search needs) (λ c. search needs) loop-again
+    same-length returns)

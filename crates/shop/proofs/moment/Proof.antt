@@ -32,12 +32,6 @@ turn-requires c κs =
     let k = l .inv .5 (s .pre .shop) (s .pre .before) (s .pre .held) (c .before .before .before .before .before .before .idle-inputs .ensures) (s .pre .wrote) in
     turn-pre _ _ _ _ _ _ _ _ _ (s .pre) (l .j) (omega (arith, c .before .before .before .before .loop-test .taken, l .inv .1)) _ _ _ _ (l .so .begun) (l .inv .2) (l .inv .3) (l .inv .4) (k .0) (k .2)
 
-add-j : tie.Need-add-j Inv-loop μ-loop
-add-j c = search needs
-
-loop-less : tie.Need-loop-less Inv-loop μ-loop
-loop-less c = search needs
-
 loop-again : tie.Need-loop-again Inv-loop μ-loop
 loop-again c =
     let l = c .before .before .before .before .before .before .before .before .before .before .before .before .before .before .loop in
@@ -75,16 +69,5 @@ pub moment-spec : {M : Type 1} → statement M
 moment-spec =
     tie.close
     (tie.spec
-    Inv-loop
-    μ-loop
-    idle-inputs-requires
-    loop-holds
-    turn-requires
-    add-j
-    loop-less
-    loop-again
-    same-length
-    same-length-2
-    same-length-3
-    same-length-4
-    returns)
+    Inv-loop μ-loop idle-inputs-requires loop-holds turn-requires (λ c. search needs) (λ c. search needs) loop-again same-length same-length-2
+    same-length-3 same-length-4 returns)

@@ -18,21 +18,6 @@ abbrev μ-loop : tie.MeasureT-loop
 loop-holds : tie.Need-loop-holds Inv-loop μ-loop
 loop-holds c = (search needs, next-none _ _)
 
-mul-sooner-of : tie.Need-mul-sooner-of Inv-loop μ-loop
-mul-sooner-of c = search needs
-
-shared-slice-read-sooner-of : tie.Need-shared-slice-read-sooner-of Inv-loop μ-loop
-shared-slice-read-sooner-of c = search needs
-
-sooner-of-requires : tie.Need-sooner-of-requires Inv-loop μ-loop
-sooner-of-requires c κs = search needs
-
-add-j : tie.Need-add-j Inv-loop μ-loop
-add-j c = search needs
-
-loop-less : tie.Need-loop-less Inv-loop μ-loop
-loop-less c = search needs
-
 loop-again : tie.Need-loop-again Inv-loop μ-loop
 loop-again c =
     let a = c .before .before .before .before .before .args in
@@ -50,13 +35,5 @@ pub next-finish-spec : {M : Type 1} → statement M
 next-finish-spec =
     tie.close
     (tie.spec
-    Inv-loop
-    μ-loop
-    loop-holds
-    mul-sooner-of
-    shared-slice-read-sooner-of
-    sooner-of-requires
-    add-j
-    loop-less
-    loop-again
+    Inv-loop μ-loop loop-holds (λ c. search needs) (λ c. search needs) (λ c κs. search needs) (λ c. search needs) (λ c. search needs) loop-again
     returns)

@@ -3,7 +3,6 @@ use mathlib.Core.Path.{sym, _∙_}
 use Prim.Native.Nat.{_-_}
 use native.Mathlib.Omega.{arith}
 use Rattle.shop.proofs.Runs.{Running, running-none, moment-pre, run-size, run-done, run-more}
-use borrow.Author.Needs.{needs}
 use Rattle.shop.proofs.run.Statement.{statement}
 use Rattle.shop.proofs.run.Tie as tie
 
@@ -47,15 +46,4 @@ pub run-spec : {M : Type 1} → statement M
 run-spec =
     tie.close
     (tie.spec
-    Inv-loop
-    μ-loop
-    loop-holds
-    moment-requires
-    next-finish-requires
-    same-length
-    same-length-2
-    same-length-3
-    same-length-4
-    returns
-    loop-less
-    loop-again)
+    Inv-loop μ-loop loop-holds moment-requires next-finish-requires same-length same-length-2 same-length-3 same-length-4 returns loop-less loop-again)

@@ -43,33 +43,12 @@ output-in f =
 
 -- ---- the needs
 
-mul-if1 : tie.Need-mul-if1
-mul-if1 c = search needs
-
-slice-read-if1 : tie.Need-slice-read-if1
-slice-read-if1 c = search needs
-
 returns : tie.Need-returns
 returns c =
     let s = c .before .before .before .before .before .before .before .before in
     let a = s .args in
     turned-none (a .clock .n) (a .cells .now) (a .clock .d) (a .clock .t) (a .j .0) (a .so) _ _ _ _
     (λ x h b. turn-running (a .clock .n) (s .pre .few) (a .cells .now) (a .clock .d) (a .clock .t) (a .j .0) (s .pre .place) x _ _ _ h _ b (c .if1 .taken))
-
-mul-t19 : tie.Need-mul-t19
-mul-t19 c = search needs
-
-slice-read-t24 : tie.Need-slice-read-t24
-slice-read-t24 c = search needs
-
-lowest-common-requires : tie.Need-lowest-common-requires
-lowest-common-requires c κs = search needs
-
-enum-known-found : tie.Need-enum-known-found
-enum-known-found c = search needs
-
-enum-told : tie.Need-enum-told
-enum-told c = search needs
 
 returns-2 : tie.Need-returns-2
 returns-2 c =
@@ -96,9 +75,6 @@ add-end-2 c = omega (arith, ends (c .before .before .before .before))
 
 add-end-3 : tie.Need-add-end-3
 add-end-3 c = omega (arith, ends (c .before .before .before .before .before))
-
-mul-put-task : tie.Need-mul-put-task
-mul-put-task c = search needs
 
 put-task-requires : tie.Need-put-task-requires
 put-task-requires c κs = (room (c .before .before .before .before .before .before .before), omega (arith, found (c .before .before .before .before .before .before .before) .small), omega (arith, start (c .before .before .before .before .before .before .before) .pre .place, start (c .before .before .before .before .before .before .before) .pre .few))
@@ -130,18 +106,6 @@ without-requires-2 c κs = found (c .before .before .before .before .before .bef
 one-more-requires : tie.Need-one-more-requires
 one-more-requires c κs = start (c .before .before .before .before .before .before .before .before .before .before .before .before .before) .pre .started
 
-same-length : tie.Need-same-length
-same-length c = search needs
-
-same-length-2 : tie.Need-same-length-2
-same-length-2 c = search needs
-
-same-length-3 : tie.Need-same-length-3
-same-length-3 c = search needs
-
-same-length-4 : tie.Need-same-length-4
-same-length-4 c = search needs
-
 returns-3 : tie.Need-returns-3
 returns-3 c =
     let f = c .before .before .before .before .before .before .before .before .before .before .before .before .before .before in
@@ -160,34 +124,7 @@ pub turn-spec : {M : Type 1} → statement M
 turn-spec =
     tie.close
     (tie.spec
-    mul-if1
-    slice-read-if1
-    returns
-    mul-t19
-    slice-read-t24
-    lowest-common-requires
-    enum-known-found
-    enum-told
-    returns-2
-    mul-end
-    add-end
-    mul-end-2
-    shared-slice-read-end
-    add-end-2
-    add-end-3
-    mul-put-task
-    put-task-requires
-    without-requires
-    mul-waiting
-    slice-write-waiting
-    mul-ins
-    slice-write-ins
-    mul-outs
-    slice-write-outs
-    without-requires-2
-    one-more-requires
-    same-length
-    same-length-2
-    same-length-3
-    same-length-4
-    returns-3)
+    (λ c. search needs) (λ c. search needs) returns (λ c. search needs) (λ c. search needs) (λ c κs. search needs) (λ c. search needs)
+    (λ c. search needs) returns-2 mul-end add-end mul-end-2 shared-slice-read-end add-end-2 add-end-3 (λ c. search needs) put-task-requires
+    without-requires mul-waiting slice-write-waiting mul-ins slice-write-ins mul-outs slice-write-outs without-requires-2 one-more-requires
+    (λ c. search needs) (λ c. search needs) (λ c. search needs) (λ c. search needs) returns-3)

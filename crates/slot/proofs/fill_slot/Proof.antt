@@ -11,15 +11,6 @@ use borrow.Author.Needs.{needs}
 use Rattle.slot.proofs.fill_slot.Statement.{statement}
 use Rattle.slot.proofs.fill_slot.Tie as tie
 
-idle-all-requires : tie.Need-idle-all-requires
-idle-all-requires c κs = search needs
-
-rem-t16 : tie.Need-rem-t16
-rem-t16 c = search needs
-
-every-requires : tie.Need-every-requires
-every-requires c κs = search needs
-
 from-requires : tie.Need-from-requires
 from-requires c κs = let s = c .before .before .before .before .before .before .before .before .before .before .before .before .before in omega (arith, s .pre .0 .sized .few, mod-lt (s .args .s) (s .pre .0 .sized .some))
 
@@ -67,12 +58,6 @@ visit-each-requires-2 c κs =
 same-length : tie.Need-same-length
 same-length c = c .before .before .before .before .before .before .before .before .before .visit-each2 .kept .1 .0 ∙ c .before .before .before .before .before .before .before .before .before .before .before .before .before .before .before .before .before .before .before .before .before .before .before .visit-each .kept .1 .0
 
-same-length-2 : tie.Need-same-length-2
-same-length-2 c = search needs
-
-same-length-3 : tie.Need-same-length-3
-same-length-3 c = search needs
-
 same-length-4 : tie.Need-same-length-4
 same-length-4 c = c .before .before .before .before .before .before .before .before .before .visit-each2 .kept .1 .1 .1 .1 .1 .1 .0 ∙ c .before .before .before .before .before .before .before .before .before .before .before .before .before .before .before .before .before .before .before .before .before .before .before .visit-each .kept .1 .1 .1 .1 .1 .1 .0 ∙ c .before .before .before .before .before .before .before .before .before .before .before .before .before .before .before .before .before .before .before .before .before .before .before .before .before .before .before .before .before .before .before .before .before .idle-all .kept .0
 
@@ -93,15 +78,5 @@ pub fill-slot-spec : {M : Type 1} → statement M
 fill-slot-spec =
     tie.close
     (tie.spec
-    idle-all-requires
-    rem-t16
-    every-requires
-    from-requires
-    visit-each-requires
-    below-requires
-    visit-each-requires-2
-    same-length
-    same-length-2
-    same-length-3
-    same-length-4
-    returns)
+    (λ c κs. search needs) (λ c. search needs) (λ c κs. search needs) from-requires visit-each-requires below-requires visit-each-requires-2
+    same-length (λ c. search needs) (λ c. search needs) same-length-4 returns)

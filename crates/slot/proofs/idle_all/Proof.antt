@@ -37,9 +37,6 @@ loop-holds c = (λ k l. absurd (omega arith), omega arith, refl, refl)
 slice-write-out : tie.Need-slice-write-out Inv-loop μ-loop
 slice-write-out c = omega (arith, c .before .loop .inv .2, c .loop-test .taken)
 
-add-i : tie.Need-add-i Inv-loop μ-loop
-add-i c = search needs
-
 loop-less : tie.Need-loop-less Inv-loop μ-loop
 loop-less c = omega (arith, c .loop-test .taken)
 
@@ -60,15 +57,4 @@ returns : tie.Need-returns Inv-loop μ-loop
 returns c = let l = c .before .loop in idle-end (l .out) (l .i) (omega (arith, l .inv .2, c .loop-test .left)) (l .inv .0)
 
 pub idle-all-spec : {M : Type 1} → statement M
-idle-all-spec =
-    tie.close
-    (tie.spec
-    Inv-loop
-    μ-loop
-    loop-holds
-    slice-write-out
-    add-i
-    loop-less
-    loop-again
-    same-length
-    returns)
+idle-all-spec = tie.close (tie.spec Inv-loop μ-loop loop-holds slice-write-out (λ c. search needs) loop-less loop-again same-length returns)

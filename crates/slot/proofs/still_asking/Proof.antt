@@ -1,24 +1,12 @@
 -- Only where the label has no output at all does the input leave.
 use mathlib.Core.Path.{subst}
 use Rattle.labels.specs.declared.FoundOutput.{FoundOutput}
-use Rattle.labels.specs.Label.{Lowest}
-use Rattle.labels.specs.Wide.{outputsOf, outputFound}
+use Rattle.sets.specs.Label.{Lowest}
+use Rattle.labels.specs.Ports.{outputsOf, outputFound}
 use Rattle.slot.proofs.Turns.{asking-less, asking-same}
 use borrow.Author.Needs.{needs}
 use Rattle.slot.proofs.still_asking.Statement.{statement}
 use Rattle.slot.proofs.still_asking.Tie as tie
-
-lowest-requires : tie.Need-lowest-requires
-lowest-requires c κs = search needs
-
-enum-told : tie.Need-enum-told
-enum-told c = search needs
-
-enum-told-2 : tie.Need-enum-told-2
-enum-told-2 c = search needs
-
-without-requires : tie.Need-without-requires
-without-requires c κs = search needs
 
 returns : tie.Need-returns
 returns c = asking-same _ _ _
@@ -30,4 +18,4 @@ returns-2 c =
 
 pub still-asking-spec : {M : Type 1} → statement M
 still-asking-spec =
-    tie.close (tie.spec lowest-requires enum-told enum-told-2 without-requires returns returns-2)
+    tie.close (tie.spec (λ c κs. search needs) (λ c. search needs) (λ c. search needs) (λ c κs. search needs) returns returns-2)

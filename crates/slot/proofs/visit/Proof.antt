@@ -4,37 +4,13 @@ use Prim.Native.Nat.{_<_}
 use native.Mathlib.Omega.{arith}
 use Rattle.switch.specs.Demand.{cell}
 use Rattle.labels.specs.declared.FoundOutput.{FoundOutput}
-use Rattle.labels.specs.Label.{Lowest, LowestAt}
-use Rattle.labels.specs.Wide.{outputsOf, outputFound}
-use Rattle.work.specs.Labelled.{RowOf}
+use Rattle.sets.specs.Label.{Lowest, LowestAt}
+use Rattle.labels.specs.Ports.{outputsOf, outputFound}
+use Rattle.board.specs.Labelled.{RowOf}
 use Rattle.slot.proofs.Turns.{turn-none, turn-at, some-left, turned-none, turned-at}
 use borrow.Author.Needs.{needs}
 use Rattle.slot.proofs.visit.Statement.{statement}
 use Rattle.slot.proofs.visit.Tie as tie
-
-row-of-requires : tie.Need-row-of-requires
-row-of-requires c κs = search needs
-
-common-requires : tie.Need-common-requires
-common-requires c κs = search needs
-
-lowest-requires : tie.Need-lowest-requires
-lowest-requires c κs = search needs
-
-enum-known-f : tie.Need-enum-known-f
-enum-known-f c = search needs
-
-enum-told : tie.Need-enum-told
-enum-told c = search needs
-
-still-asking-requires : tie.Need-still-asking-requires
-still-asking-requires c κs = search needs
-
-same-length : tie.Need-same-length
-same-length c = search needs
-
-same-length-2 : tie.Need-same-length-2
-same-length-2 c = search needs
 
 -- the label that was read is the input's
 abbrev begin : tie.After-row-of → tie.Start
@@ -66,9 +42,6 @@ left c = label (c .before .before .before .before) .only _ (c .before .before .b
 cast-out : tie.Need-cast-out
 cast-out c = omega (arith, low (c .before .before) .small)
 
-slice-write-out : tie.Need-slice-write-out
-slice-write-out c = search needs
-
 take-requires : tie.Need-take-requires
 take-requires c κs =
     let f = c .before .before .before .before .before in
@@ -84,18 +57,6 @@ sub-t32 c =
     let s = start f in
     omega (arith, s .pre .0 .all, some-left (s .args .n) (s .args .work .now) (s .args .i .0) (f .f .given .0 .0 .0) (s .pre .1) (left f .0) (left f .1))
 
-same-length-3 : tie.Need-same-length-3
-same-length-3 c = search needs
-
-same-length-4 : tie.Need-same-length-4
-same-length-4 c = search needs
-
-same-length-5 : tie.Need-same-length-5
-same-length-5 c = search needs
-
-same-length-6 : tie.Need-same-length-6
-same-length-6 c = search needs
-
 returns-2 : tie.Need-returns-2
 returns-2 c =
     let f = c .before .before .before .before .before .before .before .before .before .before .before .before .before .before in
@@ -110,22 +71,6 @@ pub visit-spec : {M : Type 1} → statement M
 visit-spec =
     tie.close
     (tie.spec
-    row-of-requires
-    common-requires
-    lowest-requires
-    enum-known-f
-    enum-told
-    still-asking-requires
-    same-length
-    same-length-2
-    returns
-    cast-out
-    slice-write-out
-    take-requires
-    without-requires
-    sub-t32
-    same-length-3
-    same-length-4
-    same-length-5
-    same-length-6
-    returns-2)
+    (λ c κs. search needs) (λ c κs. search needs) (λ c κs. search needs) (λ c. search needs) (λ c. search needs) (λ c κs. search needs)
+    (λ c. search needs) (λ c. search needs) returns cast-out (λ c. search needs) take-requires without-requires sub-t32 (λ c. search needs)
+    (λ c. search needs) (λ c. search needs) (λ c. search needs) returns-2)

@@ -3,9 +3,9 @@ use mathlib.Core.Path.{refl, sym, _∙_, subst}
 use Prim.Native.Nat.{_-_}
 use native.Mathlib.Omega.{arith}
 use Rattle.labels.specs.declared.FoundInput.{FoundInput}
-use Rattle.labels.specs.Label.{Lowest, LowestAt, absent}
-use Rattle.labels.specs.Wide.{inputsOf, inputFound}
-use Rattle.labels.proofs.Digits.{fewer}
+use Rattle.sets.specs.Label.{Lowest, LowestAt, absent}
+use Rattle.labels.specs.Ports.{inputsOf, inputFound}
+use Rattle.sets.proofs.Digits.{fewer}
 use Rattle.slot.specs.Filled.{none}
 use Rattle.slot.proofs.Around.{Ahead, ahead-next}
 use borrow.Author.Needs.{needs}
@@ -20,15 +20,6 @@ abbrev μ-loop : tie.MeasureT-loop
 
 loop-holds : tie.Need-loop-holds Inv-loop μ-loop
 loop-holds c = let p = c .before .before .before .before .pre in record { copy = p .0; waits = p .2; work = refl; long = refl; rest = λ _ _ _ _ _ k. k }
-
-lowest-requires : tie.Need-lowest-requires Inv-loop μ-loop
-lowest-requires c κs = search needs
-
-enum-known-f : tie.Need-enum-known-f Inv-loop μ-loop
-enum-known-f c = search needs
-
-enum-told : tie.Need-enum-told Inv-loop μ-loop
-enum-told c = search needs
 
 same-length : tie.Need-same-length Inv-loop μ-loop
 same-length c = c .before .before .before .loop .inv .work
@@ -57,9 +48,6 @@ visit-requires c κs =
     let w = g .waits _ (low (c .before .before .before .before .before) .here) in
     (g .copy, w .0, omega (arith, c .before .before .before .before .before .before .before .before .before .before .before .before .before .pre .1, g .long), w .1)
 
-without-lowest-requires : tie.Need-without-lowest-requires Inv-loop μ-loop
-without-lowest-requires c κs = search needs
-
 loop-less : tie.Need-loop-less Inv-loop μ-loop
 loop-less c = let l = low (c .before .before .before .before .before .before .before .before .before .before .before .before .before .before .before) in fewer 128 _ _ _ (l .small) (l .here) (c .without-lowest .ensures .cleared _ (l .here) (l .past))
 
@@ -74,18 +62,5 @@ pub visit-each-spec : {M : Type 1} → statement M
 visit-each-spec =
     tie.close
     (tie.spec
-    Inv-loop
-    μ-loop
-    loop-holds
-    lowest-requires
-    enum-known-f
-    enum-told
-    same-length
-    same-length-2
-    same-length-3
-    same-length-4
-    returns
-    visit-requires
-    without-lowest-requires
-    loop-less
-    loop-again)
+    Inv-loop μ-loop loop-holds (λ c κs. search needs) (λ c. search needs) (λ c. search needs) same-length same-length-2 same-length-3 same-length-4
+    returns visit-requires (λ c κs. search needs) loop-less loop-again)

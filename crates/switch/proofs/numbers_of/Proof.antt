@@ -6,18 +6,6 @@ use Rattle.switch.specs.declared.Numbers.{Numbers}
 use Rattle.switch.proofs.numbers_of.Statement.{statement}
 use Rattle.switch.proofs.numbers_of.Tie as tie
 
-enum-known-o : tie.Need-enum-known-o
-enum-known-o c = search needs
-
-enum-known-o-2 : tie.Need-enum-known-o-2
-enum-known-o-2 c = search needs
-
-entry-of-requires : tie.Need-entry-of-requires
-entry-of-requires c κs = search needs
-
-refused-requires : tie.Need-refused-requires
-refused-requires c κs = search needs
-
 returns : tie.Need-returns
 returns c = sym (ap numbersOf (c .before .o .given .1))
 
@@ -30,4 +18,4 @@ returns-2 c =
 pub numbers-of-spec : {M : Type 1} → statement M
 numbers-of-spec =
     tie.close
-    (tie.spec enum-known-o enum-known-o-2 entry-of-requires refused-requires returns returns-2)
+    (tie.spec (λ c. search needs) (λ c. search needs) (λ c κs. search needs) (λ c κs. search needs) returns returns-2)

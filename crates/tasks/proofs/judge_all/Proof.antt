@@ -33,27 +33,6 @@ loop-holds c =
       omega (arith, ap (λ (m : ℕ). task.latest (tasksFrom (a .tasks .now) 0 m)) e),
     )
 
-mul-from : tie.Need-mul-from Inv-loop μ-loop
-mul-from c = search needs
-
-add-to : tie.Need-add-to Inv-loop μ-loop
-add-to c = search needs
-
-sub-rec : tie.Need-sub-rec Inv-loop μ-loop
-sub-rec c = search needs
-
-part-rec-start : tie.Need-part-rec-start Inv-loop μ-loop
-part-rec-start c = search needs
-
-part-rec-end : tie.Need-part-rec-end Inv-loop μ-loop
-part-rec-end c = search needs
-
-slice-aggregate-fitting : tie.Need-slice-aggregate-fitting Inv-loop μ-loop
-slice-aggregate-fitting c = search needs
-
-slice-aggregate-fitting-2 : tie.Need-slice-aggregate-fitting-2 Inv-loop μ-loop
-slice-aggregate-fitting-2 c = search needs
-
 fitting-requires : tie.Need-fitting-requires Inv-loop μ-loop
 fitting-requires c κs =
     let a = c .before .before .before .before .before .before .args in
@@ -69,24 +48,6 @@ returns c =
       latest-is = λ e. absurd (omega arith);
     }
 
-shared-slice-read-wide : tie.Need-shared-slice-read-wide Inv-loop μ-loop
-shared-slice-read-wide c = search needs
-
-wide-requires : tie.Need-wide-requires Inv-loop μ-loop
-wide-requires c κs = search needs
-
-shared-slice-read-wide-2 : tie.Need-shared-slice-read-wide-2 Inv-loop μ-loop
-shared-slice-read-wide-2 c = search needs
-
-wide-requires-2 : tie.Need-wide-requires-2 Inv-loop μ-loop
-wide-requires-2 c κs = search needs
-
-word-at-requires : tie.Need-word-at-requires Inv-loop μ-loop
-word-at-requires c κs = search needs
-
-mul-ins : tie.Need-mul-ins Inv-loop μ-loop
-mul-ins c = search needs
-
 array-write-ins : tie.Need-array-write-ins Inv-loop μ-loop
 array-write-ins c =
     let a = c .before .before .before .before .before .before .before .before .before .before .before .before .before .args in
@@ -94,30 +55,12 @@ array-write-ins c =
     let f = fit-is _ _ _ _ _ _ (part-fits (a .n) (a .tasks .now) (l .k) _ _ _ _ _ (c .before .before .before .before .before .before .fitting .ensures) ∙ not-false _ (c .before .before .before .before .before .if1 .left)) in
     omega (arith, f .input-in, c .before .before .before .wide .ensures .0, byte (a .tasks .now) (l .k) 0)
 
-mul-outs : tie.Need-mul-outs Inv-loop μ-loop
-mul-outs c = search needs
-
 array-write-outs : tie.Need-array-write-outs Inv-loop μ-loop
 array-write-outs c =
     let a = c .before .before .before .before .before .before .before .before .before .before .before .before .before .args in
     let l = c .before .before .before .before .before .before .before .before .before .before .before .loop in
     let f = fit-is _ _ _ _ _ _ (part-fits (a .n) (a .tasks .now) (l .k) _ _ _ _ _ (c .before .before .before .before .before .before .fitting .ensures) ∙ not-false _ (c .before .before .before .before .before .if1 .left)) in
     omega (arith, f .output-in, c .before .wide2 .ensures .0, byte (a .tasks .now) (l .k) 1)
-
-word-at-requires-2 : tie.Need-word-at-requires-2 Inv-loop μ-loop
-word-at-requires-2 c κs = search needs
-
-add-least : tie.Need-add-least Inv-loop μ-loop
-add-least c = search needs
-
-larger-requires : tie.Need-larger-requires Inv-loop μ-loop
-larger-requires c κs = search needs
-
-add-k : tie.Need-add-k Inv-loop μ-loop
-add-k c = search needs
-
-loop-less : tie.Need-loop-less Inv-loop μ-loop
-loop-less c = search needs
 
 loop-again : tie.Need-loop-again Inv-loop μ-loop
 loop-again c =
@@ -148,31 +91,7 @@ pub judge-all-spec : {M : Type 1} → statement M
 judge-all-spec =
     tie.close
     (tie.spec
-    Inv-loop
-    μ-loop
-    loop-holds
-    mul-from
-    add-to
-    sub-rec
-    part-rec-start
-    part-rec-end
-    slice-aggregate-fitting
-    slice-aggregate-fitting-2
-    fitting-requires
-    returns
-    shared-slice-read-wide
-    wide-requires
-    shared-slice-read-wide-2
-    wide-requires-2
-    word-at-requires
-    mul-ins
-    array-write-ins
-    mul-outs
-    array-write-outs
-    word-at-requires-2
-    add-least
-    larger-requires
-    add-k
-    loop-less
-    loop-again
-    returns-2)
+    Inv-loop μ-loop loop-holds (λ c. search needs) (λ c. search needs) (λ c. search needs) (λ c. search needs) (λ c. search needs) (λ c. search needs)
+    (λ c. search needs) fitting-requires returns (λ c. search needs) (λ c κs. search needs) (λ c. search needs) (λ c κs. search needs)
+    (λ c κs. search needs) (λ c. search needs) array-write-ins (λ c. search needs) array-write-outs (λ c κs. search needs) (λ c. search needs)
+    (λ c κs. search needs) (λ c. search needs) (λ c. search needs) loop-again returns-2)

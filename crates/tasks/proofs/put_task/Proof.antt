@@ -6,41 +6,17 @@ use borrow.Author.Needs.{needs}
 use Rattle.tasks.proofs.put_task.Statement.{statement}
 use Rattle.tasks.proofs.put_task.Tie as tie
 
-cast-tasks : tie.Need-cast-tasks
-cast-tasks c = search needs
-
-slice-write-tasks : tie.Need-slice-write-tasks
-slice-write-tasks c = search needs
-
-cast-tasks-2 : tie.Need-cast-tasks-2
-cast-tasks-2 c = search needs
-
-add-tasks : tie.Need-add-tasks
-add-tasks c = search needs
-
 slice-write-tasks-2 : tie.Need-slice-write-tasks-2
 slice-write-tasks-2 c = simp length-set (omega arith)
-
-add-tasks-2 : tie.Need-add-tasks-2
-add-tasks-2 c = search needs
 
 slice-write-tasks-3 : tie.Need-slice-write-tasks-3
 slice-write-tasks-3 c = simp length-set (omega arith)
 
-add-tasks-3 : tie.Need-add-tasks-3
-add-tasks-3 c = search needs
-
 slice-write-tasks-4 : tie.Need-slice-write-tasks-4
 slice-write-tasks-4 c = simp length-set (omega arith)
 
-add-put-four : tie.Need-add-put-four
-add-put-four c = search needs
-
 put-four-requires : tie.Need-put-four-requires
 put-four-requires c κs = simp length-set (omega arith)
-
-add-put-four-2 : tie.Need-add-put-four-2
-add-put-four-2 c = search needs
 
 put-four-requires-2 : tie.Need-put-four-requires-2
 put-four-requires-2 c κs =
@@ -61,18 +37,5 @@ pub put-task-spec : {M : Type 1} → statement M
 put-task-spec =
     tie.close
     (tie.spec
-    cast-tasks
-    slice-write-tasks
-    cast-tasks-2
-    add-tasks
-    slice-write-tasks-2
-    add-tasks-2
-    slice-write-tasks-3
-    add-tasks-3
-    slice-write-tasks-4
-    add-put-four
-    put-four-requires
-    add-put-four-2
-    put-four-requires-2
-    same-length
-    written)
+    (λ c. search needs) (λ c. search needs) (λ c. search needs) (λ c. search needs) slice-write-tasks-2 (λ c. search needs) slice-write-tasks-3
+    (λ c. search needs) slice-write-tasks-4 (λ c. search needs) put-four-requires (λ c. search needs) put-four-requires-2 same-length written)

@@ -21,9 +21,6 @@ judge-all-requires c κs = (c .before .if2 .left, whole-fits (c .before .before 
 returns-4 : tie.Need-returns-4
 returns-4 c = reading-faulty _ _ (omega arith) (c .before .before .before .before .if2 .left) (c .before .before .before .if3 .left) _ (c .before .before .judge-all .ensures .first) (c .if4 .taken)
 
-cast-t12 : tie.Need-cast-t12
-cast-t12 c = search needs
-
 returns-5 : tie.Need-returns-5
 returns-5 c =
     let j = c .before .before .before .judge-all in
@@ -33,4 +30,4 @@ returns-5 c =
 pub read-tasks-spec : {M : Type 1} → statement M
 read-tasks-spec =
     tie.close
-    (tie.spec returns returns-2 returns-3 judge-all-requires returns-4 cast-t12 returns-5)
+    (tie.spec returns returns-2 returns-3 judge-all-requires returns-4 (λ c. search needs) returns-5)

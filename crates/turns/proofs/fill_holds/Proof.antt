@@ -24,20 +24,8 @@ loop-holds c =
     let a = c .before .before .args in
     (omega arith, c .before .before .pre .1, refl, copy-none (a .holds .now) 0 (tab (a .n) 0 (holdsBy (a .rule) (a .way) (a .n) (a .cells .now) (a .unit))))
 
-hold-of-requires : tie.Need-hold-of-requires Inv-loop μ-loop
-hold-of-requires c κs = search needs
-
-mul-holds : tie.Need-mul-holds Inv-loop μ-loop
-mul-holds c = search needs
-
 slice-write-holds : tie.Need-slice-write-holds Inv-loop μ-loop
 slice-write-holds c = let l = c .before .before .loop in omega (arith, l .inv .1, l .inv .2)
-
-add-k : tie.Need-add-k Inv-loop μ-loop
-add-k c = search needs
-
-loop-less : tie.Need-loop-less Inv-loop μ-loop
-loop-less c = search needs
 
 loop-again : tie.Need-loop-again Inv-loop μ-loop
 loop-again c =
@@ -54,14 +42,5 @@ pub fill-holds-spec : {M : Type 1} → statement M
 fill-holds-spec =
     tie.close
     (tie.spec
-    Inv-loop
-    μ-loop
-    loop-holds
-    hold-of-requires
-    mul-holds
-    slice-write-holds
-    add-k
-    loop-less
-    loop-again
-    same-length
-    returns)
+    Inv-loop μ-loop loop-holds (λ c κs. search needs) (λ c. search needs) slice-write-holds (λ c. search needs) (λ c. search needs) loop-again
+    same-length returns)

@@ -9,26 +9,11 @@ use borrow.Author.Needs.{needs}
 use Rattle.turns.proofs.hold_of.Statement.{statement}
 use Rattle.turns.proofs.hold_of.Tie as tie
 
-enum-told : tie.Need-enum-told
-enum-told c = search needs
-
-largest-remainder-requires : tie.Need-largest-remainder-requires
-largest-remainder-requires c κs = search needs
-
 cast-result : tie.Need-cast-result
 cast-result c =
     let a = c .before .before .before .before .args in
     let h = c .before .before .before .before .pre .0 in
     omega (arith, c .largest-remainder .ensures, tight-small (a .n) (turn (a .way) (a .n)) (a .cells .now) (a .unit) (a .k) (h .least), h .most)
-
-enum-told-2 : tie.Need-enum-told-2
-enum-told-2 c = search needs
-
-sub-result : tie.Need-sub-result
-sub-result c = search needs
-
-cast-result-2 : tie.Need-cast-result-2
-cast-result-2 c = search needs
 
 returns : tie.Need-returns
 returns c =
@@ -45,11 +30,4 @@ pub hold-of-spec : {M : Type 1} → statement M
 hold-of-spec =
     tie.close
     (tie.spec
-    enum-told
-    largest-remainder-requires
-    cast-result
-    enum-told-2
-    sub-result
-    cast-result-2
-    returns
-    returns-2)
+    (λ c. search needs) (λ c κs. search needs) cast-result (λ c. search needs) (λ c. search needs) (λ c. search needs) returns returns-2)

@@ -28,9 +28,6 @@ abbrev μ-loop : tie.MeasureT-loop
 loop-holds : tie.Need-loop-holds Inv-loop μ-loop
 loop-holds c = (omega arith, sym (most-zero _))
 
-output-of-requires : tie.Need-output-of-requires Inv-loop μ-loop
-output-of-requires c κs = search needs
-
 cell-at-requires : tie.Need-cell-at-requires Inv-loop μ-loop
 cell-at-requires c κs = (c .before .before .before .before .pre .0 .few, c .before .loop-test .taken, c .output-of .ensures .1)
 
@@ -46,12 +43,6 @@ shared-slice-read-remainder c =
 
 remainder-requires : tie.Need-remainder-requires Inv-loop μ-loop
 remainder-requires c κs = c .before .before .before .before .before .before .pre .0 .least
-
-add-i : tie.Need-add-i Inv-loop μ-loop
-add-i c = search needs
-
-loop-less : tie.Need-loop-less Inv-loop μ-loop
-loop-less c = search needs
 
 loop-again : tie.Need-loop-again Inv-loop μ-loop
 loop-again c =
@@ -74,15 +65,5 @@ pub largest-remainder-spec : {M : Type 1} → statement M
 largest-remainder-spec =
     tie.close
     (tie.spec
-    Inv-loop
-    μ-loop
-    loop-holds
-    output-of-requires
-    cell-at-requires
-    mul-remainder
-    shared-slice-read-remainder
-    remainder-requires
-    add-i
-    loop-less
-    loop-again
-    returns)
+    Inv-loop μ-loop loop-holds (λ c κs. search needs) cell-at-requires mul-remainder shared-slice-read-remainder remainder-requires
+    (λ c. search needs) (λ c. search needs) loop-again returns)

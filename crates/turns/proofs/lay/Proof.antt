@@ -14,9 +14,6 @@ use Rattle.turns.proofs.lay.Tie as tie
 wide : (W : ℕ) → W ≤ 128 → length {A = ℕ} (take W (replicate 128 255)) ≡ W
 wide W l = length-take-le W (replicate 128 255) (omega (arith, length-replicate {A = ℕ} 128 255))
 
-array-borrow-prefix-out : tie.Need-array-borrow-prefix-out
-array-borrow-prefix-out c = search needs
-
 slice-aggregate-lay-all : tie.Need-slice-aggregate-lay-all
 slice-aggregate-lay-all c = sym (wide _ (c .before .before .before .before .pre .2))
 
@@ -28,9 +25,6 @@ lay-all-requires c κs =
     let fits = turns-room (turn (a .way) (a .n)) (λ k. getD (a .holds .now) k 0) (a .n) (a .e .byte) (a .n) (a .e .width) (a .from) (a .plan .now) (p .3) in
     (p .0, omega (arith, p .1, w), subst (λ (W : ℕ). a .from + length (bytes (a .e .byte) (a .n) (second (a .way) W (a .n) (a .holds .now))) ≤ length (a .plan .now)) (sym w) fits)
 
-same-length : tie.Need-same-length
-same-length c = search needs
-
 returns : tie.Need-returns
 returns c =
     let s = c .before .before .before .before .before .before .before .before in
@@ -41,4 +35,4 @@ returns c =
 pub lay-spec : {M : Type 1} → statement M
 lay-spec =
     tie.close
-    (tie.spec array-borrow-prefix-out slice-aggregate-lay-all lay-all-requires same-length returns)
+    (tie.spec (λ c. search needs) slice-aggregate-lay-all lay-all-requires (λ c. search needs) returns)

@@ -19,9 +19,6 @@ abbrev μ-loop : tie.MeasureT-loop
 loop-holds : tie.Need-loop-holds Inv-loop μ-loop
 loop-holds c = (omega arith, refl, laying-none _ _ _ (c .before .before .before .pre .2))
 
-mul-lay-one : tie.Need-mul-lay-one Inv-loop μ-loop
-mul-lay-one c = search needs
-
 shared-slice-read-lay-one : tie.Need-shared-slice-read-lay-one Inv-loop μ-loop
 shared-slice-read-lay-one c = omega (arith, c .before .before .before .before .before .before .pre .0 .size)
 
@@ -31,12 +28,6 @@ lay-one-requires c κs =
     let l = c .before .before .before .before .loop in
     let t = c .before .before .before .loop-test .taken in
     (p .some, p .few, t, rw (l .inv .1) (laying-room (l .inv .2) t refl))
-
-add-k : tie.Need-add-k Inv-loop μ-loop
-add-k c = search needs
-
-loop-less : tie.Need-loop-less Inv-loop μ-loop
-loop-less c = search needs
 
 loop-again : tie.Need-loop-again Inv-loop μ-loop
 loop-again c =
@@ -58,15 +49,5 @@ pub lay-all-spec : {M : Type 1} → statement M
 lay-all-spec =
     tie.close
     (tie.spec
-    Inv-loop
-    μ-loop
-    loop-holds
-    mul-lay-one
-    shared-slice-read-lay-one
-    lay-one-requires
-    add-k
-    loop-less
-    loop-again
-    same-length
-    same-length-2
-    returns)
+    Inv-loop μ-loop loop-holds (λ c. search needs) shared-slice-read-lay-one lay-one-requires (λ c. search needs) (λ c. search needs) loop-again
+    same-length same-length-2 returns)

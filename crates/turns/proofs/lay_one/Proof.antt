@@ -18,9 +18,6 @@ returns c =
     let z = held-no-bytes (a .edition) (a .n) (length (a .out .now)) (a .hold) (turn (a .way) (a .n) (a .k)) (c .if1 .taken) in
     (omega (arith, ap length z), sym (laid-none (a .plan .now) (a .at)) ∙ ap (laid (a .plan .now) (a .at)) (sym z))
 
-fill-outputs-requires : tie.Need-fill-outputs-requires
-fill-outputs-requires c κs = search needs
-
 put-record-requires : tie.Need-put-record-requires
 put-record-requires c κs =
     let s = c .before .before .before .before .before .before .before .before .before in
@@ -28,21 +25,12 @@ put-record-requires c κs =
     let size = held-size (a .edition) (a .n) (length (a .out .now)) (a .hold) (turn (a .way) (a .n) (a .k)) (omega (arith, c .before .before .before .before .before .before .if1 .left)) in
     (omega (arith, s .pre .1), omega (arith, s .pre .3, size, c .before .before .before .before .fill-outputs .kept .1 .1 .1 .0))
 
-add-result : tie.Need-add-result
-add-result c = search needs
-
 add-result-2 : tie.Need-add-result-2
 add-result-2 c =
     let s = c .before .before .before .before .before .before .before .before .before .before .before .before in
     let a = s .args in
     let size = held-size (a .edition) (a .n) (length (a .out .now)) (a .hold) (turn (a .way) (a .n) (a .k)) (omega (arith, c .before .before .before .before .before .before .before .before .before .if1 .left)) in
     omega (arith, s .pre .3, size, c .before .before .before .before .before .before .before .fill-outputs .kept .1 .1 .1 .0)
-
-same-length : tie.Need-same-length
-same-length c = search needs
-
-same-length-2 : tie.Need-same-length-2
-same-length-2 c = search needs
 
 returns-2 : tie.Need-returns-2
 returns-2 c =
@@ -60,11 +48,4 @@ pub lay-one-spec : {M : Type 1} → statement M
 lay-one-spec =
     tie.close
     (tie.spec
-    returns
-    fill-outputs-requires
-    put-record-requires
-    add-result
-    add-result-2
-    same-length
-    same-length-2
-    returns-2)
+    returns (λ c κs. search needs) put-record-requires (λ c. search needs) add-result-2 (λ c. search needs) (λ c. search needs) returns-2)

@@ -17,15 +17,6 @@ abbrev μ-loop : tie.MeasureT-loop
 loop-holds : tie.Need-loop-holds Inv-loop μ-loop
 loop-holds c = (omega arith, λ τ. counted-none τ _ _)
 
-mul-hold : tie.Need-mul-hold Inv-loop μ-loop
-mul-hold c = search needs
-
-shared-slice-read-hold : tie.Need-shared-slice-read-hold Inv-loop μ-loop
-shared-slice-read-hold c = search needs
-
-records-of-requires : tie.Need-records-of-requires Inv-loop μ-loop
-records-of-requires c κs = search needs
-
 add-records : tie.Need-add-records Inv-loop μ-loop
 add-records c =
     let l = c .before .before .before .loop in
@@ -38,12 +29,6 @@ add-total : tie.Need-add-total Inv-loop μ-loop
 add-total c =
     let l = c .before .before .before .loop in
     omega (arith, c .before .before .before .before .before .pre .0, l .inv .1 (λ _ i. i) .small, c .before .shared-slice-known2 .given (l .k))
-
-add-k : tie.Need-add-k Inv-loop μ-loop
-add-k c = search needs
-
-loop-less : tie.Need-loop-less Inv-loop μ-loop
-loop-less c = search needs
 
 loop-again : tie.Need-loop-again Inv-loop μ-loop
 loop-again c =
@@ -66,16 +51,5 @@ pub measure-spec : {M : Type 1} → statement M
 measure-spec =
     tie.close
     (tie.spec
-    Inv-loop
-    μ-loop
-    loop-holds
-    mul-hold
-    shared-slice-read-hold
-    records-of-requires
-    add-records
-    cast-total
-    add-total
-    add-k
-    loop-less
-    loop-again
-    returns)
+    Inv-loop μ-loop loop-holds (λ c. search needs) (λ c. search needs) (λ c κs. search needs) add-records cast-total add-total (λ c. search needs)
+    (λ c. search needs) loop-again returns)

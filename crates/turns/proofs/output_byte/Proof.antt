@@ -9,9 +9,6 @@ use Rattle.turns.proofs.output_byte.Tie as tie
 returns : tie.Need-returns
 returns c = let a = c .before .args in sym (turn-idle (a .way) (a .n) (a .k) (a .i) (c .if1 .taken))
 
-output-of-requires : tie.Need-output-of-requires
-output-of-requires c κs = search needs
-
 cast-result : tie.Need-cast-result
 cast-result c = omega (arith, c .before .output-of .ensures .1, c .before .before .before .pre .1)
 
@@ -19,4 +16,4 @@ returns-2 : tie.Need-returns-2
 returns-2 c = c .before .output-of .ensures .0
 
 pub output-byte-spec : {M : Type 1} → statement M
-output-byte-spec = tie.close (tie.spec returns output-of-requires cast-result returns-2)
+output-byte-spec = tie.close (tie.spec returns (λ c κs. search needs) cast-result returns-2)

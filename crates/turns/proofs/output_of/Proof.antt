@@ -23,9 +23,6 @@ module _ (t : Turning) (n k i s : ℕ) (lk : k < n) (li : i < n) (start : s ≡ 
       inside : s + k - n < n
       inside = omega (arith, start, ahead-most t n i li)
 
-start-of-requires : tie.Need-start-of-requires
-start-of-requires c κs = search needs
-
 add-on : tie.Need-add-on
 add-on c = let a = c .before .args in omega (arith, c .start-of .ensures, c .before .pre, ahead-most (a .way) (a .n) (a .i .0) (c .before .pre .1))
 
@@ -40,4 +37,4 @@ returns-2 c =
     once-off (s .args .way) (s .args .n) (s .args .k) (s .args .i .0) _ (s .pre .0) (s .pre .1) (c .before .start-of .ensures) (c .if1 .left)
 
 pub output-of-spec : {M : Type 1} → statement M
-output-of-spec = tie.close (tie.spec start-of-requires add-on returns returns-2)
+output-of-spec = tie.close (tie.spec (λ c κs. search needs) add-on returns returns-2)

@@ -23,26 +23,8 @@ loop-holds c =
     let a = c .before .before .args in
     (omega arith, refl, c .before .before .pre .0, refl, copy-none (a .work .now) 0 (divide (a .unit) (a .cells .now)))
 
-mul-quotient : tie.Need-mul-quotient Inv-loop μ-loop
-mul-quotient c = search needs
-
-shared-slice-read-quotient : tie.Need-shared-slice-read-quotient Inv-loop μ-loop
-shared-slice-read-quotient c = search needs
-
-quotient-requires : tie.Need-quotient-requires Inv-loop μ-loop
-quotient-requires c κs = search needs
-
-mul-work : tie.Need-mul-work Inv-loop μ-loop
-mul-work c = search needs
-
 slice-write-work : tie.Need-slice-write-work Inv-loop μ-loop
 slice-write-work c = omega arith
-
-add-k : tie.Need-add-k Inv-loop μ-loop
-add-k c = search needs
-
-loop-less : tie.Need-loop-less Inv-loop μ-loop
-loop-less c = search needs
 
 loop-again : tie.Need-loop-again Inv-loop μ-loop
 loop-again c =
@@ -59,16 +41,5 @@ pub quotients-spec : {M : Type 1} → statement M
 quotients-spec =
     tie.close
     (tie.spec
-    Inv-loop
-    μ-loop
-    loop-holds
-    mul-quotient
-    shared-slice-read-quotient
-    quotient-requires
-    mul-work
-    slice-write-work
-    add-k
-    loop-less
-    loop-again
-    same-length
-    returns)
+    Inv-loop μ-loop loop-holds (λ c. search needs) (λ c. search needs) (λ c κs. search needs) (λ c. search needs) slice-write-work (λ c. search needs)
+    (λ c. search needs) loop-again same-length returns)

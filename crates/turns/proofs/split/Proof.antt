@@ -4,9 +4,6 @@ use borrow.Author.Needs.{needs}
 use Rattle.turns.proofs.split.Statement.{statement}
 use Rattle.turns.proofs.split.Tie as tie
 
-unit-of-requires : tie.Need-unit-of-requires
-unit-of-requires c κs = search needs
-
 quotients-requires : tie.Need-quotients-requires
 quotients-requires c κs =
     let p = c .before .before .before .before .before .pre in
@@ -17,16 +14,7 @@ fill-holds-requires c κs =
     let p = c .before .before .before .before .before .before .before .before .before .pre in
     (unit-holding (p .0) (c .before .before .before .before .before .unit-of .ensures), p .2)
 
-same-length : tie.Need-same-length
-same-length c = search needs
-
-same-length-2 : tie.Need-same-length-2
-same-length-2 c = search needs
-
-returns : tie.Need-returns
-returns c = search needs
-
 pub split-spec : {M : Type 1} → statement M
 split-spec =
     tie.close
-    (tie.spec unit-of-requires quotients-requires fill-holds-requires same-length same-length-2 returns)
+    (tie.spec (λ c κs. search needs) quotients-requires fill-holds-requires (λ c. search needs) (λ c. search needs) (λ c. search needs))

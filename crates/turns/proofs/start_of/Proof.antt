@@ -6,22 +6,10 @@ use borrow.Author.Needs.{needs}
 use Rattle.turns.proofs.start_of.Statement.{statement}
 use Rattle.turns.proofs.start_of.Tie as tie
 
-enum-told : tie.Need-enum-told
-enum-told c = search needs
-
-enum-told-2 : tie.Need-enum-told-2
-enum-told-2 c = search needs
-
-sub-result : tie.Need-sub-result
-sub-result c = search needs
-
-returns : tie.Need-returns
-returns c = search needs
-
 returns-2 : tie.Need-returns-2
 returns-2 c =
     let a = c .before .before .before .args in
     ap (λ (t : Turning). ahead t (a .n) (a .i .0)) (sym (c .before .enum-told2 .given .1))
 
 pub start-of-spec : {M : Type 1} → statement M
-start-of-spec = tie.close (tie.spec enum-told enum-told-2 sub-result returns returns-2)
+start-of-spec = tie.close (tie.spec (λ c. search needs) (λ c. search needs) (λ c. search needs) (λ c. search needs) returns-2)

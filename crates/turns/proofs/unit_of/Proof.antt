@@ -8,15 +8,6 @@ use borrow.Author.Needs.{needs}
 use Rattle.turns.proofs.unit_of.Statement.{statement}
 use Rattle.turns.proofs.unit_of.Tie as tie
 
-sub-result : tie.Need-sub-result
-sub-result c = search needs
-
-add-result : tie.Need-add-result
-add-result c = search needs
-
-div-result : tie.Need-div-result
-div-result c = search needs
-
 cast-result : tie.Need-cast-result
 cast-result c = let a = c .args in omega (arith, div-le-self (a .longest + (a .n - 1)) (a .n))
 
@@ -25,4 +16,4 @@ unfolding unit
 returns c = refl
 
 pub unit-of-spec : {M : Type 1} → statement M
-unit-of-spec = tie.close (tie.spec sub-result add-result div-result cast-result returns)
+unit-of-spec = tie.close (tie.spec (λ c. search needs) (λ c. search needs) (λ c. search needs) cast-result returns)

@@ -5,7 +5,7 @@ use Prim.Native.Nat.{_-_, _≤_}
 use native.Mathlib.Omega.{arith}
 use lib.ListN.{length, length-set}
 use Rattle.records.specs.Record.{decoded}
-use Rattle.grants.proofs.Grant.{output-byte}
+use Rattle.records.proofs.Meaning.{output-byte}
 use Rattle.wavelengths.proofs.Shared.{Counted, counted-none, counted-all, counted-idle, place-small, counted-joined}
 use borrow.Author.Needs.{needs}
 use Rattle.wavelengths.proofs.count_inputs.Statement.{statement}
@@ -20,18 +20,6 @@ abbrev μ-loop : tie.MeasureT-loop
 loop-holds : tie.Need-loop-holds Inv-loop μ-loop
 loop-holds c = (omega arith, refl, counted-none _ _ _ (c .before .before .pre .3))
 
-add-wide : tie.Need-add-wide Inv-loop μ-loop
-add-wide c = search needs
-
-shared-slice-read-wide : tie.Need-shared-slice-read-wide Inv-loop μ-loop
-shared-slice-read-wide c = search needs
-
-wide-requires : tie.Need-wide-requires Inv-loop μ-loop
-wide-requires c κs = search needs
-
-wavelength-of-requires : tie.Need-wavelength-of-requires Inv-loop μ-loop
-wavelength-of-requires c κs = search needs
-
 slice-read-shares : tie.Need-slice-read-shares Inv-loop μ-loop
 slice-read-shares c = omega (arith, c .before .before .before .before .before .before .loop .inv .2 .room, c .before .wavelength-of .ensures .1)
 
@@ -43,12 +31,6 @@ add-shares c =
 
 slice-write-shares : tie.Need-slice-write-shares Inv-loop μ-loop
 slice-write-shares c = omega (arith, c .before .before .before .before .before .before .loop .inv .2 .room, c .before .wavelength-of .ensures .1)
-
-add-i : tie.Need-add-i Inv-loop μ-loop
-add-i c = search needs
-
-loop-less : tie.Need-loop-less Inv-loop μ-loop
-loop-less c = search needs
 
 loop-again : tie.Need-loop-again Inv-loop μ-loop
 loop-again c =
@@ -72,18 +54,5 @@ pub count-inputs-spec : {M : Type 1} → statement M
 count-inputs-spec =
     tie.close
     (tie.spec
-    Inv-loop
-    μ-loop
-    loop-holds
-    add-wide
-    shared-slice-read-wide
-    wide-requires
-    wavelength-of-requires
-    slice-read-shares
-    add-shares
-    slice-write-shares
-    add-i
-    loop-less
-    loop-again
-    same-length
-    returns)
+    Inv-loop μ-loop loop-holds (λ c. search needs) (λ c. search needs) (λ c κs. search needs) (λ c κs. search needs) slice-read-shares add-shares
+    slice-write-shares (λ c. search needs) (λ c. search needs) loop-again same-length returns)

@@ -14,17 +14,8 @@ use borrow.Author.Needs.{needs}
 use Rattle.wavelengths.proofs.grating_report.Statement.{statement}
 use Rattle.wavelengths.proofs.grating_report.Tie as tie
 
-first-edition-requires : tie.Need-first-edition-requires
-first-edition-requires c κs = search needs
-
 check-plan-requires : tie.Need-check-plan-requires
 check-plan-requires c κs = rw (c .first-edition .ensures) first-bounded
-
-enum-known-checked : tie.Need-enum-known-checked
-enum-known-checked c = search needs
-
-enum-told : tie.Need-enum-told
-enum-told c = search needs
 
 returns : tie.Need-returns
 returns c =
@@ -48,9 +39,6 @@ report-records-requires c κs =
     let e = ap (λ (x : Counts). x .records) (k .counts) in
     (k .some, k .few, omega arith, omega (arith, e), omega (arith, c .before .if1 .left))
 
-same-length : tie.Need-same-length
-same-length c = search needs
-
 returns-3 : tie.Need-returns-3
 returns-3 c =
     let a = c .before .before .before .before .before .before .before .before .before .before .before .before .args in
@@ -64,12 +52,5 @@ pub grating-report-spec : {M : Type 1} → statement M
 grating-report-spec =
     tie.close
     (tie.spec
-    first-edition-requires
-    check-plan-requires
-    enum-known-checked
-    enum-told
-    returns
-    returns-2
-    report-records-requires
-    same-length
+    (λ c κs. search needs) check-plan-requires (λ c. search needs) (λ c. search needs) returns returns-2 report-records-requires (λ c. search needs)
     returns-3)

@@ -22,12 +22,6 @@ loop-holds c = (refl, omega arith, sym (most-zero _))
 shared-slice-read-x : tie.Need-shared-slice-read-x Inv-loop μ-loop
 shared-slice-read-x c = omega arith
 
-add-k : tie.Need-add-k Inv-loop μ-loop
-add-k c = search needs
-
-loop-less : tie.Need-loop-less Inv-loop μ-loop
-loop-less c = search needs
-
 loop-again : tie.Need-loop-again Inv-loop μ-loop
 loop-again c =
     let l = c .before .before .before .loop in
@@ -44,4 +38,4 @@ returns c =
 pub largest-spec : {M : Type 1} → statement M
 largest-spec =
     tie.close
-    (tie.spec Inv-loop μ-loop loop-holds shared-slice-read-x add-k loop-less loop-again returns)
+    (tie.spec Inv-loop μ-loop loop-holds shared-slice-read-x (λ c. search needs) (λ c. search needs) loop-again returns)

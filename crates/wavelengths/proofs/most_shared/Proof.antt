@@ -2,14 +2,11 @@
 use mathlib.Core.Path.{sym, _∙_}
 use native.Mathlib.Omega.{arith}
 use lib.Seq.{length-take-le}
-use Rattle.grants.proofs.Grant.{blank-zeros}
+use Rattle.switch.proofs.Demand.{blank-zeros}
 use Rattle.wavelengths.proofs.Shared.{most-counted}
 use borrow.Author.Needs.{needs}
 use Rattle.wavelengths.proofs.most_shared.Statement.{statement}
 use Rattle.wavelengths.proofs.most_shared.Tie as tie
-
-slice-aggregate-count-inputs : tie.Need-slice-aggregate-count-inputs
-slice-aggregate-count-inputs c = search needs
 
 count-inputs-requires : tie.Need-count-inputs-requires
 count-inputs-requires c κs =
@@ -17,14 +14,8 @@ count-inputs-requires c κs =
     let z = blank-zeros 128 in
     (p .0, p .1, p .2, record { room = omega (arith, p .1, z .room); clear = z .clear })
 
-array-share-prefix-shares : tie.Need-array-share-prefix-shares
-array-share-prefix-shares c = search needs
-
 slice-aggregate-largest : tie.Need-slice-aggregate-largest
 slice-aggregate-largest c = sym (length-take-le _ _ (c .before .before .count-inputs .ensures .room))
-
-largest-requires : tie.Need-largest-requires
-largest-requires c κs = search needs
 
 returns : tie.Need-returns
 returns c = c .largest .ensures ∙ most-counted _ _ _ (c .before .before .before .count-inputs .ensures)
@@ -33,9 +24,4 @@ pub most-shared-spec : {M : Type 1} → statement M
 most-shared-spec =
     tie.close
     (tie.spec
-    slice-aggregate-count-inputs
-    count-inputs-requires
-    array-share-prefix-shares
-    slice-aggregate-largest
-    largest-requires
-    returns)
+    (λ c. search needs) count-inputs-requires (λ c. search needs) slice-aggregate-largest (λ c κs. search needs) returns)

@@ -25,9 +25,6 @@ loop-holds c =
     let a = c .before .before .args in
     (omega arith, refl, copy-none (a .report .now) 0 (gratingReport (a .n) (planFrom (a .width) (a .plan .now) 0 (a .records))))
 
-record-at-requires : tie.Need-record-at-requires Inv-loop μ-loop
-record-at-requires c κs = search needs
-
 most-shared-requires : tie.Need-most-shared-requires Inv-loop μ-loop
 most-shared-requires c κs =
     let a = c .before .before .before .before .before .args in
@@ -37,12 +34,6 @@ most-shared-requires c κs =
 
 slice-write-report : tie.Need-slice-write-report Inv-loop μ-loop
 slice-write-report c = omega (arith, c .before .before .before .loop .inv .1, c .before .before .before .before .before .before .pre .4)
-
-add-k : tie.Need-add-k Inv-loop μ-loop
-add-k c = search needs
-
-loop-less : tie.Need-loop-less Inv-loop μ-loop
-loop-less c = search needs
 
 loop-again : tie.Need-loop-again Inv-loop μ-loop
 loop-again c =
@@ -61,14 +52,5 @@ pub report-records-spec : {M : Type 1} → statement M
 report-records-spec =
     tie.close
     (tie.spec
-    Inv-loop
-    μ-loop
-    loop-holds
-    record-at-requires
-    most-shared-requires
-    slice-write-report
-    add-k
-    loop-less
-    loop-again
-    same-length
-    returns)
+    Inv-loop μ-loop loop-holds (λ c κs. search needs) most-shared-requires slice-write-report (λ c. search needs) (λ c. search needs) loop-again
+    same-length returns)

@@ -6,18 +6,9 @@ use borrow.Author.Needs.{needs}
 use Rattle.wavelengths.proofs.wavelength_of.Statement.{statement}
 use Rattle.wavelengths.proofs.wavelength_of.Tie as tie
 
-sub-result : tie.Need-sub-result
-sub-result c = search needs
-
-add-result : tie.Need-add-result
-add-result c = search needs
-
-rem-result : tie.Need-rem-result
-rem-result c = search needs
-
 returns : tie.Need-returns
 unfolding wavelength
 returns c = (refl, wavelength-in _ _ _ (c .before .before .pre .0) (c .before .before .pre .1))
 
 pub wavelength-of-spec : {M : Type 1} → statement M
-wavelength-of-spec = tie.close (tie.spec sub-result add-result rem-result returns)
+wavelength-of-spec = tie.close (tie.spec (λ c. search needs) (λ c. search needs) (λ c. search needs) returns)

@@ -34,23 +34,10 @@ rounded-up-requires : tie.Need-rounded-up-requires
 unfolding ofBits
 rounded-up-requires c κs = in-range (c .before .before .before .before .before .args .x) (known (c .before .before)) (c .before .if4 .left) (c .if5 .left)
 
-worth-of-requires : tie.Need-worth-of-requires
-worth-of-requires c κs = search needs
-
 returns-6 : tie.Need-returns-6
 returns-6 c =
     rw (c .worth-of .ensures, c .before .rounded-up .ensures)
     (at-slots (c .before .before .before .before .before .before .before .args .x) (rounded-up-requires (c .before .before) _))
 
 pub classify-spec : {M : Type 1} → statement M
-classify-spec =
-    tie.close
-    (tie.spec
-    returns
-    returns-2
-    returns-3
-    returns-4
-    returns-5
-    rounded-up-requires
-    worth-of-requires
-    returns-6)
+classify-spec = tie.close (tie.spec returns returns-2 returns-3 returns-4 returns-5 rounded-up-requires (λ c κs. search needs) returns-6)

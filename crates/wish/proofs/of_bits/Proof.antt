@@ -21,12 +21,9 @@ float-from-bits-classify c =
     let b = c .before .args .bits in
     rw (nanBits-above binary32 b ∙ le-ltb 0x7f80_0000 (b % 0x8000_0000) (c .if1 .left)) tt
 
-classify-requires : tie.Need-classify-requires
-classify-requires c κs = search needs
-
 returns-2 : tie.Need-returns-2
 unfolding wishBits
 returns-2 c = c .classify .ensures
 
 pub of-bits-spec : {M : Type 1} → statement M
-of-bits-spec = tie.close (tie.spec returns float-from-bits-classify classify-requires returns-2)
+of-bits-spec = tie.close (tie.spec returns float-from-bits-classify (λ c κs. search needs) returns-2)

@@ -32,12 +32,4 @@ returns-2 c =
     rw (at .truncating-f32-to-u64 .ensures) (rounded-same (at .before .args .x) (at .before .pre) (rw (at .truncating-f32-to-u64 .ensures) at (c .if1 .left)))
 
 pub rounded-up-spec : {M : Type 1} → statement M
-rounded-up-spec =
-    tie.close
-    (tie.spec
-    truncating-f32-to-u64-requires
-    cast-whole
-    int-to-float-if1
-    add-result
-    returns
-    returns-2)
+rounded-up-spec = tie.close (tie.spec truncating-f32-to-u64-requires cast-whole int-to-float-if1 add-result returns returns-2)

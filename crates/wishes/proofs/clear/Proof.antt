@@ -17,21 +17,6 @@ Inv-loop cells₀ at₀ cells at = (length cells ≡ length cells₀) × (at ≤
 abbrev μ-loop : tie.MeasureT-loop
 μ-loop cells₀ at₀ cells at = length cells₀ - at
 
-loop-holds : tie.Need-loop-holds Inv-loop μ-loop
-loop-holds c = search needs
-
-mul-cells : tie.Need-mul-cells Inv-loop μ-loop
-mul-cells c = search needs
-
-slice-write-cells : tie.Need-slice-write-cells Inv-loop μ-loop
-slice-write-cells c = search needs
-
-add-at : tie.Need-add-at Inv-loop μ-loop
-add-at c = search needs
-
-loop-less : tie.Need-loop-less Inv-loop μ-loop
-loop-less c = search needs
-
 loop-again : tie.Need-loop-again Inv-loop μ-loop
 loop-again c =
     let l = c .before .loop in (
@@ -39,9 +24,6 @@ loop-again c =
       simp length-set (omega arith),
       below-more _ _ (λ k h. getD-set-other (l .cells) (l .at) k 0 0 (ne-of-lt h) ∙ l .inv .2 k h) (getD-set-same (l .cells) (l .at) 0 0 (c .loop-test .taken)),
     )
-
-same-length : tie.Need-same-length Inv-loop μ-loop
-same-length c = search needs
 
 returns : tie.Need-returns Inv-loop μ-loop
 returns c =
@@ -52,13 +34,5 @@ pub clear-spec : {M : Type 1} → statement M
 clear-spec =
     tie.close
     (tie.spec
-    Inv-loop
-    μ-loop
-    loop-holds
-    mul-cells
-    slice-write-cells
-    add-at
-    loop-less
-    loop-again
-    same-length
+    Inv-loop μ-loop (λ c. search needs) (λ c. search needs) (λ c. search needs) (λ c. search needs) (λ c. search needs) loop-again (λ c. search needs)
     returns)

@@ -8,9 +8,6 @@ use borrow.Author.Needs.{needs}
 use Rattle.wishes.proofs.fault_of.Statement.{statement}
 use Rattle.wishes.proofs.fault_of.Tie as tie
 
-well-formed-requires : tie.Need-well-formed-requires
-well-formed-requires c κs = search needs
-
 returns : tie.Need-returns
 returns c = sym (malformed _ _ _ _ (sym (c .before .well-formed .ensures) ∙ not-true _ (c .if1 .taken)))
 
@@ -23,12 +20,6 @@ seen-requires c κs =
 returns-2 : tie.Need-returns-2
 returns-2 c = sym (twice _ _ _ _ (sym (c .before .before .before .well-formed .ensures) ∙ not-false _ (c .before .before .if1 .left)) (sym (c .before .seen .ensures) ∙ c .if2 .taken))
 
-of-bits-requires : tie.Need-of-bits-requires
-of-bits-requires c κs = search needs
-
-wish-fault-requires : tie.Need-wish-fault-requires
-wish-fault-requires c κs = search needs
-
 returns-3 : tie.Need-returns-3
 returns-3 c =
     let s = c .before .before .before in
@@ -36,13 +27,4 @@ returns-3 c =
     ∙ sym (its-wish _ _ _ _ (sym (s .before .before .well-formed .ensures) ∙ not-false _ (s .before .if1 .left)) (sym (s .seen .ensures) ∙ c .before .before .if2 .left))
 
 pub fault-of-spec : {M : Type 1} → statement M
-fault-of-spec =
-    tie.close
-    (tie.spec
-    well-formed-requires
-    returns
-    seen-requires
-    returns-2
-    of-bits-requires
-    wish-fault-requires
-    returns-3)
+fault-of-spec = tie.close (tie.spec (λ c κs. search needs) returns seen-requires returns-2 (λ c κs. search needs) (λ c κs. search needs) returns-3)

@@ -17,16 +17,10 @@ Inv-loop n list count cells₀ k₀ cells k = (k ≤ count) × (cells ≡ demand
 abbrev μ-loop : tie.MeasureT-loop
 μ-loop n list count cells₀ k₀ cells k = count - k
 
-clear-requires : tie.Need-clear-requires Inv-loop μ-loop
-clear-requires c κs = search needs
-
 loop-holds : tie.Need-loop-holds Inv-loop μ-loop
 loop-holds c =
     let start = c .before .before .before .before .before .before in
     (omega arith, c .before .before .clear .ensures ∙ ap (λ (m : ℕ). replicate m 0) (start .pre .2) ∙ sym (demand-none _ _))
-
-record-at-requires : tie.Need-record-at-requires Inv-loop μ-loop
-record-at-requires c κs = search needs
 
 put-requires : tie.Need-put-requires Inv-loop μ-loop
 put-requires c κs =
@@ -34,12 +28,6 @@ put-requires c κs =
     let start = l .before .before .before .before .before .before .before in
     let formed = all-sound _ _ _ _ (start .pre .3) (c .before .before .loop-test .taken) .formed in
     (start .pre .1, rw (l .loop .inv .1, demand-length) (le-refl _), rw (c .before .record-at .ensures) formed)
-
-add-k : tie.Need-add-k Inv-loop μ-loop
-add-k c = search needs
-
-loop-less : tie.Need-loop-less Inv-loop μ-loop
-loop-less c = search needs
 
 loop-again : tie.Need-loop-again Inv-loop μ-loop
 loop-again c =
@@ -62,14 +50,5 @@ pub fill-spec : {M : Type 1} → statement M
 fill-spec =
     tie.close
     (tie.spec
-    Inv-loop
-    μ-loop
-    clear-requires
-    loop-holds
-    record-at-requires
-    put-requires
-    add-k
-    loop-less
-    loop-again
-    same-length
-    returns)
+    Inv-loop μ-loop (λ c κs. search needs) loop-holds (λ c κs. search needs) put-requires (λ c. search needs) (λ c. search needs) loop-again
+    same-length returns)

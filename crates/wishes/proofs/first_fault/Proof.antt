@@ -29,9 +29,6 @@ found c =
 loop-holds : tie.Need-loop-holds Inv-loop μ-loop
 loop-holds c = (omega arith, refl, refl, seen-none _ _ _ _ (c .before .before .before .pre .2), fault-none _ _)
 
-record-at-requires : tie.Need-record-at-requires Inv-loop μ-loop
-record-at-requires c κs = search needs
-
 -- there is room for the sets of n inputs
 room : (c : tie.At-loop Inv-loop μ-loop) → Room (c .before .before .before .before .args .n) (c .loop .lows) (c .loop .highs)
 room c =
@@ -43,22 +40,10 @@ fault-of-requires c κs =
     let l = c .before .before .before .before in
     (l .before .before .before .before .pre .1, room l)
 
-enum-known-fault : tie.Need-enum-known-fault Inv-loop μ-loop
-enum-known-fault c = search needs
-
-same-length : tie.Need-same-length Inv-loop μ-loop
-same-length c = search needs
-
-same-length-2 : tie.Need-same-length-2 Inv-loop μ-loop
-same-length-2 c = search needs
-
 returns : tie.Need-returns Inv-loop μ-loop
 returns c =
     let l = c .before .before .before .before .before .before .before .before .loop in
     sym (fault-stays _ _ _ (l .k + 1) _ (omega arith) (sym (found (c .before .before .before)) ∙ c .before .fault .given .1))
-
-enum-told : tie.Need-enum-told Inv-loop μ-loop
-enum-told c = search needs
 
 mark-requires : tie.Need-mark-requires Inv-loop μ-loop
 mark-requires c κs =
@@ -66,12 +51,6 @@ mark-requires c κs =
     let l = f .before .before .before .before .before in
     let i = inside _ _ (sound _ _ _ _ (sym (f .fault-of .ensures) ∙ c .before .before .enum-told .given .1) .formed) in
     (lt-of-lt-of-le (i .output) (l .before .before .before .before .pre .1), lt-of-lt-of-le (i .input) (room l .low), lt-of-lt-of-le (i .input) (room l .high))
-
-add-k : tie.Need-add-k Inv-loop μ-loop
-add-k c = search needs
-
-loop-less : tie.Need-loop-less Inv-loop μ-loop
-loop-less c = search needs
 
 loop-again : tie.Need-loop-again Inv-loop μ-loop
 loop-again c =
@@ -85,12 +64,6 @@ loop-again c =
       sym (found f) ∙ c .before .before .before .before .before .before .before .enum-told .given .1,
     )
 
-same-length-3 : tie.Need-same-length-3 Inv-loop μ-loop
-same-length-3 c = search needs
-
-same-length-4 : tie.Need-same-length-4 Inv-loop μ-loop
-same-length-4 c = search needs
-
 returns-2 : tie.Need-returns-2 Inv-loop μ-loop
 returns-2 c =
     let l = c .before .loop in
@@ -101,20 +74,5 @@ pub first-fault-spec : {M : Type 1} → statement M
 first-fault-spec =
     tie.close
     (tie.spec
-    Inv-loop
-    μ-loop
-    loop-holds
-    record-at-requires
-    fault-of-requires
-    enum-known-fault
-    same-length
-    same-length-2
-    returns
-    enum-told
-    mark-requires
-    add-k
-    loop-less
-    loop-again
-    same-length-3
-    same-length-4
-    returns-2)
+    Inv-loop μ-loop loop-holds (λ c κs. search needs) fault-of-requires (λ c. search needs) (λ c. search needs) (λ c. search needs) returns
+    (λ c. search needs) mark-requires (λ c. search needs) (λ c. search needs) loop-again (λ c. search needs) (λ c. search needs) returns-2)

@@ -40,37 +40,16 @@ first-fault-requires c κs =
     let l = c .before .before .before .before .if2 .left in
     (mul-div-le _ 8, le-trans l (start .pre .0), empty-less _ _ _ _ l (start .pre .1))
 
-enum-known-fault : tie.Need-enum-known-fault
-enum-known-fault c = search needs
-
-enum-told : tie.Need-enum-told
-enum-told c = search needs
-
 fill-requires : tie.Need-fill-requires
 fill-requires c κs =
     let e4 = c .before .before .before .before .before .before .before .before .before .before in
     let start = e4 .before .before .before .before .before .before .before .before in
     (mul-div-le _ 8, le-trans (e4 .before .before .if2 .left) (start .pre .0), e4 .before .if3 .left, sym (c .before .before .before .before .before .before .before .first-fault .ensures) ∙ c .before .enum-told .given .1)
 
-same-length : tie.Need-same-length
-same-length c = search needs
-
-same-length-2 : tie.Need-same-length-2
-same-length-2 c = search needs
-
 returns-5 : tie.Need-returns-5
 returns-5 c =
     let f = c .before .before .before .before .before .before .before in
     result _ _ _ _ _ (decided (f .before .before .before) _ (sym (f .first-fault .ensures) ∙ c .before .fault .given .1))
-
-same-length-3 : tie.Need-same-length-3
-same-length-3 c = search needs
-
-same-length-4 : tie.Need-same-length-4
-same-length-4 c = search needs
-
-same-length-5 : tie.Need-same-length-5
-same-length-5 c = search needs
 
 returns-6 : tie.Need-returns-6
 returns-6 c =
@@ -82,19 +61,5 @@ pub list-to-demand-spec : {M : Type 1} → statement M
 list-to-demand-spec =
     tie.close
     (tie.spec
-    returns
-    returns-2
-    mul-square
-    returns-3
-    returns-4
-    first-fault-requires
-    enum-known-fault
-    enum-told
-    fill-requires
-    same-length
-    same-length-2
-    returns-5
-    same-length-3
-    same-length-4
-    same-length-5
-    returns-6)
+    returns returns-2 mul-square returns-3 returns-4 first-fault-requires (λ c. search needs) (λ c. search needs) fill-requires (λ c. search needs)
+    (λ c. search needs) returns-5 (λ c. search needs) (λ c. search needs) (λ c. search needs) returns-6)

@@ -14,12 +14,6 @@ use Rattle.wishes.proofs.put.Tie as tie
 cell-at-requires : tie.Need-cell-at-requires
 cell-at-requires c κs = let p = c .before .pre in let i = inside _ _ (p .2) in (p .0, i .input, i .output)
 
-of-bits-requires : tie.Need-of-bits-requires
-of-bits-requires c κs = search needs
-
-slots-of-requires : tie.Need-slots-of-requires
-slots-of-requires c κs = search needs
-
 mul-cells : tie.Need-mul-cells
 mul-cells c =
     let a = c .before .before .before .before .args in
@@ -34,21 +28,9 @@ slice-write-cells c =
     let i = inside (a .n) (a .wanted) (p .2) in
     rw (c .before .before .cell-at .ensures) (lt-of-lt-of-le (digits-lt (i .input) (i .output)) (p .1))
 
-same-length : tie.Need-same-length
-same-length c = search needs
-
 returns : tie.Need-returns
 unfolding put
 returns c = rw (c .before .before .cell-at .ensures, c .slots-of .ensures ∙ ap slotsOf (c .before .of-bits .ensures))
 
 pub put-spec : {M : Type 1} → statement M
-put-spec =
-    tie.close
-    (tie.spec
-    cell-at-requires
-    of-bits-requires
-    slots-of-requires
-    mul-cells
-    slice-write-cells
-    same-length
-    returns)
+put-spec = tie.close (tie.spec cell-at-requires (λ c κs. search needs) (λ c κs. search needs) mul-cells slice-write-cells (λ c. search needs) returns)

@@ -5,21 +5,6 @@ use borrow.Author.Needs.{needs}
 use Rattle.wishes.proofs.wish_fault.Statement.{statement}
 use Rattle.wishes.proofs.wish_fault.Tie as tie
 
-enum-told : tie.Need-enum-told
-enum-told c = search needs
-
-enum-told-2 : tie.Need-enum-told-2
-enum-told-2 c = search needs
-
-enum-told-3 : tie.Need-enum-told-3
-enum-told-3 c = search needs
-
-enum-told-4 : tie.Need-enum-told-4
-enum-told-4 c = search needs
-
-returns : tie.Need-returns
-returns c = search needs
-
 returns-2 : tie.Need-returns-2
 returns-2 c = sym (ap (wishFault (c .before .before .args .k)) (c .enum-told2 .given .1))
 
@@ -32,4 +17,4 @@ returns-4 c = sym (ap (wishFault (c .before .before .args .k)) (c .enum-told4 .g
 pub wish-fault-spec : {M : Type 1} → statement M
 wish-fault-spec =
     tie.close
-    (tie.spec enum-told enum-told-2 enum-told-3 enum-told-4 returns returns-2 returns-3 returns-4)
+    (tie.spec (λ c. search needs) (λ c. search needs) (λ c. search needs) (λ c. search needs) (λ c. search needs) returns-2 returns-3 returns-4)

@@ -5,17 +5,8 @@ use borrow.Author.Needs.{needs}
 use Rattle.wishes.proofs.wishes_second.Statement.{statement}
 use Rattle.wishes.proofs.wishes_second.Tie as tie
 
-slice-aggregate-list-to-demand : tie.Need-slice-aggregate-list-to-demand
-slice-aggregate-list-to-demand c = search needs
-
-slice-aggregate-list-to-demand-2 : tie.Need-slice-aggregate-list-to-demand-2
-slice-aggregate-list-to-demand-2 c = search needs
-
 list-to-demand-requires : tie.Need-list-to-demand-requires
 list-to-demand-requires c κs = (omega arith, zeros-empty 128)
-
-same-length : tie.Need-same-length
-same-length c = search needs
 
 returns : tie.Need-returns
 returns c = let j = c .before .before .before .before .list-to-demand .ensures in record { outcome = j .0; bytes = j .1 }
@@ -23,4 +14,4 @@ returns c = let j = c .before .before .before .before .list-to-demand .ensures i
 pub wishes-second-spec : {M : Type 1} → statement M
 wishes-second-spec =
     tie.close
-    (tie.spec slice-aggregate-list-to-demand slice-aggregate-list-to-demand-2 list-to-demand-requires same-length returns)
+    (tie.spec (λ c. search needs) (λ c. search needs) list-to-demand-requires (λ c. search needs) returns)

@@ -1,23 +1,11 @@
 -- What both sets have is one set, and its lowest is theirs.
 use mathlib.Core.Path.{subst}
-use Rattle.labels.specs.declared.Found.{Found}
-use Rattle.labels.specs.Label.{Lowest}
+use Rattle.sets.specs.declared.Found.{Found}
+use Rattle.sets.specs.Label.{Lowest}
 use Rattle.shop.proofs.Scans.{common-at, common-none}
 use borrow.Author.Needs.{needs}
 use Rattle.shop.proofs.InputSet.lowest_common.Statement.{statement}
 use Rattle.shop.proofs.InputSet.lowest_common.Tie as tie
-
-common-requires : tie.Need-common-requires
-common-requires c κs = search needs
-
-lowest-requires : tie.Need-lowest-requires
-lowest-requires c κs = search needs
-
-enum-known-f : tie.Need-enum-known-f
-enum-known-f c = search needs
-
-enum-told : tie.Need-enum-told
-enum-told c = search needs
 
 returns : tie.Need-returns
 returns c = common-at (c .before .before .before .before .common .ensures) (subst (λ (f : Found). Lowest 64 (c .before .before .before .before .common .result .0) f) (c .before .f .given .1) (c .before .before .before .lowest .ensures))
@@ -27,4 +15,4 @@ returns-2 c = common-none (c .before .before .before .common .ensures) (subst (�
 
 pub lowest-common-spec : {M : Type 1} → statement M
 lowest-common-spec =
-    tie.close (tie.spec common-requires lowest-requires enum-known-f enum-told returns returns-2)
+    tie.close (tie.spec (λ c κs. search needs) (λ c κs. search needs) (λ c. search needs) (λ c. search needs) returns returns-2)
