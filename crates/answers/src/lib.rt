@@ -8,7 +8,10 @@ use switch::Outcome;
 use wish::Wish;
 ghost use mathlib.Core.Path.{_≡_};
 ghost use Rattle.plans.specs.Read.{stepPlace};
-ghost use Rattle.answers.specs.Flat.{flat, flatAbout, kindOf, flatWish, flatCarried, flatRescue};
+ghost use Rattle.answers.specs.Flat.{version, flat, flatAbout, kindOf, flatWish, flatCarried, flatRescue};
+
+// The version of the structs and functions below. A struct that is returned by value cannot grow: whoever adds a field makes it one more.
+const VERSION: u64 = 1;
 
 // What every call answers; what does not apply is 0.
 #[repr(C)]
@@ -53,6 +56,13 @@ pub struct CvPart {
     pub plan: u64,
     pub start: u64,
     pub size: u64,
+}
+
+// The version of the structs, and of the calls that give them.
+pub fn version() -> u64
+    ensures { λ r. ⌜ r ≡ version ⌝ }
+{
+    VERSION
 }
 
 // A wish: its code, and its slots as total.

@@ -1,4 +1,4 @@
--- A label of two words for each input, kept in step with the cells. Definitions only.
+-- Inner: a label of two words for each input, kept in step with the cells. Definitions only.
 use mathlib.Core.Path.{_≡_}
 use mathlib.Core.List.{List}
 use Prim.Native.Nat.{ℕ, _+_, _*_, _-_, _≤_, _<_}

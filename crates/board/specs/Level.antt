@@ -1,4 +1,4 @@
--- What the working copy is known to be, and the steps that fill it. Definitions only.
+-- Inner: what the working copy is known to be, and the steps that fill it. Definitions only.
 use mathlib.Core.Path.{_≡_}
 use mathlib.Core.List.{List}
 use Prim.Native.Nat.{ℕ, _+_, _*_, _-_, _≤_, _<_, min}

@@ -34,7 +34,7 @@ pub record Short (N : ℕ) (M G : ℕ → ℕ → ℕ) (k : ℕ) : Type 0 where
   pub here : G (k / N) (k % N) < M (k / N) (k % N)
   pub before : (j : ℕ) → j < k → M (j / N) (j % N) ≤ G (j / N) (j % N)
 
--- how grants G meet what M asks: the first cell that falls short, or what is granted beyond all that is asked
+-- inner: how grants G meet what M asks: the first cell that falls short, or what is granted beyond all that is asked
 unfoldable pub meeting : ℕ → (ℕ → ℕ → ℕ) → (ℕ → ℕ → ℕ) → Meeting
 meeting N M G = cond (ltb (uncovered N M G) (N * N)) (Misses (uncovered N M G)) (Meets (beyond N M G))
 

@@ -22,16 +22,16 @@ lineSide N k = cond (ltb k N) (Input (record { 0 = k })) (Output (record { 0 = k
 unfoldable pub lineOver : ℕ → List ℕ → Side
 lineOver N d = lineSide N (over 65535 (line N d) (N + N) 0)
 
--- n cells from `from` on, `step` apart, summed
+-- inner: n cells from `from` on, `step` apart, summed
 unfoldable pub strided : List ℕ → ℕ → ℕ → ℕ → ℕ
 strided d from step n = sum n (λ b. getD d (from + b * step) 0)
 
--- enough cells for N ports, of which there are no more than the largest switch has
+-- inner: enough cells for N ports, of which there are no more than the largest switch has
 pub record Sized (N : ℕ) (d : List ℕ) : Type 0 where
   pub few : N ≤ 128
   pub room : N * N ≤ length d
 
--- the same, and no line sums over 65,535
+-- inner: the same, and no line sums over 65,535
 pub record Short (N : ℕ) (d : List ℕ) : Type 0 where
   pub sized : Sized N d
   pub lines : longest N (cell N d) ≤ 65535

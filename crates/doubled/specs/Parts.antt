@@ -1,4 +1,4 @@
--- Whether there is room for a plan of two parts. Definitions only.
+-- Inner: whether there is room for a plan of two parts. Definitions only.
 use mathlib.Core.Path.{_≡_}
 use Prim.Native.Nat.{ℕ, _≤_, _<_}
 

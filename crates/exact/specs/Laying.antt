@@ -1,4 +1,4 @@
--- A place for records in a plan, and how many do not fit. Definitions only.
+-- Inner: a place for records in a plan, and how many do not fit. Definitions only.
 use mathlib.Core.List.{List}
 use Prim.Native.Nat.{ℕ, _+_, _*_, _≤_}
 use lib.ListN.{length}

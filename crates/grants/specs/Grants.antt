@@ -1,4 +1,4 @@
--- What a plan's first records grant each pair, as the code keeps it: a number for each cell. Definitions only.
+-- Inner: what a plan's first records grant each pair, as the code keeps it: a number for each cell. Definitions only.
 use mathlib.Core.Path.{_≡_}
 use mathlib.Core.List.{List}
 use Prim.Native.Nat.{ℕ, _+_, _*_, _<_, _≤_}

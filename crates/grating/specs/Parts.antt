@@ -1,4 +1,4 @@
--- What the code is told of the first part, which stands as a plan of its own in a buffer. Definitions only.
+-- Inner: what the code is told of the first part, which stands as a plan of its own in a buffer. Definitions only.
 use mathlib.Core.Path.{_≡_}
 use mathlib.Core.List.{List, _++_, map}
 use Prim.Native.Nat.{ℕ, _*_, _≤_}

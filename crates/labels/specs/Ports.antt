@@ -1,4 +1,4 @@
--- A set of ports is a set of their numbers. Definitions only.
+-- Inner: a set of ports is a set of their numbers. Definitions only.
 use Prim.Native.Nat.{ℕ, _<_}
 use Rattle.sets.specs.declared.Found.{Found}
 use Rattle.sets.specs.declared.Found.the-variants as number

@@ -1,4 +1,4 @@
--- A label of outputs for each input, in two lists: the low words and the high words. Definitions only.
+-- Inner: a label of outputs for each input, in two lists: the low words and the high words. Definitions only.
 use mathlib.Core.Path.{_≡_}
 use mathlib.Core.Logic.{_≢_}
 use mathlib.Core.List.{List}

@@ -34,7 +34,7 @@ lengthCounts d p = record { records = length p; longest = 0; total = total p; le
 unfoldable pub planLength : Edition → ℕ → ℕ → List ℕ → Outcome
 planLength E d N plan = reading E N plan (λ p. Done (lengthCounts d p))
 
--- what a pass over plan p counted: the length of the records that it passed, no T and no empty slots
+-- inner: what a pass over plan p counted: the length of the records that it passed, no T and no empty slots
 pub record Charged (d : ℕ) (p : List Record) (c : Counts) : Type 0 where
   pub longest : c .longest ≡ 0
   pub empty : c .empty ≡ 0

@@ -78,7 +78,7 @@ pub record Judged (W : ℕ) (plan : List ℕ) (c : Counts) : Type 0 where
   pub slots : c .total ≡ total (planOf W plan)
   pub held : 0 < whole W plan → 0 < total (planOf W plan)
 
--- a record of tonight's plan is below x, one of the standby plan below y
+-- inner: a record of tonight's plan is below x, one of the standby plan below y
 abbrev pub Inside : (x y : ℕ) → Spot → Type 0
 Inside x y (spot.Tonight k) = k < x
 Inside x y (spot.Standby k) = k < y

@@ -1,4 +1,4 @@
--- From a matching to the full setting that is first in dictionary order: what each step promises. Definitions only.
+-- Inner: from a matching to the full setting that is first in dictionary order: what each step promises. Definitions only.
 use mathlib.Core.Path.{_≡_}
 use mathlib.Core.Bool.{Bool, true, false}
 use mathlib.Core.Logic.{_⊎_}

@@ -1,4 +1,4 @@
--- Where the peeling of a working copy stands, what is left to plan of it, and what taking one setting off does. Definitions only.
+-- Inner: where the peeling of a working copy stands, what is left to plan of it, and what taking one setting off does. Definitions only.
 use mathlib.Core.Path.{_≡_}
 use mathlib.Core.List.{List, _∷_}
 use Prim.Native.Nat.{ℕ, _+_, _*_, _≤_, _<_}

@@ -39,6 +39,6 @@ unfoldable pub plannedUpTo : (limit : ℕ) (E : Edition) (N : ℕ) (d : List ℕ
 plannedUpTo limit E N d p buf =
     afterCheck (checkDemand (E .ports) N d) (λ T. unless (leb T limit) (refuses Longest buf) (roomFor E N T (emptySlots N (cell N d) p) p buf)) buf
 
--- by how many records a plan does not fit the room: all that it has; and 0 where it fits
+-- inner: by how many records a plan does not fit the room: all that it has; and 0 where it fits
 unfoldable pub shortage : (room need : ℕ) → ℕ
 shortage room need = cond (ltb room need) need 0

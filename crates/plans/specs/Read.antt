@@ -64,7 +64,7 @@ stepAt E N plan at = byOutcome (opening E N plan) (λ r. nothing E step.End at) 
 abbrev pub ofSecond : SteppedSecond → Stepped
 ofSecond s = record { step = s .step; hold = s .hold; outputs = s .outputs; next = s .next }
 
--- a step, its outputs in lent memory, is what is given
+-- inner: a step, its outputs in lent memory, is what is given
 pub record Takes (given : Stepped) (taken : StepTaken) (after : List ℕ) : Type 0 where
   pub step : taken .step ≡ given .step
   pub hold : taken .hold ≡ given .hold

@@ -15,14 +15,14 @@ use Rattle.plans.specs.Read.{malformed, checking}
 unfoldable pub reading : Edition → ℕ → List ℕ → (List Record → Outcome) → Outcome
 reading E N plan go = byOutcome (checking E N plan) Refused (λ c. go (planOf (E .width) plan))
 
--- m records of a plan that opening does not refuse
+-- inner: m records of a plan that opening does not refuse
 pub record Readable (E : Edition) (N : ℕ) (plan : List ℕ) (m : ℕ) : Type 0 where
   pub bounded : Bounded E
   pub few : N ≤ E .ports
   pub inside : m ≤ whole (E .width) plan
   pub most : m ≤ 65536
 
--- how far a pass over the first m records of a plan came, and the holds of the records that it passed, summed
+-- inner: how far a pass over the first m records of a plan came, and the holds of the records that it passed, summed
 pub record Passed (E : Edition) (N : ℕ) (plan : List ℕ) (m k t : ℕ) : Type 0 where
   pub inside : k ≤ m
   pub records : k ≡ malformed (E .width) (E .byte) N plan m 0

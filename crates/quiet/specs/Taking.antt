@@ -1,4 +1,4 @@
--- A record taken off a working copy with a label of outputs for each input: what is assumed and what is promised. Definitions only.
+-- Inner: a record taken off a working copy with a label of outputs for each input: what is assumed and what is promised. Definitions only.
 use mathlib.Core.Path.{_≡_}
 use mathlib.Core.List.{List, [], _∷_}
 use Prim.Native.Nat.{ℕ, _+_, _*_, _-_, _≤_, _<_}

@@ -1,4 +1,4 @@
--- A quiet setting in the making, on labels: what each turn may assume and what it promises. Definitions only.
+-- Inner: a quiet setting in the making, on labels: what each turn may assume and what it promises. Definitions only.
 use mathlib.Core.Path.{_≡_}
 use mathlib.Core.Bool.{Bool, true, false}
 use mathlib.Core.List.{List}

@@ -1,4 +1,4 @@
--- What a pass over a damaged plan has kept, what is left of a demand, and what is known before anything is written. Definitions only.
+-- Inner: what a pass over a damaged plan has kept, what is left of a demand, and what is known before anything is written. Definitions only.
 use mathlib.Core.Path.{_≡_}
 use mathlib.Core.Logic.{_⊎_}
 use mathlib.Core.List.{List}

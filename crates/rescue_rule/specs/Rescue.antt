@@ -28,7 +28,7 @@ keptTo W e N plan m = those (fine W e N plan) (λ k. decoded (recordAt W plan k)
 abbrev pub kept : ℕ → ℕ → ℕ → List ℕ → List Record
 kept W e N plan = keptTo W e N plan (whole W plan)
 
--- record k alone, where it is well formed
+-- inner: record k alone, where it is well formed
 unfoldable pub keptAt : ℕ → ℕ → ℕ → List ℕ → ℕ → List Record
 keptAt W e N plan k = cond (fine W e N plan k) (decoded (recordAt W plan k) ∷ []) []
 
@@ -56,7 +56,7 @@ entryOf W e N plan k = record { number = k; reason = reasonOf W e N (recordAt W 
 abbrev pub droppedTo : ℕ → ℕ → ℕ → List ℕ → ℕ → List Entry
 droppedTo W e N plan m = those (λ k. not (fine W e N plan k)) (entryOf W e N plan) m
 
--- the entry of record k alone, where it is dropped
+-- inner: the entry of record k alone, where it is dropped
 unfoldable pub droppedAt : ℕ → ℕ → ℕ → List ℕ → ℕ → List Entry
 droppedAt W e N plan k = cond (not (fine W e N plan k)) (entryOf W e N plan k ∷ []) []
 

@@ -14,7 +14,7 @@ use Rattle.rules.specs.First.{NonZero, First}
 unfoldable pub peel : ℕ → (ℕ → ℕ) → (ℕ → ℕ → ℕ) → ℕ → ℕ → ℕ
 peel h o M i j = M i j - h * δ (o i) j
 
--- the same on a list of cells, input by input: those below k that are joined have given up h each
+-- inner: the same on a list of cells, input by input: those below k that are joined have given up h each
 unfoldable pub peelTo : ℕ → ℕ → (ℕ → ℕ) → List ℕ → ℕ → List ℕ
 peelTo N h o d zero = d
 peelTo N h o d (suc k) = let e = peelTo N h o d k in cond (ltb (o k) N) (set e (k * N + o k) (cell N e k (o k) - h)) e

@@ -1,4 +1,4 @@
--- What the two functions of the search promise, over any relation E of inputs and outputs: `by` and `out` are the tables
+-- Inner: what the two functions of the search promise, over any relation E of inputs and outputs: `by` and `out` are the tables
 -- before, `by'` and `out'` after, t the outputs tried before. Definitions only.
 use mathlib.Core.Path.{_≡_}
 use mathlib.Core.Logic.{_⊎_}

@@ -1,4 +1,4 @@
--- Who holds which output: holders by output and outputs by input, two tables kept in step. Definitions only.
+-- Inner: who holds which output: holders by output and outputs by input, two tables kept in step. Definitions only.
 use mathlib.Core.Path.{_≡_}
 use mathlib.Core.List.{List}
 use Prim.Native.Nat.{ℕ, _+_, _<_, _≤_}

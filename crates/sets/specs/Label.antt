@@ -1,4 +1,4 @@
--- A set of numbers is itself a number: j is in the set where binary digit j is 1. Definitions only.
+-- Inner: a set of numbers is itself a number: j is in the set where binary digit j is 1. Definitions only.
 use mathlib.Core.Path.{_≡_}
 use mathlib.Core.Bool.{Bool, true, false}
 use mathlib.Core.Logic.{_⊎_}

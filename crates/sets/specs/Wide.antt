@@ -1,4 +1,4 @@
--- A set of two words is the number high × 2^64 + low, so that every law of a set serves it. Definitions only.
+-- Inner: a set of two words is the number high × 2^64 + low, so that every law of a set serves it. Definitions only.
 use Prim.Native.Nat.{ℕ, _+_, _*_, _^_}
 use Rattle.sets.specs.declared.Wide.{Wide}
 

@@ -1,4 +1,4 @@
--- What is kept of the shop while it is planned, and what a turn leaves of it. Definitions only.
+-- Inner: what is kept of the shop while it is planned, and what a turn leaves of it. Definitions only.
 use mathlib.Core.Path.{_≡_}
 use mathlib.Core.List.{List}
 use Prim.Native.Nat.{ℕ, _+_, _*_, _<_, _≤_}

@@ -1,4 +1,4 @@
--- A set of inputs by its number, and the lowest input of two sets. Definitions only.
+-- Inner: a set of inputs by its number, and the lowest input of two sets. Definitions only.
 use Prim.Native.Nat.{ℕ, _<_}
 use Rattle.labels.specs.declared.FoundInput.{FoundInput}
 use Rattle.labels.specs.declared.FoundInput.the-variants.{At, Nothing}

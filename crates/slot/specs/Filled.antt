@@ -1,4 +1,4 @@
--- One slot on a working copy with a label for each input: what each turn may assume and what it promises. Definitions only.
+-- Inner: one slot on a working copy with a label for each input: what each turn may assume and what it promises. Definitions only.
 use mathlib.Core.Path.{_≡_}
 use mathlib.Core.Bool.{Bool, true, not}
 use mathlib.Core.List.{List, _∷_}

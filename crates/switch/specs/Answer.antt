@@ -107,7 +107,7 @@ abbrev pub countsOf : Outcome → Counts
 countsOf (Done c) = c
 countsOf (Refused r) = noCounts
 
--- what a call answers on paper; what does not apply is 0
+-- inner: what a call answers on paper; what does not apply is 0
 abbrev pub numbersOf : Outcome → Numbers
 numbersOf o = record { code = codeOf o; place = placeOf o; side = sideOf o; counts = countsOf o }
 

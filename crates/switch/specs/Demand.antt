@@ -20,7 +20,7 @@ line N d k = cond (ltb k N) (row N (cell N d) k) (col N (cell N d) (k - N))
 unfoldable pub longest : ℕ → (ℕ → ℕ → ℕ) → ℕ
 longest N M = max (most N (row N M)) (most N (col N M))
 
--- lent room for m cells, all 0
+-- inner: lent room for m cells, all 0
 pub record Blank (m : ℕ) (g : List ℕ) : Type 0 where
   pub room : m ≤ length g
   pub clear : (k : ℕ) → getD g k 0 ≡ 0

@@ -1,4 +1,4 @@
--- A table of sums: entries in order of first appearance, found by chains of entries that share a bucket. Definitions only.
+-- Inner: a table of sums: entries in order of first appearance, found by chains of entries that share a bucket. Definitions only.
 use mathlib.Core.Path.{_≡_}
 use mathlib.Core.Bool.{cond}
 use mathlib.Core.List.{List, [], _∷_}

@@ -79,16 +79,16 @@ pub record Accepts (N : ℕ) (tasks : List ℕ) (c : Counts) : Type 0 where
 
 -- ---- the same in one pass
 
--- the start is after s, or s with an output of o or higher
+-- inner: the start is after s, or s with an output of o or higher
 unfoldable pub follows : ℕ → ℕ → ℕ → ℕ → Bool
 follows s o start output = ltb s start || (eqb s start && leb o output)
 
--- a record that rises from s and o, and starts no sooner than the times kept for its ports
+-- inner: a record that rises from s and o, and starts no sooner than the times kept for its ports
 unfoldable pub fits : ℕ → List ℕ → ℕ → ℕ → List ℕ → List ℕ → Bool
 fits N b s o ins outs =
     alone N b && (follows s o (word b 4) (getD b 1 0) && not (ltb (word b 4) (getD ins (getD b 0 0) 0) || ltb (word b 4) (getD outs (getD b 1 0) 0)))
 
--- the first record that breaks a rule, and the latest end where none does
+-- inner: the first record that breaks a rule, and the latest end where none does
 pub record Judges (N : ℕ) (tasks : List ℕ) (records : ℕ) (r : Judged) : Type 0 where
   pub first : r .first ≡ faulty N tasks records 0
   pub latest-is : r .first ≡ records → r .latest ≡ latest (tasksFrom tasks 0 records)

@@ -1,4 +1,4 @@
--- Putting bytes into a lent text, one after the other. Definitions only.
+-- Inner: putting bytes into a lent text, one after the other. Definitions only.
 use mathlib.Core.Path.{_≡_}
 use mathlib.Core.List.{List}
 use Prim.Native.Nat.{ℕ, _+_}

@@ -1,4 +1,4 @@
--- The settings of a doubled plan's second part, how long each rule holds them, what they can be asked for, and what they come to; and a
+-- Inner: the settings of a doubled plan's second part, how long each rule holds them, what they can be asked for, and what they come to; and a
 -- demand divided by u. Definitions only.
 use mathlib.Core.Path.{_≡_}
 use mathlib.Core.List.{List, _++_, map}

@@ -34,7 +34,7 @@ pub record MostShared (N : ℕ) (r : Record) (m : ℕ) : Type 0 where
   pub some : 0 < m → (w : ℕ) × (w < N) × (sharing N r w ≡ m)
   pub no-more : (w : ℕ) → sharing N r w ≤ m
 
--- what the code is told of its counts: each is how many inputs of record r share that wavelength
+-- inner: what the code is told of its counts: each is how many inputs of record r share that wavelength
 pub record Shares (N : ℕ) (r : Record) (s : List ℕ) : Type 0 where
   pub room : N ≤ length s
   pub is : (w : ℕ) → w < N → getD s w 0 ≡ sharing N r w

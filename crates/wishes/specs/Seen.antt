@@ -1,4 +1,4 @@
--- The pairs that the records passed name, as a set of outputs for each input. Definitions only.
+-- Inner: the pairs that the records passed name, as a set of outputs for each input. Definitions only.
 use Prim.Native.Nat.{ℕ, _<_, _≤_}
 use mathlib.Core.Bool.{Bool, _||_}
 use mathlib.Core.List.{List}
