@@ -9,7 +9,7 @@ use peel::start;
 use peel::take_off;
 use records::HEAD;
 use records::IDLE;
-use records::put_record;
+use records::put_if;
 use room::exact_records;
 use switch::Counts;
 use switch::Edition;
@@ -27,14 +27,27 @@ ghost use Rattle.demand.specs.Check.{checkDemand};
 ghost use Rattle.rules.specs.Exact.{exactPlan};
 ghost use Rattle.rules.specs.Doubled.{stretch};
 ghost use Rattle.records.specs.Bytes.{bytes, laid};
+ghost use Rattle.records.specs.Laying.{laidIf};
 ghost use Rattle.planner.specs.Planned.{planned, shortage};
 ghost use Rattle.peel.specs.Standing.{Cells, Tables};
-ghost use Rattle.exact.specs.Laying.{Place};
+ghost use Rattle.exact.specs.Laying.{Place, Goes};
 
 // The cells of a switch of 64 ports, and of 128.
 const CELLS: usize = 4096;
 
 const WIDE_CELLS: usize = 16384;
+
+// What becomes of the records of N ports and a longest line T: they are counted, or written over a plan from `at` on, so many outputs
+// each, and each held `unit` times as long.
+struct Job {
+    n: usize,
+    longest: u64,
+    writes: bool,
+    edition: u8,
+    width: usize,
+    unit: u32,
+    at: usize,
+}
 
 // The exact plan of a demand, written at the start of the plan buffer.
 pub fn exact_plan(n: usize, cells: &[u32], plan: &mut [u8]) -> Outcome
@@ -112,19 +125,17 @@ pub fn count(work: &mut [u32], n: usize, longest: u64) -> usize
     requires { ⌜ Cells n longest (now work) ⌝ }
     ensures { λ r. ⌜ ((W : ℕ) → n ≤ W → W ≤ 128 → r ≡ length (exactPlan W n (now (work .entry)))) ⌝ }
 {
-    let mut lows = [0u64; WIDE_PORTS];
-    let mut highs = [0u64; WIDE_PORTS];
-    let mut by = [0u8; WIDE_PORTS];
-    let mut out = [IDLE; WIDE_PORTS];
-    count_off(
-        work,
-        n,
-        longest,
-        &mut lows[..n],
-        &mut highs[..n],
-        &mut by,
-        &mut out,
-    )
+    let job = Job {
+        n: n,
+        longest: longest,
+        writes: false,
+        edition: 0,
+        width: 0,
+        unit: 0,
+        at: 0,
+    };
+    let mut nothing = [0u8; 1];
+    peel_all(job, work, &mut nothing)
 }
 
 // The exact plan's records laid over a plan from `at` on, each held `unit` times as long; and how many they are. The cells are spent.
@@ -140,81 +151,65 @@ pub fn lay(
     requires { ⌜ Cells n longest (now work) × Place n longest unit (e .width) at (exactPlan (e .width) n (now work)) (now plan) ⌝ }
     ensures { λ r. ⌜ (r ≡ length (exactPlan (e .width) n (now (work .entry)))) × (now (plan .exit) ≡ laid (now (plan .entry)) at (bytes (e .byte) n (map (stretch unit) (exactPlan (e .width) n (now (work .entry)))))) ⌝ }
 {
+    let job = Job {
+        n: n,
+        longest: longest,
+        writes: true,
+        edition: e.byte,
+        width: e.width,
+        unit: unit,
+        at: at,
+    };
+    peel_all(job, work, plan)
+}
+
+// The settings taken off the working copy, with fresh labels and tables.
+fn peel_all(job: Job, work: &mut [u32], plan: &mut [u8]) -> usize
+    requires { ⌜ Cells (job .n) (job .longest) (now work) × Goes (job .n) (job .longest) (job .writes) (job .width) (job .unit) (job .at) (now work) (now plan) ⌝ }
+    ensures { λ r. ⌜ ((W : ℕ) → job .n ≤ W → W ≤ 128 → r ≡ length (exactPlan W (job .n) (now (work .entry)))) × (now (plan .exit) ≡ laidIf (job .writes) (now (plan .entry)) (job .at) (bytes (job .edition) (job .n) (map (stretch (job .unit)) (exactPlan (job .width) (job .n) (now (work .entry)))))) ⌝ }
+{
+    let n = job.n;
     let mut lows = [0u64; WIDE_PORTS];
     let mut highs = [0u64; WIDE_PORTS];
     let mut by = [0u8; WIDE_PORTS];
     let mut out = [IDLE; WIDE_PORTS];
-    lay_off(
-        e,
+    peel_off(
+        job,
         work,
-        n,
-        longest,
         &mut lows[..n],
         &mut highs[..n],
         &mut by,
         &mut out,
-        unit,
         plan,
-        at,
     )
 }
 
-// The settings that are taken off the working copy, counted.
-fn count_off(
+// One setting after the other, until nothing is left: how many they are, and their records where they are to be written.
+fn peel_off(
+    job: Job,
     work: &mut [u32],
-    n: usize,
-    longest: u64,
     lows: &mut [u64],
     highs: &mut [u64],
     by: &mut [u8],
     out: &mut [u8],
-) -> usize
-    requires { ⌜ Cells n longest (now work) × Tables n (now lows) (now highs) (now by) (now out) ⌝ }
-    ensures { λ r. ⌜ ((W : ℕ) → n ≤ W → W ≤ 128 → r ≡ length (exactPlan W n (now (work .entry)))) ⌝ }
-{
-    start(work, n, longest, lows, highs);
-    let mut records: usize = 0;
-    let mut kept: usize = 0;
-    let mut remains = longest;
-    while 0 < remains {
-        let s = take_off(work, n, lows, highs, by, out, kept);
-        kept = s.kept;
-        remains -= s.hold as u64;
-        records += 1;
-    }
-    records
-}
-
-// The settings that are taken off the working copy, laid as records one after the other.
-fn lay_off(
-    e: Edition,
-    work: &mut [u32],
-    n: usize,
-    longest: u64,
-    lows: &mut [u64],
-    highs: &mut [u64],
-    by: &mut [u8],
-    out: &mut [u8],
-    unit: u32,
     plan: &mut [u8],
-    at: usize,
 ) -> usize
-    requires { ⌜ Cells n longest (now work) × Tables n (now lows) (now highs) (now by) (now out) × Place n longest unit (e .width) at (exactPlan (e .width) n (now work)) (now plan) ⌝ }
-    ensures { λ r. ⌜ (r ≡ length (exactPlan (e .width) n (now (work .entry)))) × (now (plan .exit) ≡ laid (now (plan .entry)) at (bytes (e .byte) n (map (stretch unit) (exactPlan (e .width) n (now (work .entry)))))) ⌝ }
+    requires { ⌜ Cells (job .n) (job .longest) (now work) × Tables (job .n) (now lows) (now highs) (now by) (now out) × Goes (job .n) (job .longest) (job .writes) (job .width) (job .unit) (job .at) (now work) (now plan) ⌝ }
+    ensures { λ r. ⌜ ((W : ℕ) → job .n ≤ W → W ≤ 128 → r ≡ length (exactPlan W (job .n) (now (work .entry)))) × (now (plan .exit) ≡ laidIf (job .writes) (now (plan .entry)) (job .at) (bytes (job .edition) (job .n) (map (stretch (job .unit)) (exactPlan (job .width) (job .n) (now (work .entry)))))) ⌝ }
 {
-    start(work, n, longest, lows, highs);
-    let width = e.width;
+    let n = job.n;
+    start(work, n, job.longest, lows, highs);
+    let width = job.width;
     let mut records: usize = 0;
     let mut kept: usize = 0;
-    let mut remains = longest;
-    let mut next = at;
+    let mut remains = job.longest;
+    let mut next = job.at;
     while 0 < remains {
         let s = take_off(work, n, lows, highs, by, out, kept);
         kept = s.kept;
         remains -= s.hold as u64;
-        let hold = (s.hold * unit) as u16;
-        put_record(plan, next, e.byte, hold, n, &out[..width]);
-        next += width + HEAD;
+        let hold = (s.hold * job.unit) as u16;
+        next = put_if(job.writes, plan, next, job.edition, hold, n, &out[..width]);
         records += 1;
     }
     records

@@ -8,5 +8,7 @@ pub mod Fine
 pub mod Write
 pub mod Meaning
 pub mod Sound
+pub mod Laying
 pub mod Written
+pub mod Filling
 pub mod Idle

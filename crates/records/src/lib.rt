@@ -8,7 +8,7 @@ use switch::Refusal;
 use switch::first_edition;
 use switch::second_edition;
 ghost use mathlib.Core.Path.{_≡_};
-ghost use mathlib.Core.Bool.{_&&_};
+ghost use mathlib.Core.Bool.{true, _&&_};
 ghost use Prim.Native.Nat.{_+_, _-_, _<_, _≤_};
 ghost use lib.ListN.{length};
 ghost use Rattle.switch.specs.Result.{Gives};
@@ -16,6 +16,7 @@ ghost use Rattle.switch.specs.Editions.{firstEdition, secondEdition, Bounded};
 ghost use Rattle.records.specs.Record.{all, hold, inside, new, later, outputsFine, wellFormed};
 ghost use Rattle.records.specs.Bytes.{encode, laid};
 ghost use Rattle.records.specs.Write.{written};
+ghost use Rattle.records.specs.Laying.{LaidOne};
 
 // Outputs follow the hold in two bytes, N and the edition's byte.
 pub const HEAD: usize = 4;
@@ -178,4 +179,24 @@ pub fn put_record(plan: &mut [u8], at: usize, edition: u8, hold: u16, n: usize, 
     for i in 0..outputs.len() {
         plan[at + HEAD + i] = outputs[i];
     }
+}
+
+// The same where the record is to be written, and nothing where it is only counted; and where the next one goes.
+pub fn put_if(
+    writes: bool,
+    plan: &mut [u8],
+    at: usize,
+    edition: u8,
+    hold: u16,
+    n: usize,
+    outputs: &[u8],
+) -> usize
+    requires { ⌜ (n < 256) × (writes ≡ true → at + (length (now outputs) + 4) ≤ length (now plan)) ⌝ }
+    ensures { λ r. ⌜ LaidOne writes edition hold n (now (outputs .entry)) (now (plan .entry)) at (now (plan .exit)) r ⌝ }
+{
+    if writes {
+        put_record(plan, at, edition, hold, n, outputs);
+        return at + (outputs.len() + HEAD);
+    }
+    at
 }

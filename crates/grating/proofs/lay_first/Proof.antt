@@ -88,7 +88,7 @@ loop-again c =
     (omega arith, laying-next f (s .args .e .byte) (s .args .n) (s .args .plan .now) (l .inv .1) t put)
 
 same-length : tie.Need-same-length Inv-loop μ-loop
-same-length c = c .before .loop .inv .1 .size
+same-length c = c .before .loop .inv .1 .laying .size
 
 returns : tie.Need-returns Inv-loop μ-loop
 returns c = let s = c .before .before .before .before in laying-all (s .pre .2) (s .args .e .byte) (s .args .n) (s .args .plan .now) (c .before .loop .inv .1) (omega arith)

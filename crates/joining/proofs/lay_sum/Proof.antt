@@ -3,7 +3,7 @@ use mathlib.Core.Path.{_≡_, ap, _∙_, subst}
 use native.Mathlib.Omega.{arith}
 use Rattle.joining.specs.Join.{pieces}
 use Rattle.joining.proofs.Pieces.{pieces-none, next-piece}
-use Rattle.joining.proofs.Laying.{Laying, laying-none, laying-end, laying-room, laying-more}
+use Rattle.records.proofs.Laying.{Laying, laying-none, laying-end, laying-room, laying-more}
 use borrow.Author.Needs.{needs}
 use Rattle.joining.proofs.lay_sum.Statement.{statement}
 use Rattle.joining.proofs.lay_sum.Tie as tie

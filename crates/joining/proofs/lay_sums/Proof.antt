@@ -6,7 +6,7 @@ use Rattle.records.specs.Bytes.{whole}
 use Rattle.tally.specs.Table.{entriesFrom}
 use Rattle.joining.specs.Join.{cut}
 use Rattle.joining.proofs.Sums.{cut-next, cut-none}
-use Rattle.joining.proofs.Laying.{Laying, laying-none, laying-end, laying-room-all, laying-all}
+use Rattle.records.proofs.Laying.{Laying, laying-none, laying-end, laying-room-all, laying-all}
 use borrow.Author.Needs.{needs}
 use Rattle.joining.proofs.lay_sums.Statement.{statement}
 use Rattle.joining.proofs.lay_sums.Tie as tie

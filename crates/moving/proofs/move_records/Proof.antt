@@ -48,7 +48,7 @@ loop-again c =
     (omega arith, laying-next _ _ _ _ _ _ p (l .k) _ (omega arith) _ (l .inv .1) _ (rw (c .before .before .before .before .before .record-at .ensures) at (c .before .before .before .move-record .ensures)))
 
 same-length : tie.Need-same-length Inv-loop μ-loop
-same-length c = c .before .loop .inv .1 .size
+same-length c = c .before .loop .inv .1 .laying .size
 
 returns : tie.Need-returns Inv-loop μ-loop
 returns c =
