@@ -9,7 +9,7 @@ ghost use mathlib.Core.Path.{_≡_};
 ghost use Rattle.wish.specs.Wish.{wishBits};
 ghost use Rattle.wishes.specs.Wishes.{wishing};
 ghost use Rattle.rules.specs.Exact.{exactPlan};
-ghost use Rattle.rules.specs.Doubled.{doubledPlan, tightPlan};
+ghost use Rattle.rules.specs.Doubled.{everyRotationPlan, doubledPlan};
 ghost use Rattle.rules.specs.Quick.{quickPlan};
 ghost use Rattle.planner.specs.Planned.{planned, plannedUpTo};
 ghost use Rattle.records.specs.Write.{written};
@@ -75,7 +75,7 @@ pub extern "C" fn cv_exact(n: usize, cells: &[u32], plan: &mut [u8]) -> CvAnswer
 // The doubled plan.
 #[no_mangle]
 pub extern "C" fn cv_doubled(n: usize, cells: &[u32], plan: &mut [u8]) -> CvAnswer
-    ensures { λ r. ⌜ Crosses (planned firstEdition n (now (cells .entry)) (tightPlan 64 n (now (cells .entry))) (now (plan .entry))) r (now (plan .exit)) ⌝ }
+    ensures { λ r. ⌜ Crosses (planned firstEdition n (now (cells .entry)) (doubledPlan 64 n (now (cells .entry))) (now (plan .entry))) r (now (plan .exit)) ⌝ }
 {
     answers::flatten(doubled::doubled_plan(n, cells, plan))
 }
@@ -83,7 +83,7 @@ pub extern "C" fn cv_doubled(n: usize, cells: &[u32], plan: &mut [u8]) -> CvAnsw
 // The doubled plan by the rule of every rotation.
 #[no_mangle]
 pub extern "C" fn cv_doubled_every_rotation(n: usize, cells: &[u32], plan: &mut [u8]) -> CvAnswer
-    ensures { λ r. ⌜ Crosses (planned firstEdition n (now (cells .entry)) (doubledPlan 64 n (now (cells .entry))) (now (plan .entry))) r (now (plan .exit)) ⌝ }
+    ensures { λ r. ⌜ Crosses (planned firstEdition n (now (cells .entry)) (everyRotationPlan 64 n (now (cells .entry))) (now (plan .entry))) r (now (plan .exit)) ⌝ }
 {
     answers::flatten(doubled::doubled_plan_every_rotation(n, cells, plan))
 }
@@ -155,7 +155,7 @@ pub extern "C" fn cv2_exact(n: usize, cells: &[u32], plan: &mut [u8]) -> CvAnswe
 // The doubled plan.
 #[no_mangle]
 pub extern "C" fn cv2_doubled(n: usize, cells: &[u32], plan: &mut [u8]) -> CvAnswer
-    ensures { λ r. ⌜ Crosses (planned secondEdition n (now (cells .entry)) (tightPlan 128 n (now (cells .entry))) (now (plan .entry))) r (now (plan .exit)) ⌝ }
+    ensures { λ r. ⌜ Crosses (planned secondEdition n (now (cells .entry)) (doubledPlan 128 n (now (cells .entry))) (now (plan .entry))) r (now (plan .exit)) ⌝ }
 {
     answers::flatten(doubled::doubled_plan_second(n, cells, plan))
 }
@@ -163,7 +163,7 @@ pub extern "C" fn cv2_doubled(n: usize, cells: &[u32], plan: &mut [u8]) -> CvAns
 // The doubled plan by the rule of every rotation.
 #[no_mangle]
 pub extern "C" fn cv2_doubled_every_rotation(n: usize, cells: &[u32], plan: &mut [u8]) -> CvAnswer
-    ensures { λ r. ⌜ Crosses (planned secondEdition n (now (cells .entry)) (doubledPlan 128 n (now (cells .entry))) (now (plan .entry))) r (now (plan .exit)) ⌝ }
+    ensures { λ r. ⌜ Crosses (planned secondEdition n (now (cells .entry)) (everyRotationPlan 128 n (now (cells .entry))) (now (plan .entry))) r (now (plan .exit)) ⌝ }
 {
     answers::flatten(doubled::doubled_plan_every_rotation_second(n, cells, plan))
 }

@@ -7,7 +7,7 @@ use Rattle.switch.specs.declared.Outcome.{Outcome}
 use Rattle.switch.specs.declared.Edition.{Edition}
 use Rattle.switch.specs.Plan.{Record}
 use Rattle.switch.proofs.Answer.{determined}
-use Rattle.rules.specs.Doubled.{doubledPlan, tightPlan, Doubled}
+use Rattle.rules.specs.Doubled.{everyRotationPlan, doubledPlan, Doubled}
 use Rattle.rules.proofs.Rotate.{doubled}
 use Rattle.rules.proofs.Tight.{tight-doubled}
 use Rattle.planner.specs.Planned.{planned}
@@ -26,6 +26,6 @@ module _ (E : Edition) (N : ℕ) (d : List ℕ) (p : List Record) (buf : List �
 
 -- both bounds and the cover, by either rule: each has holds from the largest remainder to u - 1, which is what `doubled-any` asks
 pub either-rule : (r : Rule) (W N : ℕ) → 0 < N → N ≤ W → (d : List ℕ) → N * N ≤ length d → Doubled N d (doubledRule r Forward W N d)
-unfolding tightPlan doubledPlan
+unfolding doubledPlan everyRotationPlan
 either-rule Tight W N pos top d s = tight-doubled W N pos top d s
 either-rule Every W N pos top d s = doubled W N pos top d s

@@ -24,7 +24,7 @@ ghost use Rattle.switch.specs.Result.{Gives};
 ghost use Rattle.demand.specs.Check.{checkDemand};
 ghost use Rattle.demand.specs.declared.Checked.the-variants.{Fine};
 ghost use Rattle.rules.specs.Exact.{exactPlan};
-ghost use Rattle.rules.specs.Doubled.{divide, doubledPlan, tightPlan, Doubled};
+ghost use Rattle.rules.specs.Doubled.{divide, everyRotationPlan, doubledPlan, Doubled};
 ghost use Rattle.planner.specs.Planned.{planned};
 ghost use Rattle.records.specs.Bytes.{bytes, laid};
 ghost use Rattle.peel.specs.Standing.{Cells};
@@ -40,7 +40,7 @@ const WIDE_CELLS: usize = 16384;
 
 // The doubled plan of a demand, written at the start of a lent plan. Each rotation is held for the largest remainder among its pairs.
 pub fn doubled_plan(n: usize, cells: &[u32], plan: &mut [u8]) -> Outcome
-    ensures { λ r. ⌜ Gives (planned firstEdition n (now (cells .entry)) (tightPlan 64 n (now (cells .entry))) (now (plan .entry))) r (now (plan .exit)) ⌝ }
+    ensures { λ r. ⌜ Gives (planned firstEdition n (now (cells .entry)) (doubledPlan 64 n (now (cells .entry))) (now (plan .entry))) r (now (plan .exit)) ⌝ }
 {
     let mut work = [0u32; CELLS];
     let mut holds = [0u16; PORTS];
@@ -57,7 +57,7 @@ pub fn doubled_plan(n: usize, cells: &[u32], plan: &mut [u8]) -> Outcome
 
 // The doubled plan by the old rule: if u is at least 2, every rotation is there, held for u - 1.
 pub fn doubled_plan_every_rotation(n: usize, cells: &[u32], plan: &mut [u8]) -> Outcome
-    ensures { λ r. ⌜ Gives (planned firstEdition n (now (cells .entry)) (doubledPlan 64 n (now (cells .entry))) (now (plan .entry))) r (now (plan .exit)) ⌝ }
+    ensures { λ r. ⌜ Gives (planned firstEdition n (now (cells .entry)) (everyRotationPlan 64 n (now (cells .entry))) (now (plan .entry))) r (now (plan .exit)) ⌝ }
 {
     let mut work = [0u32; CELLS];
     let mut holds = [0u16; PORTS];
@@ -74,7 +74,7 @@ pub fn doubled_plan_every_rotation(n: usize, cells: &[u32], plan: &mut [u8]) -> 
 
 // The doubled plan in the second edition, by the tight rule.
 pub fn doubled_plan_second(n: usize, cells: &[u32], plan: &mut [u8]) -> Outcome
-    ensures { λ r. ⌜ Gives (planned secondEdition n (now (cells .entry)) (tightPlan 128 n (now (cells .entry))) (now (plan .entry))) r (now (plan .exit)) ⌝ }
+    ensures { λ r. ⌜ Gives (planned secondEdition n (now (cells .entry)) (doubledPlan 128 n (now (cells .entry))) (now (plan .entry))) r (now (plan .exit)) ⌝ }
 {
     let mut work = [0u32; WIDE_CELLS];
     let mut holds = [0u16; WIDE_PORTS];
@@ -91,7 +91,7 @@ pub fn doubled_plan_second(n: usize, cells: &[u32], plan: &mut [u8]) -> Outcome
 
 // The doubled plan in the second edition, by the old rule.
 pub fn doubled_plan_every_rotation_second(n: usize, cells: &[u32], plan: &mut [u8]) -> Outcome
-    ensures { λ r. ⌜ Gives (planned secondEdition n (now (cells .entry)) (doubledPlan 128 n (now (cells .entry))) (now (plan .entry))) r (now (plan .exit)) ⌝ }
+    ensures { λ r. ⌜ Gives (planned secondEdition n (now (cells .entry)) (everyRotationPlan 128 n (now (cells .entry))) (now (plan .entry))) r (now (plan .exit)) ⌝ }
 {
     let mut work = [0u32; WIDE_CELLS];
     let mut holds = [0u16; WIDE_PORTS];

@@ -13,7 +13,7 @@ use Rattle.rules.specs.Fill.{fill, fillTo, fillCell, lack}
 use Rattle.rules.specs.Search.{put, pick, free, complete, firstSetting}
 use Rattle.rules.specs.Peel.{peel}
 use Rattle.rules.specs.Exact.{tab, least, recordOf, peels, exactFrom, exactPlan}
-use Rattle.rules.specs.Doubled.{unit, divide, stretch, rotate, held, turns, doubledBy, flat, doubledPlan, tight, tightPlan}
+use Rattle.rules.specs.Doubled.{unit, divide, stretch, rotate, held, turns, doubledBy, flat, everyRotationPlan, tight, doubledPlan}
 use Rattle.rules.specs.Quick.{lowest, may, seat, visits, slot, slots, quickFrom, quickPlan}
 use Rattle.wish.specs.Wish.{wishBits, wishOf, finite, worth, ceil}
 use Rattle.promises.specs.Papers.{Asked, Given, give, rec, table, d1, d6}
@@ -27,7 +27,7 @@ use Rattle.length.specs.Length.{moves, charge, lengthOf}
 pub small-plans : map (λ (r : Asked × Given). give (r .0)) table ≡ map (λ (r : Asked × Given). r .1) table
 unfolding table give rec
     exactPlan exactFrom peels recordOf least tab firstSetting complete free pick put peel fill fillTo fillCell lack longest most row col cell sum δ ind
-    doubledPlan tightPlan tight doubledBy flat turns held rotate stretch divide unit
+    everyRotationPlan doubledPlan tight doubledBy flat turns held rotate stretch divide unit
     quickPlan quickFrom slots slot visits seat may lowest
     wishBits ofBits wishOf finite worth ceil
 small-plans = refl
@@ -40,8 +40,8 @@ unfolding quickPlan quickFrom slots slot visits seat may lowest put peel tab lon
 p7-meets = refl
 
 -- P8 by the rule of every rotation has a doubled plan's most records and its longest total (§15.3)
-pub p8-meets : (length (doubledPlan 64 1 (5 ∷ [])) ≡ 2 * 1) × (total (doubledPlan 64 1 (5 ∷ [])) ≡ 2 * longest 1 (cell 1 (5 ∷ [])) - 1)
-unfolding total doubledPlan doubledBy flat turns held rotate stretch divide unit
+pub p8-meets : (length (everyRotationPlan 64 1 (5 ∷ [])) ≡ 2 * 1) × (total (everyRotationPlan 64 1 (5 ∷ [])) ≡ 2 * longest 1 (cell 1 (5 ∷ [])) - 1)
+unfolding total everyRotationPlan doubledBy flat turns held rotate stretch divide unit
     exactPlan exactFrom peels recordOf least tab firstSetting complete free pick put peel fill fillTo fillCell lack longest most row col cell sum δ ind
 p8-meets = (refl, refl)
 
@@ -68,13 +68,13 @@ p1-starts = refl
 -- ---- the lengths of P8: one setting in two records moves the mirrors once
 
 -- by the rule of every rotation (§11.5)
-pub p8-old-length : (d : ℕ) → lengthOf d (doubledPlan 64 1 (5 ∷ [])) ≡ 9 + d
-unfolding lengthOf charge moves sameOutputs total doubledPlan doubledBy flat turns held rotate stretch divide unit
+pub p8-old-length : (d : ℕ) → lengthOf d (everyRotationPlan 64 1 (5 ∷ [])) ≡ 9 + d
+unfolding lengthOf charge moves sameOutputs total everyRotationPlan doubledBy flat turns held rotate stretch divide unit
     exactPlan exactFrom peels recordOf least tab firstSetting complete free pick put peel fill fillTo fillCell lack longest most row col cell sum δ ind
 p8-old-length d = omega arith
 
 -- by the tight rule (§11.5)
-pub p8-length : (d : ℕ) → lengthOf d (tightPlan 64 1 (5 ∷ [])) ≡ 5 + d
-unfolding lengthOf charge moves total tightPlan tight doubledBy turns held rotate stretch divide unit
+pub p8-length : (d : ℕ) → lengthOf d (doubledPlan 64 1 (5 ∷ [])) ≡ 5 + d
+unfolding lengthOf charge moves total doubledPlan tight doubledBy turns held rotate stretch divide unit
     exactPlan exactFrom peels recordOf least tab firstSetting complete free pick put peel fill fillTo fillCell lack longest most row col cell sum δ ind
 p8-length d = omega arith

@@ -23,7 +23,7 @@ use Rattle.rules.specs.Fill.{fill, fillTo, fillCell, lack}
 use Rattle.rules.specs.Search.{put, pick, free, complete, firstSetting}
 use Rattle.rules.specs.Peel.{peel}
 use Rattle.rules.specs.Exact.{tab, least, recordOf, peels, exactFrom, exactPlan}
-use Rattle.rules.specs.Doubled.{doubledPlan}
+use Rattle.rules.specs.Doubled.{everyRotationPlan}
 use Rattle.rules.specs.Quick.{quickPlan}
 use Rattle.rules.proofs.Exact.{exact}
 use Rattle.rules.proofs.Quick.{quick}
@@ -136,5 +136,5 @@ pub quick-sharp : length (quickPlan 64 3 d6) ≡ quickRoom (longest 3 (cell 3 d6
 unfolding quickRoom
 quick-sharp = p7-meets
 
-pub doubled-sharp : length (doubledPlan 64 1 (5 ∷ [])) ≡ doubledRoom 1
+pub doubled-sharp : length (everyRotationPlan 64 1 (5 ∷ [])) ≡ doubledRoom 1
 doubled-sharp = p8-meets .0

@@ -11,7 +11,7 @@ use Rattle.rules.specs.Fill.{fill, fillTo, fillCell, lack}
 use Rattle.rules.specs.Search.{put, pick, free, complete, firstSetting}
 use Rattle.rules.specs.Peel.{peel}
 use Rattle.rules.specs.Exact.{tab, least, recordOf, peels, exactFrom, exactPlan}
-use Rattle.rules.specs.Doubled.{unit, divide, stretch, rotate, opposite, held, turns, doubledBy, tight, tightPlan}
+use Rattle.rules.specs.Doubled.{unit, divide, stretch, rotate, opposite, held, turns, doubledBy, tight, doubledPlan}
 use Rattle.wavelengths.specs.Shared.{wavelength, uses, sharing, mostShared, gratingReport}
 use Rattle.grating.specs.Grating.{gratingPlan}
 use Rattle.promises.specs.Papers.{rec}
@@ -47,8 +47,8 @@ unfolding rec total gratingReport mostShared sharing uses wavelength output coun
 worked-report = (refl, refl)
 
 -- and what it says of the doubled plan with rotations, of the same demand
-pub rotations-report : gratingReport 5 (tightPlan 64 5 demand) ≡ 5 ∷ 2 ∷ 5 ∷ 5 ∷ 5 ∷ 5 ∷ 5 ∷ []
+pub rotations-report : gratingReport 5 (doubledPlan 64 5 demand) ≡ 5 ∷ 2 ∷ 5 ∷ 5 ∷ 5 ∷ 5 ∷ 5 ∷ []
 unfolding gratingReport mostShared sharing uses wavelength output count
-    tightPlan rotate tight doubledBy turns held stretch divide unit
+    doubledPlan rotate tight doubledBy turns held stretch divide unit
     exactPlan exactFrom peels recordOf least tab firstSetting complete free pick put peel fill fillTo fillCell lack longest most row col cell sum δ ind
 rotations-report = refl

@@ -11,7 +11,7 @@ use Rattle.wish.specs.declared.Wish.{Wish}
 use Rattle.wish.specs.Wish.{wishOf, wishBits}
 use Rattle.wishes.specs.Wishes.{wishing}
 use Rattle.rules.specs.Exact.{exactPlan}
-use Rattle.rules.specs.Doubled.{doubledPlan, tightPlan}
+use Rattle.rules.specs.Doubled.{everyRotationPlan, doubledPlan}
 use Rattle.rules.specs.Quick.{quickPlan}
 use Rattle.planner.specs.Planned.{planned, plannedUpTo}
 use Rattle.records.specs.Bytes.{laid}
@@ -69,11 +69,11 @@ ExactPlan N d buf = Gives (planned firstEdition N d (exactPlan 64 N d) buf)
 
 -- doubled::doubled_plan(n, cells, plan)
 abbrev pub DoubledPlan : ℕ → List ℕ → List ℕ → Outcome → List ℕ → Type 0
-DoubledPlan N d buf = Gives (planned firstEdition N d (tightPlan 64 N d) buf)
+DoubledPlan N d buf = Gives (planned firstEdition N d (doubledPlan 64 N d) buf)
 
 -- doubled::doubled_plan_every_rotation(n, cells, plan)
 abbrev pub EveryRotation : ℕ → List ℕ → List ℕ → Outcome → List ℕ → Type 0
-EveryRotation N d buf = Gives (planned firstEdition N d (doubledPlan 64 N d) buf)
+EveryRotation N d buf = Gives (planned firstEdition N d (everyRotationPlan 64 N d) buf)
 
 -- quick::quick_plan(n, cells, plan)
 abbrev pub QuickPlan : ℕ → List ℕ → List ℕ → Outcome → List ℕ → Type 0
@@ -85,11 +85,11 @@ ExactPlanSecond N d buf = Gives (planned secondEdition N d (exactPlan 128 N d) b
 
 -- doubled::doubled_plan_second(n, cells, plan)
 abbrev pub DoubledPlanSecond : ℕ → List ℕ → List ℕ → Outcome → List ℕ → Type 0
-DoubledPlanSecond N d buf = Gives (planned secondEdition N d (tightPlan 128 N d) buf)
+DoubledPlanSecond N d buf = Gives (planned secondEdition N d (doubledPlan 128 N d) buf)
 
 -- doubled::doubled_plan_every_rotation_second(n, cells, plan)
 abbrev pub EveryRotationSecond : ℕ → List ℕ → List ℕ → Outcome → List ℕ → Type 0
-EveryRotationSecond N d buf = Gives (planned secondEdition N d (doubledPlan 128 N d) buf)
+EveryRotationSecond N d buf = Gives (planned secondEdition N d (everyRotationPlan 128 N d) buf)
 
 -- quick::quick_plan_second(n, cells, plan)
 abbrev pub QuickPlanSecond : ℕ → List ℕ → List ℕ → Outcome → List ℕ → Type 0
@@ -201,11 +201,11 @@ CvExact N d buf = Crosses (planned firstEdition N d (exactPlan 64 N d) buf)
 
 -- cv_doubled(n, cells, plan)
 abbrev pub CvDoubled : ℕ → List ℕ → List ℕ → CvAnswer → List ℕ → Type 0
-CvDoubled N d buf = Crosses (planned firstEdition N d (tightPlan 64 N d) buf)
+CvDoubled N d buf = Crosses (planned firstEdition N d (doubledPlan 64 N d) buf)
 
 -- cv_doubled_every_rotation(n, cells, plan)
 abbrev pub CvEveryRotation : ℕ → List ℕ → List ℕ → CvAnswer → List ℕ → Type 0
-CvEveryRotation N d buf = Crosses (planned firstEdition N d (doubledPlan 64 N d) buf)
+CvEveryRotation N d buf = Crosses (planned firstEdition N d (everyRotationPlan 64 N d) buf)
 
 -- cv_quick(n, cells, plan)
 abbrev pub CvQuick : ℕ → List ℕ → List ℕ → CvAnswer → List ℕ → Type 0
@@ -217,11 +217,11 @@ Cv2Exact N d buf = Crosses (planned secondEdition N d (exactPlan 128 N d) buf)
 
 -- cv2_doubled(n, cells, plan)
 abbrev pub Cv2Doubled : ℕ → List ℕ → List ℕ → CvAnswer → List ℕ → Type 0
-Cv2Doubled N d buf = Crosses (planned secondEdition N d (tightPlan 128 N d) buf)
+Cv2Doubled N d buf = Crosses (planned secondEdition N d (doubledPlan 128 N d) buf)
 
 -- cv2_doubled_every_rotation(n, cells, plan)
 abbrev pub Cv2EveryRotation : ℕ → List ℕ → List ℕ → CvAnswer → List ℕ → Type 0
-Cv2EveryRotation N d buf = Crosses (planned secondEdition N d (doubledPlan 128 N d) buf)
+Cv2EveryRotation N d buf = Crosses (planned secondEdition N d (everyRotationPlan 128 N d) buf)
 
 -- cv2_quick(n, cells, plan)
 abbrev pub Cv2Quick : ℕ → List ℕ → List ℕ → CvAnswer → List ℕ → Type 0

@@ -3,7 +3,7 @@ use mathlib.Core.List.{List}
 use Prim.Native.Nat.{ℕ}
 use Rattle.switch.specs.declared.Outcome.{Outcome}
 use Rattle.switch.specs.Plan.{Record}
-use Rattle.rules.specs.Doubled.{doubledPlan, tightPlan, Doubled}
+use Rattle.rules.specs.Doubled.{everyRotationPlan, doubledPlan, Doubled}
 use Rattle.switch.specs.declared.Edition.{Edition}
 use Rattle.promises.specs.Planner.{Plans}
 
@@ -12,8 +12,8 @@ pub data Rule : Type 0 where
   tight every : Rule
 
 abbrev pub planBy : Rule → ℕ → ℕ → List ℕ → List Record
-planBy tight = tightPlan
-planBy every = doubledPlan
+planBy tight = doubledPlan
+planBy every = everyRotationPlan
 
 -- no line over 65,535 and room for the records of the rule asked for: then a plan that covers, of at most 2N records and a total of at most 2T - 1
 abbrev pub PlansDoubled : Rule → Edition → ℕ → List ℕ → List ℕ → Outcome → List ℕ → Type 0

@@ -5,7 +5,7 @@ use Prim.Native.Nat.{ℕ, _-_}
 use lib.ListN.{length, replicate}
 use Rattle.switch.specs.Plan.{Record}
 use Rattle.rules.specs.Exact.{exactPlan}
-use Rattle.rules.specs.Doubled.{doubledPlan, tightPlan}
+use Rattle.rules.specs.Doubled.{everyRotationPlan, doubledPlan}
 use Rattle.rules.specs.Quick.{quickPlan}
 use Rattle.wish.specs.Wish.{wishBits, codeOf, slotsOf}
 
@@ -22,8 +22,8 @@ pub data Given : Type 0 where
 -- what the rules give
 unfoldable pub give : Asked → Given
 give (exact N d) = plan (exactPlan 64 N d)
-give (doubled N d) = plan (tightPlan 64 N d)
-give (every N d) = plan (doubledPlan 64 N d)
+give (doubled N d) = plan (doubledPlan 64 N d)
+give (every N d) = plan (everyRotationPlan 64 N d)
 give (quick N d) = plan (quickPlan 64 N d)
 give (wish bits) = slots (codeOf (wishBits bits)) (slotsOf (wishBits bits))
 

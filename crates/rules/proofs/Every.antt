@@ -9,15 +9,15 @@ use borrow.Author.Tests.{ne-eqb}
 use Rattle.switch.specs.Demand.{cell, longest}
 use Rattle.switch.specs.Plan.{Record}
 use Rattle.rules.specs.Exact.{tab, exactPlan}
-use Rattle.rules.specs.Doubled.{unit, divide, stretch, rotate, turns, held, doubledBy, flat, doubledPlan}
+use Rattle.rules.specs.Doubled.{unit, divide, stretch, rotate, turns, held, doubledBy, alike, everyRotationPlan}
 
 -- the rotations of a doubled plan by that rule
 abbrev pub everyRotation : ℕ → ℕ → ℕ → List Record
-everyRotation W N u = turns W (rotate N) (flat u) N 0
+everyRotation W N u = turns W (rotate N) (alike u) N 0
 
 -- none where u is 1
-turns-none : (W : ℕ) (τ : ℕ → ℕ → ℕ) (n k : ℕ) → turns W τ (flat 1) n k ≡ []
-unfolding turns held flat
+turns-none : (W : ℕ) (τ : ℕ → ℕ → ℕ) (n k : ℕ) → turns W τ (alike 1) n k ≡ []
+unfolding turns held alike
 turns-none W τ zero k = refl
 turns-none W τ (suc n) k = turns-none W τ n (suc k)
 
@@ -44,22 +44,22 @@ module _ (W N u : ℕ) where
   pub no-rotation : u ≡ 1 → everyRotation W N u ≡ []
   no-rotation e = ap (everyRotation W N) e ∙ turns-none W (rotate N) N 0
 
-  held-less : 2 ≤ u → (k : ℕ) → flat u k ≡ suc (u - 2)
-  unfolding flat
+  held-less : 2 ≤ u → (k : ℕ) → alike u k ≡ suc (u - 2)
+  unfolding alike
   held-less l k = omega arith
 
   pub all-rotations : 2 ≤ u → length (everyRotation W N u) ≡ N
-  all-rotations l = turns-all W (rotate N) (flat u) (u - 2) (held-less l) N 0
+  all-rotations l = turns-all W (rotate N) (alike u) (u - 2) (held-less l) N 0
 
   -- rotation k stands at place k
   pub rotation-at : 2 ≤ u → (k : ℕ) → k < N → (r : Record) → getD (everyRotation W N u) k r ≡ record { hold = u - 1; outputs = tab W 0 (rotate N k) }
   rotation-at l k lk r =
-      turns-at W (rotate N) (flat u) (u - 2) (held-less l) N 0 k lk r
+      turns-at W (rotate N) (alike u) (u - 2) (held-less l) N 0 k lk r
       ∙ ap₂ {C = Record} (λ (h j : ℕ). record { hold = h; outputs = tab W 0 (rotate N j) })
       (let e : suc (u - 2) ≡ u - 1 = omega arith in e) (let e : 0 + k ≡ k = omega arith in e)
 
 -- they are the second part of the plan
 pub every-parts : (W N : ℕ) (d : List ℕ) → 0 < longest N (cell N d) → (u : ℕ) → u ≡ unit N (longest N (cell N d))
-    → doubledPlan W N d ≡ map (stretch u) (exactPlan W N (divide u d)) ++ everyRotation W N u
-unfolding doubledPlan doubledBy
+    → everyRotationPlan W N d ≡ map (stretch u) (exactPlan W N (divide u d)) ++ everyRotation W N u
+unfolding everyRotationPlan doubledBy
 every-parts W N d some u e = rw (ne-eqb (longest N (cell N d)) 0 (λ z. omega (arith, z)), e)

@@ -19,7 +19,7 @@ use Rattle.rules.specs.Fill.{lack, fillCell, fillTo, fill, filled}
 use Rattle.rules.specs.Search.{put, pick, free, complete, firstSetting}
 use Rattle.rules.specs.Peel.{peel, Clear, Least, Peels}
 use Rattle.rules.specs.Exact.{tab, least, recordOf, peels, exactFrom, exactPlan}
-use Rattle.rules.specs.Doubled.{unit, divide, stretch, rotate, held, turns, doubledBy, flat, doubledPlan, tight, tightPlan}
+use Rattle.rules.specs.Doubled.{unit, divide, stretch, rotate, held, turns, doubledBy, alike, everyRotationPlan, tight, doubledPlan}
 use Rattle.rules.specs.Quick.{lowest, may, seat, visits, slot, slots, quickFrom, quickPlan}
 use Rattle.rules.specs.Larger.{multiplied, LargerBatch}
 use Rattle.rules.proofs.Peels.{peels-cong}
@@ -171,13 +171,13 @@ unfolding multiplied stretch quickPlan quickFrom slots slot visits seat may lowe
 quick-differs e = let z : _≡_ {A = ℕ} 2 1 = ap length e in omega arith
 
 -- one slot doubled: by the rule of every rotation there is a rotation, since u is 2 in the place of 1
-pub every-differs : doubledPlan 1 1 (multiplied 2 (1 ∷ [])) ≡ map (stretch 2) (doubledPlan 1 1 (1 ∷ [])) → ⊥
-unfolding multiplied doubledPlan doubledBy flat turns held rotate stretch divide unit
+pub every-differs : everyRotationPlan 1 1 (multiplied 2 (1 ∷ [])) ≡ map (stretch 2) (everyRotationPlan 1 1 (1 ∷ [])) → ⊥
+unfolding multiplied everyRotationPlan doubledBy alike turns held rotate stretch divide unit
     exactPlan exactFrom peels recordOf least tab firstSetting complete free pick put peel fill fillTo fillCell lack longest most row col cell sum δ ind
 every-differs e = let z : _≡_ {A = ℕ} 2 1 = ap length e in omega arith
 
 -- one slot of two ports tripled: u is 2, which leaves a remainder of 1 to a rotation
-pub tight-differs : tightPlan 2 2 (multiplied 3 (1 ∷ 0 ∷ 0 ∷ 0 ∷ [])) ≡ map (stretch 3) (tightPlan 2 2 (1 ∷ 0 ∷ 0 ∷ 0 ∷ [])) → ⊥
-unfolding multiplied tightPlan tight doubledBy turns held rotate stretch divide unit
+pub tight-differs : doubledPlan 2 2 (multiplied 3 (1 ∷ 0 ∷ 0 ∷ 0 ∷ [])) ≡ map (stretch 3) (doubledPlan 2 2 (1 ∷ 0 ∷ 0 ∷ 0 ∷ [])) → ⊥
+unfolding multiplied doubledPlan tight doubledBy turns held rotate stretch divide unit
     exactPlan exactFrom peels recordOf least tab firstSetting complete free pick put peel fill fillTo fillCell lack longest most row col cell sum δ ind
 tight-differs e = let z : _≡_ {A = ℕ} 2 1 = ap length e in omega arith

@@ -8,7 +8,7 @@ use lib.ListN.{length}
 use borrow.Author.Tests.{lt-ltb, le-ltb, eq-eqb}
 use Rattle.switch.specs.Demand.{cell, longest}
 use Rattle.switch.specs.Plan.{Full}
-use Rattle.rules.specs.Doubled.{rotate, flat, doubledBy, doubledPlan, Joins, Doubled}
+use Rattle.rules.specs.Doubled.{rotate, alike, doubledBy, everyRotationPlan, Joins, Doubled}
 use Rattle.rules.proofs.Doubled.{doubled-any}
 
 pub rotate-in : (N k i : ℕ) → i < N → rotate N k i ≡ (i + k) % N
@@ -58,12 +58,12 @@ module _ (N : ℕ) (pos : 0 < N) where
       joins i j li lj = rotate-in N ((j + (N - i)) % N) i li ∙ add-mod-mod i (j + (N - i)) N ∙ ap (λ x. x % N) (omega arith) ∙ around-once j lj
 
 -- no records where T is 0 (§7.1)
-pub doubled-empty : (W N : ℕ) (d : List ℕ) → longest N (cell N d) ≡ 0 → doubledPlan W N d ≡ []
-unfolding doubledPlan doubledBy
+pub doubled-empty : (W N : ℕ) (d : List ℕ) → longest N (cell N d) ≡ 0 → everyRotationPlan W N d ≡ []
+unfolding everyRotationPlan doubledBy
 doubled-empty W N d e = rw (eq-eqb (longest N (cell N d)) 0 e)
 
 -- both bounds, and it covers (§7.6)
-pub doubled : (W N : ℕ) → 0 < N → N ≤ W → (d : List ℕ) → N * N ≤ length d → Doubled N d (doubledPlan W N d)
-unfolding doubledPlan flat
-doubled W N pos top d s = doubled-any W N pos top (rotate N) (rotate-joins N pos) d s flat (λ v k. omega arith)
+pub doubled : (W N : ℕ) → 0 < N → N ≤ W → (d : List ℕ) → N * N ≤ length d → Doubled N d (everyRotationPlan W N d)
+unfolding everyRotationPlan alike
+doubled W N pos top d s = doubled-any W N pos top (rotate N) (rotate-joins N pos) d s alike (λ v k. omega arith)
     (λ v i j li lj. omega (arith, mod-lt (cell N d i j) {m = suc v} (omega arith)))

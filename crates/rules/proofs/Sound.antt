@@ -21,7 +21,7 @@ use Rattle.rules.specs.Search.{put}
 use Rattle.rules.specs.Peel as rule
 use Rattle.rules.specs.Peel.{Peels, peel}
 use Rattle.rules.specs.Exact.{tab, exactPlan}
-use Rattle.rules.specs.Doubled.{unit, divide, stretch, held, turns, rotate, flat, tight, doubledBy, doubledPlan, tightPlan, Joins}
+use Rattle.rules.specs.Doubled.{unit, divide, stretch, held, turns, rotate, alike, tight, doubledBy, everyRotationPlan, doubledPlan, Joins}
 use Rattle.rules.specs.Quick.{lowest, may, seat, visits, slot, slots, quickFrom, quickPlan}
 use Rattle.rules.proofs.Peels.{length-tab, output-tab}
 use Rattle.rules.proofs.Ports.{put-same, put-other}
@@ -141,12 +141,12 @@ module _ (W N : ℕ) where
       rotations-sound : (H : ℕ → ℕ → ℕ) (d : List ℕ) → N * N ≤ length d → Each (Sound W N) (doubledBy W N (rotate N) H d)
       rotations-sound = doubled-by-sound (rotate N) (rotate-joins N pos) (rotate-idle N)
 
-      pub doubled-sound : (d : List ℕ) → N * N ≤ length d → Each (Sound W N) (doubledPlan W N d)
-      unfolding doubledPlan
-      doubled-sound = rotations-sound flat
+      pub doubled-sound : (d : List ℕ) → N * N ≤ length d → Each (Sound W N) (everyRotationPlan W N d)
+      unfolding everyRotationPlan
+      doubled-sound = rotations-sound alike
 
-      pub tight-sound : (d : List ℕ) → N * N ≤ length d → Each (Sound W N) (tightPlan W N d)
-      unfolding tightPlan
+      pub tight-sound : (d : List ℕ) → N * N ≤ length d → Each (Sound W N) (doubledPlan W N d)
+      unfolding doubledPlan
       tight-sound d = rotations-sound (tight N (rotate N) d) d
 
       pub quick-sound : N ≤ 255 → (d : List ℕ) → Each (Sound W N) (quickPlan W N d)

@@ -8,7 +8,7 @@ use lib.ListN.{length}
 use borrow.Author.Tests.{eq-eqb}
 use Rattle.counting.proofs.Most.{most-at, most-le}
 use Rattle.switch.specs.Demand.{cell, longest}
-use Rattle.rules.specs.Doubled.{rotate, tight, doubledBy, tightPlan, Joins, Doubled}
+use Rattle.rules.specs.Doubled.{rotate, tight, doubledBy, doubledPlan, Joins, Doubled}
 use Rattle.rules.proofs.Doubled.{doubled-any}
 use Rattle.rules.proofs.Rotate.{rotate-joins}
 
@@ -28,8 +28,8 @@ doubled-tight W N pos top τ J d s = doubled-any W N pos top τ J d s (tight N �
     (λ v i j li lj. tight-meets N τ d (suc v) i j (J .which i j) li (J .joins i j li lj))
 
 -- and so for the rotations
-pub tight-doubled : (W N : ℕ) → 0 < N → N ≤ W → (d : List ℕ) → N * N ≤ length d → Doubled N d (tightPlan W N d)
-unfolding tightPlan
+pub tight-doubled : (W N : ℕ) → 0 < N → N ≤ W → (d : List ℕ) → N * N ≤ length d → Doubled N d (doubledPlan W N d)
+unfolding doubledPlan
 tight-doubled W N pos top d s = doubled-tight W N pos top (rotate N) (rotate-joins N pos) d s
 
 pub by-empty : (W N : ℕ) (τ H : ℕ → ℕ → ℕ) (d : List ℕ) → longest N (cell N d) ≡ 0 → doubledBy W N τ H d ≡ []

@@ -47,20 +47,20 @@ doubledBy W N τ H d =
     cond (eqb (longest N (cell N d)) 0) [] (map (stretch u) (exactPlan W N (divide u d)) ++ turns W τ (H u) N 0)
 
 -- every rotation is held for u - 1, and so left out where u is 1
-unfoldable pub flat : ℕ → ℕ → ℕ
-flat u k = u - 1
+unfoldable pub alike : ℕ → ℕ → ℕ
+alike u k = u - 1
 
 -- the doubled plan by the rule of every rotation (§7.5)
-unfoldable pub doubledPlan : ℕ → ℕ → List ℕ → List Record
-doubledPlan W N d = doubledBy W N (rotate N) flat d
+unfoldable pub everyRotationPlan : ℕ → ℕ → List ℕ → List Record
+everyRotationPlan W N d = doubledBy W N (rotate N) alike d
 
 -- the tight rule (§7.4): setting τ k is held for the largest remainder, modulo u, that its pairs have; 0 leaves it out
 unfoldable pub tight : ℕ → (ℕ → ℕ → ℕ) → List ℕ → ℕ → ℕ → ℕ
 tight N τ d u k = most N (λ i. cell N d i (τ k i) % u)
 
 -- the doubled plan by the tight rule (§7.4)
-unfoldable pub tightPlan : ℕ → ℕ → List ℕ → List Record
-tightPlan W N d = doubledBy W N (rotate N) (tight N (rotate N) d) d
+unfoldable pub doubledPlan : ℕ → ℕ → List ℕ → List Record
+doubledPlan W N d = doubledBy W N (rotate N) (tight N (rotate N) d) d
 
 -- τ 0 .. τ (N - 1) are full settings, and τ (which i j) joins i to j: between them they join every pair
 pub record Joins (N : ℕ) (τ : ℕ → ℕ → ℕ) : Type 0 where

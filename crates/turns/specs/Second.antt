@@ -10,7 +10,7 @@ use Rattle.switch.specs.Plan.{Record, total}
 use Rattle.demand.specs.Check.{checkDemand}
 use Rattle.demand.specs.declared.Checked.the-variants.{Fine}
 use Rattle.rules.specs.Exact.{tab, exactPlan}
-use Rattle.rules.specs.Doubled.{unit, divide, stretch, rotate, opposite, flat, tight, turns, doubledBy}
+use Rattle.rules.specs.Doubled.{unit, divide, stretch, rotate, opposite, alike, tight, turns, doubledBy}
 use Rattle.turns.specs.declared.Turning.{Turning}
 use Rattle.turns.specs.declared.Turning.the-variants.{Forward, Backward}
 use Rattle.turns.specs.declared.Rule.{Rule}
@@ -29,7 +29,7 @@ ahead Backward N i = N - i
 -- how long each setting is held: for the largest remainder among its pairs; or every one for u - 1
 abbrev pub holdsBy : Rule → Turning → ℕ → List ℕ → ℕ → ℕ → ℕ
 holdsBy Tight t N d = tight N (turn t N) d
-holdsBy Every t N d = flat
+holdsBy Every t N d = alike
 
 -- the doubled plan by either rule, with the settings of either way
 abbrev pub doubledRule : Rule → Turning → ℕ → ℕ → List ℕ → List Record

@@ -4,7 +4,7 @@ use native.Mathlib.Omega.{arith}
 use Rattle.switch.specs.declared.Edition.{Edition}
 use Rattle.switch.proofs.Editions.{second-bounded}
 use Rattle.switch.proofs.Result.{gives-as}
-use Rattle.rules.specs.Doubled.{tightPlan}
+use Rattle.rules.specs.Doubled.{doubledPlan}
 use Rattle.planner.specs.Planned.{planned}
 use Rattle.turns.specs.declared.Rule.the-variants.{Tight}
 use Rattle.turns.specs.declared.Turning.the-variants.{Forward}
@@ -17,7 +17,7 @@ plan-for-requires : tie.Need-plan-for-requires
 plan-for-requires c κs = rw (c .before .before .before .second-edition .ensures) (second-bounded, omega arith, omega arith)
 
 returns : tie.Need-returns
-unfolding tightPlan
+unfolding doubledPlan
 returns c =
     let a = c .before .before .before .before .before .before .before .before .before .before .before .args in
     let q = c .before .before .before .before .before .before .before .before .second-edition .ensures in

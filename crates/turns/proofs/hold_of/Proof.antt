@@ -1,7 +1,7 @@
 -- Each rule's hold is what its definition says, and below u.
 use mathlib.Core.Path.{sym, ap, _∙_}
 use native.Mathlib.Omega.{arith}
-use Rattle.rules.specs.Doubled.{flat}
+use Rattle.rules.specs.Doubled.{alike}
 use Rattle.turns.specs.declared.Rule.{Rule}
 use Rattle.turns.specs.Second.{turn, holdsBy}
 use Rattle.turns.proofs.Holds.{tight-small}
@@ -21,7 +21,7 @@ returns c =
     c .largest-remainder .ensures ∙ ap (λ (r : Rule). holdsBy r (a .way) (a .n) (a .cells .now) (a .unit) (a .k)) (sym (c .before .enum-told .given .1))
 
 returns-2 : tie.Need-returns-2
-unfolding flat
+unfolding alike
 returns-2 c =
     let a = c .before .before .before .args in
     ap (λ (r : Rule). holdsBy r (a .way) (a .n) (a .cells .now) (a .unit) (a .k)) (sym (c .enum-told2 .given .1))
