@@ -33,7 +33,7 @@ abbrev pub version : ℕ
 version = 1
 
 -- code, place, side, records, T, total, length and empty slots, and what a refusal is about; nothing is added or dropped
-abbrev pub flatAbout : Outcome → About → CvAnswer
+abbrev pub flatAbout : (o : Outcome) (a : About) → CvAnswer
 flatAbout o a =
     record {
       code = codeOf o;
@@ -50,7 +50,7 @@ flatAbout o a =
     }
 
 -- where there is one plan or demand to be about
-abbrev pub flat : Outcome → CvAnswer
+abbrev pub flat : (o : Outcome) → CvAnswer
 flat o = flatAbout o about.Nothing
 
 -- what crosses the edge is what a call gives: the numbers of its outcome, and the bytes that it leaves
@@ -59,7 +59,7 @@ pub record Crosses (given : Result) (r : CvAnswer) (after : List ℕ) : Type 0 w
   pub bytes : after ≡ given .bytes
 
 -- one wish: its code, and its slots as total
-abbrev pub flatWish : Wish → CvAnswer
+abbrev pub flatWish : (w : Wish) → CvAnswer
 flatWish w =
     record {
       code = wish.codeOf w;
@@ -82,18 +82,18 @@ kindOf End = 1
 kindOf (Malformed k) = 2
 
 -- the code that a kind stands for
-abbrev pub kindCode : ℕ → ℕ
+abbrev pub kindCode : (k : ℕ) → ℕ
 kindCode k = cond (eqb k 2) 11 0
 
-abbrev pub flatStep : Stepped → CvStep
+abbrev pub flatStep : (s : Stepped) → CvStep
 flatStep s = record { kind = kindOf (s .step); place = stepPlace (s .step); hold = s .hold; outputs = s .outputs }
 
 -- the same where a record has 128 outputs
-abbrev pub flatWide : Stepped → Cv2Step
+abbrev pub flatWide : (s : Stepped) → Cv2Step
 flatWide s = record { kind = kindOf (s .step); place = stepPlace (s .step); hold = s .hold; outputs = s .outputs }
 
 -- where a lookup found the record in force
-abbrev pub flatPart : Found → CvPart
+abbrev pub flatPart : (f : Found) → CvPart
 flatPart f = record { answer = flatAbout (f .outcome) (f .about); plan = f .plan; start = f .start; size = f .size }
 
 -- a carry-over counts nothing
@@ -107,7 +107,7 @@ pub record CarriesFlat (E : Edition) (N : ℕ) (asked plan : List ℕ) (first : 
   pub cells : after ≡ cellsAfter (carryOver E N asked plan first wished before) (newCells E N asked plan first wished) before
 
 -- a rescue tells besides how many records were added and dropped
-abbrev pub flatRescue : Answer → CvAnswer
+abbrev pub flatRescue : (a : Answer) → CvAnswer
 flatRescue a =
     record {
       code = codeOf (a .outcome);

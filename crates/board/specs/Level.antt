@@ -32,11 +32,11 @@ pub record Lacking (N T : ℕ) (w l : List ℕ) : Type 0 where
   pub is : (k : ℕ) → k < N + N → getD l k 0 ≡ T - line N w k
 
 -- the smaller of what row i and column j lack
-abbrev pub both : ℕ → List ℕ → ℕ → ℕ → ℕ
+abbrev pub both : (N : ℕ) (l : List ℕ) (i j : ℕ) → ℕ
 both N l i j = min (getD l i 0) (getD l (N + j) 0)
 
 -- the two lines lack so much less
-abbrev pub lessBoth : ℕ → List ℕ → ℕ → ℕ → List ℕ
+abbrev pub lessBoth : (N : ℕ) (l : List ℕ) (i j : ℕ) → List ℕ
 lessBoth N l i j = set (set l i (getD l i 0 - both N l i j)) (N + j) (getD l (N + j) 0 - both N l i j)
 
 -- what a cell can be filled with: a pair of ports, its two lines, and room for the sum
@@ -48,7 +48,7 @@ pub record FillPre (N : ℕ) (w l : List ℕ) (i j : ℕ) : Type 0 where
   pub fits : cell N w i j + both N l i j ≤ 65535
 
 -- the output of input i, 255 past the list's end
-abbrev pub outOf : List ℕ → ℕ → ℕ
+abbrev pub outOf : (out : List ℕ) (i : ℕ) → ℕ
 outOf out i = getD out i 255
 
 -- outputs by input, each inside

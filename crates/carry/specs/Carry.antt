@@ -29,7 +29,7 @@ andThen Done next = next
 andThen (Refused a r) next = Refused a r
 
 -- a refusal that is about nothing by name
-abbrev pub plain : Refusal → Carried
+abbrev pub plain : (r : Refusal) → Carried
 plain r = Refused about.Nothing r
 
 -- code 3 names the cells that it is about

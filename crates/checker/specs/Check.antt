@@ -21,11 +21,11 @@ use Rattle.checker.specs.declared.Meeting.the-variants.{Misses, Meets}
 use Rattle.plans.specs.Reading.{reading}
 
 -- the slots of cell k that M asks and G does not grant
-unfoldable pub missing : ℕ → (ℕ → ℕ → ℕ) → (ℕ → ℕ → ℕ) → ℕ → ℕ
+unfoldable pub missing : (N : ℕ) (M G : ℕ → ℕ → ℕ) (k : ℕ) → ℕ
 missing N M G k = M (k / N) (k % N) - G (k / N) (k % N)
 
 -- the first cell, in cell order, that is granted less than asked; N² where there is none
-unfoldable pub uncovered : ℕ → (ℕ → ℕ → ℕ) → (ℕ → ℕ → ℕ) → ℕ
+unfoldable pub uncovered : (N : ℕ) (M G : ℕ → ℕ → ℕ) → ℕ
 uncovered N M G = over 0 (missing N M G) (N * N) 0
 
 -- the same in plain statements: cell k is granted less than asked, and no cell before it
@@ -35,11 +35,11 @@ pub record Short (N : ℕ) (M G : ℕ → ℕ → ℕ) (k : ℕ) : Type 0 where
   pub before : (j : ℕ) → j < k → M (j / N) (j % N) ≤ G (j / N) (j % N)
 
 -- inner: how grants G meet what M asks: the first cell that falls short, or what is granted beyond all that is asked
-unfoldable pub meeting : ℕ → (ℕ → ℕ → ℕ) → (ℕ → ℕ → ℕ) → Meeting
+unfoldable pub meeting : (N : ℕ) (M G : ℕ → ℕ → ℕ) → Meeting
 meeting N M G = cond (ltb (uncovered N M G) (N * N)) (Misses (uncovered N M G)) (Meets (beyond N M G))
 
 -- code 13: some pair not covered; else records, T, total and empty slots
-unfoldable pub covering : ℕ → ℕ → List ℕ → List Record → Outcome
+unfoldable pub covering : (T N : ℕ) (d : List ℕ) (p : List Record) → Outcome
 covering T N d p =
     cond (ltb (uncovered N (cell N d) (grant p)) (N * N))
     (Refused (Uncovered (uncovered N (cell N d) (grant p))))
@@ -51,5 +51,5 @@ afterDemand (Fine T) go = go T
 afterDemand (Faulty r) go = Refused r
 
 -- codes 1, 2, 3, 9, 10, 11, 13 in this order (§9.9)
-unfoldable pub checkPlan : Edition → ℕ → List ℕ → List ℕ → Outcome
+unfoldable pub checkPlan : (E : Edition) (N : ℕ) (d plan : List ℕ) → Outcome
 checkPlan E N d plan = afterDemand (checkDemand (E .ports) N d) (λ T. reading E N plan (covering T N d))

@@ -10,9 +10,9 @@ ind true = 1
 ind false = 0
 
 -- how many of 0 .. n - 1 are in A
-unfoldable pub count : ℕ → (ℕ → Bool) → ℕ
+unfoldable pub count : (n : ℕ) (A : ℕ → Bool) → ℕ
 count n A = sum n (λ i. ind (A i))
 
 -- 1 where the two numbers are equal, and 0 elsewhere
-unfoldable pub δ : ℕ → ℕ → ℕ
+unfoldable pub δ : (i j : ℕ) → ℕ
 δ i j = ind (eqb i j)

@@ -17,7 +17,7 @@ abbrev pub checkLines : (N : ℕ) (d : List ℕ) → Checked
 checkLines N d = unless (leb (longest N (cell N d)) 65535) (Faulty (Line (lineOver N d))) (Fine (longest N (cell N d)))
 
 -- code 1: N is no number of ports; 2: cells lent are not N²; then 3
-unfoldable pub checkDemand : ℕ → ℕ → List ℕ → Checked
+unfoldable pub checkDemand : (most N : ℕ) (d : List ℕ) → Checked
 checkDemand most N d =
     unless (portsFine most N) (Faulty Ports)
     (unless (eqb (length d) (N * N)) (Faulty (Cells (N * N)))

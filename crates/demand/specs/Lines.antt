@@ -15,15 +15,15 @@ over c f zero k = k
 over c f (suc m) k = cond (ltb c (f k)) k (over c f m (suc k))
 
 -- line k's side, and its number there
-unfoldable pub lineSide : ℕ → ℕ → Side
+unfoldable pub lineSide : (N k : ℕ) → Side
 lineSide N k = cond (ltb k N) (Input (record { 0 = k })) (Output (record { 0 = k - N }))
 
 -- the first line that sums over 65,535, inputs before outputs (§9.8)
-unfoldable pub lineOver : ℕ → List ℕ → Side
+unfoldable pub lineOver : (N : ℕ) (d : List ℕ) → Side
 lineOver N d = lineSide N (over 65535 (line N d) (N + N) 0)
 
 -- inner: n cells from `from` on, `step` apart, summed
-unfoldable pub strided : List ℕ → ℕ → ℕ → ℕ → ℕ
+unfoldable pub strided : (d : List ℕ) (from step n : ℕ) → ℕ
 strided d from step n = sum n (λ b. getD d (from + b * step) 0)
 
 -- inner: enough cells for N ports, of which there are no more than the largest switch has

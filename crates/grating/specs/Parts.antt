@@ -12,11 +12,11 @@ use Rattle.turns.specs.declared.Turning.the-variants.{Backward}
 use Rattle.turns.specs.Second.{second}
 
 -- so many records at the start of a buffer, each hold multiplied by u
-abbrev pub stretched : ℕ → ℕ → List ℕ → ℕ → List Record
+abbrev pub stretched : (W u : ℕ) (first : List ℕ) (records : ℕ) → List Record
 stretched W u first records = map (stretch u) (planFrom W first 0 records)
 
 -- these and then the anti-rotations, held for H
-abbrev pub madeParts : ℕ → ℕ → ℕ → List ℕ → ℕ → List ℕ → List Record
+abbrev pub madeParts : (W N u : ℕ) (first : List ℕ) (records : ℕ) (H : List ℕ) → List Record
 madeParts W N u first records H = stretched W u first records ++ second Backward W N H
 
 -- at most W records in a buffer that has room for them, with the sum of their holds; u times as long in all they still fit a hold

@@ -11,7 +11,7 @@ use Rattle.planner.specs.Planned.{roomFor}
 use Rattle.tally.specs.Sums.{sums}
 
 -- a setting o held for h
-abbrev pub held : ℕ → List ℕ → Record
+abbrev pub held : (h : ℕ) (o : List ℕ) → Record
 held h o = record { hold = h; outputs = o }
 
 -- what is left, if any
@@ -20,7 +20,7 @@ rest zero o = []
 rest (suc h) o = held (suc h) o ∷ []
 
 -- a sum as records of at most 65,535, of which only the last is shorter (§12.2)
-unfoldable pub pieces : ℕ → List ℕ → List Record
+unfoldable pub pieces : (h : ℕ) (o : List ℕ) → List Record
 pieces h o = replicate (h / 65535) (held 65535 o) ++ rest (h % 65535) o
 
 -- each sum as records
@@ -29,10 +29,10 @@ cut [] = []
 cut (s ∷ q) = pieces (s .hold) (s .outputs) ++ cut q
 
 -- the settings by first appearance, each with the sum of its holds (§12.2)
-unfoldable pub joinPlan : List Record → List Record
+unfoldable pub joinPlan : (p : List Record) → List Record
 joinPlan p = cut (sums p)
 
 -- refusals 1, 9, 10, 11, 5; records and total of the plan that is written, no T and no empty slots
-unfoldable pub joining : Edition → ℕ → List ℕ → List ℕ → Result
+unfoldable pub joining : (E : Edition) (N : ℕ) (plan buf : List ℕ) → Result
 joining E N plan buf =
     afterReading (checking E N plan) buf (λ c. roomFor E N 0 0 (joinPlan (planOf (E .width) plan)) buf)

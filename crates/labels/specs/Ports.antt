@@ -12,11 +12,11 @@ use Rattle.sets.specs.Label.{In, Sub}
 use Rattle.sets.specs.Wide.{numbersOf}
 
 -- the numbers of a set of outputs
-abbrev pub outputsOf : Outputs → ℕ
+abbrev pub outputsOf : (s : Outputs) → ℕ
 outputsOf s = numbersOf (s .0)
 
 -- the numbers of a set of inputs
-abbrev pub inputsOf : Inputs → ℕ
+abbrev pub inputsOf : (s : Inputs) → ℕ
 inputsOf s = numbersOf (s .0)
 
 -- an output that was found, as a number

@@ -7,7 +7,7 @@ use lib.ListN.{length, getD}
 use Rattle.sets.specs.Wide.{two}
 
 -- the label of input i
-abbrev pub rowOf : List ℕ → List ℕ → ℕ → ℕ
+abbrev pub rowOf : (lows highs : List ℕ) (i : ℕ) → ℕ
 rowOf lows highs i = two (getD highs i 0) (getD lows i 0)
 
 -- input i has the label l now, and every other input the one it had

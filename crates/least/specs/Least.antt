@@ -20,5 +20,5 @@ answerAfter (Fine T) go = go T
 answerAfter (Faulty r) go = Refused r
 
 -- refusals 1, 2 and 3, then 17: a limit of 0; else T, and as total the least that a plan within the limit can have
-unfoldable pub leastOf : Edition → ℕ → List ℕ → ℕ → Outcome
+unfoldable pub leastOf : (E : Edition) (N : ℕ) (d : List ℕ) (L : ℕ) → Outcome
 leastOf E N d L = answerAfter (checkDemand (E .width) N d) (λ T. unless (ltb 0 L) (Refused Limit) (Done (planCounts 0 T (leastWithin N L (cell N d)))))

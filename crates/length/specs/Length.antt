@@ -19,19 +19,19 @@ moves p zero = true
 moves p (suc k) = not (sameOutputs (settingAt p k) (settingAt p (suc k)))
 
 -- what record k of plan p is charged: the switching time where the mirrors move
-unfoldable pub charge : ℕ → List Record → ℕ → ℕ
+unfoldable pub charge : (d : ℕ) (p : List Record) (k : ℕ) → ℕ
 charge d p k = cond (moves p k) d 0
 
 -- total hold, and what the records are charged
-unfoldable pub lengthOf : ℕ → List Record → ℕ
+unfoldable pub lengthOf : (d : ℕ) (p : List Record) → ℕ
 lengthOf d p = total p + sum (length p) (charge d p)
 
 -- length gives the length, records and total
-abbrev pub lengthCounts : ℕ → List Record → Counts
+abbrev pub lengthCounts : (d : ℕ) (p : List Record) → Counts
 lengthCounts d p = record { records = length p; longest = 0; total = total p; length = lengthOf d p; empty = 0 }
 
 -- codes 1, 9, 10, 11 in this order (§9.9)
-unfoldable pub planLength : Edition → ℕ → ℕ → List ℕ → Outcome
+unfoldable pub planLength : (E : Edition) (d N : ℕ) (plan : List ℕ) → Outcome
 planLength E d N plan = reading E N plan (λ p. Done (lengthCounts d p))
 
 -- inner: what a pass over plan p counted: the length of the records that it passed, no T and no empty slots

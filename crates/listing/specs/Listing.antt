@@ -30,11 +30,11 @@ pub record PortsIn (s : List ℕ) (m N : ℕ) : Type 0 where
   pub least : (N ≡ 0) ⊎ ((k : ℕ) × (k < m) × ((recordAt s k .input .0 + 1 ≡ N) ⊎ (recordAt s k .output .0 + 1 ≡ N)))
 
 -- how many ports a list names (§14.2)
-abbrev pub portsOf : List ℕ → ℕ
+abbrev pub portsOf : (s : List ℕ) → ℕ
 portsOf s = portsIn s (length s / 8)
 
 -- a plan with what its planner counts: records, T, total and empty slots
-abbrev pub countedText : ℕ → ℕ → List ℕ → List Record → List ℕ
+abbrev pub countedText : (N T : ℕ) (d : List ℕ) (p : List Record) → List ℕ
 countedText N T d p = planText N (demandCounts (length p) T (total p) (emptySlots N (cell N d) p)) p
 
 -- It prints the exact plan, or what the planner refuses
@@ -43,7 +43,7 @@ checkedText N d (Fine T) = countedText N T d (exactPlan 64 N d)
 checkedText N d (Faulty r) = refusedLine r
 
 -- of a demand
-unfoldable pub demandText : ℕ → List ℕ → List ℕ
+unfoldable pub demandText : (N : ℕ) (d : List ℕ) → List ℕ
 demandText N d = checkedText N d (checkDemand 64 N d)
 
 -- what the wish list is refused for, or the text of its demand
@@ -52,9 +52,9 @@ wishedText N s (Done c) = demandText N (demandOf N s (length s / 8))
 wishedText N s (Refused r) = refusedLine r
 
 -- of a wish list for N ports; N 0 or over 16 is code 1
-unfoldable pub wishText : ℕ → List ℕ → List ℕ
+unfoldable pub wishText : (N : ℕ) (s : List ℕ) → List ℕ
 wishText N s = wishedText N s (outcome 16 N s (N * N))
 
 -- bytes behind the first 4,096 do not count (§14.1)
-unfoldable pub listingOf : List ℕ → List ℕ
+unfoldable pub listingOf : (s : List ℕ) → List ℕ
 listingOf s = let w = take 4096 s in wishText (portsOf w) w

@@ -56,7 +56,7 @@ abbrev pub partFound : (plan k size : ℕ) → Found
 partFound plan k size = record { outcome = Done noCounts; about = about.Nothing; plan = plan; start = k * size; size = size }
 
 -- an empty part of no plan
-abbrev pub noneFound : About → Refusal → Found
+abbrev pub noneFound : (a : About) (r : Refusal) → Found
 noneFound a r = record { outcome = Refused r; about = a; plan = 0; start = 0; size = 0 }
 
 -- a lookup in numbers; all counts are 0, also where nothing is refused

@@ -18,15 +18,15 @@ pub record Fixed (out : List ℕ) (i fixed : ℕ) : Type 0 where
   pub got : (m : ℕ) → m < i → In fixed (joined out m)
 
 -- every fixed output is held
-abbrev pub AllHeld : List ℕ → ℕ → Type 0
+abbrev pub AllHeld : (by : List ℕ) (fixed : ℕ) → Type 0
 AllHeld by fixed = (k : ℕ) → In fixed k → (m : ℕ) × Held by k m
 
 -- o joins the holders of the fixed outputs to them
-abbrev pub Keeps : List ℕ → ℕ → (ℕ → ℕ) → Type 0
+abbrev pub Keeps : (by : List ℕ) (fixed : ℕ) (o : ℕ → ℕ) → Type 0
 Keeps by fixed o = (k m : ℕ) → In fixed k → Held by k m → o m ≡ k
 
 -- no setting that fits and agrees below input m has a lower output there
-abbrev pub Best : ℕ → (ℕ → ℕ → Type 0) → List ℕ → ℕ → Type 0
+abbrev pub Best : (n : ℕ) (E : ℕ → ℕ → Type 0) (out : List ℕ) (m : ℕ) → Type 0
 Best n E out m = (o : ℕ → ℕ) → Fits n E o → Agree m o (joined out) → joined out m ≤ o m
 
 -- what completing may start from: it is known which outputs can be had at once, the fixed ones are held, and so is one by each input below `from`
@@ -94,7 +94,7 @@ pub record SettledPost (w n : ℕ) (E : ℕ → ℕ → Type 0) (out by' out' : 
   pub beyond : (m : ℕ) → n ≤ m → joined out' m ≡ joined out m
 
 -- every input is settled
-abbrev pub SettledAll : ℕ → ℕ → (ℕ → ℕ → Type 0) → List ℕ → List ℕ → List ℕ → Type 0
+abbrev pub SettledAll : (w n : ℕ) (E : ℕ → ℕ → Type 0) (out by' out' : List ℕ) → Type 0
 SettledAll w n E out by' out' = (fixed : ℕ) × SettledPost w n E out by' out' fixed n
 
 -- what the next setting may start from: the inputs below `kept` hold outputs that are the best so far, and there is a full setting

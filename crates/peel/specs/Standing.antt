@@ -21,11 +21,11 @@ pub record Cells (N T : ℕ) (w : List ℕ) : Type 0 where
   pub small : T ≤ 65535
 
 -- what every line of the working copy sums to
-abbrev pub left : ℕ → List ℕ → ℕ
+abbrev pub left : (N : ℕ) (w : List ℕ) → ℕ
 left N w = row N (cell N w) 0
 
 -- the records still to take off the working copy
-abbrev pub rest : ℕ → ℕ → List ℕ → List Record
+abbrev pub rest : (W N : ℕ) (w : List ℕ) → List Record
 rest W N w = exactFrom W N (cell N w)
 
 -- the cells are filled to T and labelled, and what is left to plan is the exact plan

@@ -22,7 +22,7 @@ use Rattle.records.specs.Record.{hold, outputs, wellFormed}
 use Rattle.records.specs.Bytes.{recordAt, whole, planFrom}
 
 -- opening refuses by codes 1, 9 and 10, and counts records only (§5.4)
-unfoldable pub opening : Edition → ℕ → List ℕ → Outcome
+unfoldable pub opening : (E : Edition) (N : ℕ) (plan : List ℕ) → Outcome
 opening E N plan =
     unless (portsFine (E .ports) N) (Refused Ports)
     (unless (eqb (length plan % (E .width + 4)) 0) (Refused (Torn (whole (E .width) plan)))
@@ -40,11 +40,11 @@ stepPlace step.End = 0
 stepPlace (step.Malformed k) = k
 
 -- what the end and code 11 come with: no hold, every output idle, and the place as it was (§5.6)
-abbrev pub nothing : Edition → Step → ℕ → Stepped
+abbrev pub nothing : (E : Edition) (s : Step) (at : ℕ) → Stepped
 nothing E s at = record { step = s; hold = 0; outputs = replicate (E .width) 255; next = at }
 
 -- the next record: its hold and all its outputs
-abbrev pub given : List ℕ → ℕ → Stepped
+abbrev pub given : (b : List ℕ) (next : ℕ) → Stepped
 given b next = record { step = step.Record; hold = hold b; outputs = outputs b; next = next }
 
 -- of m records: the next, or code 11 with the record's number, or the end (§5.5)
@@ -61,7 +61,7 @@ unfoldable pub stepAt : Edition → (N : ℕ) (plan : List ℕ) (at : ℕ) → S
 stepAt E N plan at = byOutcome (opening E N plan) (λ r. nothing E step.End at) (λ c. stepIn E (c .records) N plan at)
 
 -- a step of the second edition; only the number of its outputs is another
-abbrev pub ofSecond : SteppedSecond → Stepped
+abbrev pub ofSecond : (s : SteppedSecond) → Stepped
 ofSecond s = record { step = s .step; hold = s .hold; outputs = s .outputs; next = s .next }
 
 -- inner: a step, its outputs in lent memory, is what is given
@@ -77,12 +77,12 @@ malformed W e N plan zero k = k
 malformed W e N plan (suc m) k = cond (wellFormed W e N (recordAt W plan k)) (malformed W e N plan m (suc k)) k
 
 -- a whole plan: code 11 at its first record that is not well formed, else records and total
-unfoldable pub checkingIn : ℕ → Edition → ℕ → List ℕ → Outcome
+unfoldable pub checkingIn : (m : ℕ) (E : Edition) (N : ℕ) (plan : List ℕ) → Outcome
 checkingIn m E N plan =
     cond (ltb (malformed (E .width) (E .byte) N plan m 0) m)
     (Refused (Malformed (malformed (E .width) (E .byte) N plan m 0)))
     (Done (planCounts m 0 (total (planFrom (E .width) plan 0 m))))
 
 -- who reads a whole plan refuses by 1, 9, 10 and 11
-unfoldable pub checking : Edition → ℕ → List ℕ → Outcome
+unfoldable pub checking : (E : Edition) (N : ℕ) (plan : List ℕ) → Outcome
 checking E N plan = byOutcome (opening E N plan) Refused (λ c. checkingIn (c .records) E N plan)

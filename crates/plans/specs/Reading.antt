@@ -12,7 +12,7 @@ use Rattle.switch.specs.Editions.{Bounded}
 use Rattle.plans.specs.Read.{malformed, checking}
 
 -- refusals 1, 9, 10 and 11, and else what is done with the plan's records
-unfoldable pub reading : Edition → ℕ → List ℕ → (List Record → Outcome) → Outcome
+unfoldable pub reading : (E : Edition) (N : ℕ) (plan : List ℕ) (go : List Record → Outcome) → Outcome
 reading E N plan go = byOutcome (checking E N plan) Refused (λ c. go (planOf (E .width) plan))
 
 -- inner: m records of a plan that opening does not refuse

@@ -16,5 +16,5 @@ planBy tight = doubledPlan
 planBy every = everyRotationPlan
 
 -- no line over 65,535 and room for the records of the rule asked for: then a plan that covers, of at most 2N records and a total of at most 2T - 1
-abbrev pub PlansDoubled : Rule → Edition → ℕ → List ℕ → List ℕ → Outcome → List ℕ → Type 0
+abbrev pub PlansDoubled : (rule : Rule) (E : Edition) (N : ℕ) (d : List ℕ) → List ℕ → Outcome → List ℕ → Type 0
 PlansDoubled rule E N d = Plans E 65535 N d (planBy rule (E .width) N d) (Doubled N d)

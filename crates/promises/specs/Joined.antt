@@ -25,10 +25,10 @@ pub record JoinOf (p q : List Record) : Type 0 where
   pub cuts : q ≡ cut (sums p)
 
 -- the plan that is joined of a plan's bytes, and the part of a buffer that c records take
-abbrev pub joinedOf : Edition → List ℕ → List Record
+abbrev pub joinedOf : (E : Edition) (plan : List ℕ) → List Record
 joinedOf E plan = joinPlan (planOf (E .width) plan)
 
-abbrev pub part : Edition → Counts → List ℕ → List ℕ
+abbrev pub part : (E : Edition) (c : Counts) (b : List ℕ) → List ℕ
 part E c b = take (c .records * (E .width + 4)) b
 
 -- the answer r, and the second buffer afterwards

@@ -20,7 +20,7 @@ abbrev pub exactGiven : Edition → (N : ℕ) (d buf : List ℕ) → Result
 exactGiven E N d buf = planned E N d (exactPlan (E .width) N d) buf
 
 -- as many records, and T, total and empty slots multiplied by k
-abbrev pub largerCounts : ℕ → Counts → Counts
+abbrev pub largerCounts : (k : ℕ) (c : Counts) → Counts
 largerCounts k c = demandCounts (c .records) (c .longest * k) (c .total * k) (c .empty * k)
 
 -- an outcome is done where it was done, and refused as it was refused: code 5 at the same place

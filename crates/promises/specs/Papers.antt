@@ -28,7 +28,7 @@ give (quick N d) = plan (quickPlan 64 N d)
 give (wish bits) = slots (codeOf (wishBits bits)) (slotsOf (wishBits bits))
 
 -- hold:outputs, the outputs past those named being idle
-unfoldable pub rec : ℕ → List ℕ → Record
+unfoldable pub rec : (hold : ℕ) (outputs : List ℕ) → Record
 rec hold outputs = record { hold = hold; outputs = outputs ++ replicate (64 - length outputs) 255 }
 
 -- a dash in §15

@@ -56,14 +56,14 @@ pub data Why (E : Edition) (most N : ℕ) (d : List ℕ) (p : List Record) (buf 
   no-room : Fair E most N d → whole (E .width) buf < length p → Why E most N d p buf (Room (length p))
 
 -- the bytes of the records that an answer counts
-abbrev pub counted : Edition → Outcome → ℕ
+abbrev pub counted : (E : Edition) (r : Outcome) → ℕ
 counted E r = countsOf r .records * (E .width + 4)
 
 -- the part of the buffer that an answer speaks of, and its records as every reader reads them
-abbrev pub partOf : Edition → Outcome → List ℕ → List ℕ
+abbrev pub partOf : (E : Edition) (r : Outcome) (after : List ℕ) → List ℕ
 partOf E r after = take (counted E r) after
 
-abbrev pub planIn : Edition → Outcome → List ℕ → List Record
+abbrev pub planIn : (E : Edition) (r : Outcome) (after : List ℕ) → List Record
 planIn E r after = planOf (E .width) (partOf E r after)
 
 -- what code 0 brings: the records read back are a plan that is worth what `Worth` says, the answer's counts are that plan's own beside the

@@ -19,7 +19,7 @@ use Rattle.rescue.specs.declared.Answer.{Answer}
 use Rattle.rescue.specs.Rescue.{rescuing, Saves}
 
 -- what is lent as bytes holds bytes
-abbrev pub Octets : List ℕ → Type 0
+abbrev pub Octets : (s : List ℕ) → Type 0
 Octets s = (i : ℕ) → getD s i 0 < 256
 
 -- the list `all` tells of the records of a plan that are not well formed, in order, and of no others; a torn tail comes last

@@ -41,7 +41,7 @@ numberOf Doubled N T = doubledRoom N
 numberOf Quick N T = quickRoom T
 
 -- once a call says for N and T how many records suffice, a buffer of so many whole records is never too small for a demand whose lines sum to T at most
-abbrev pub Suffices : Method → Edition → Type 0
+abbrev pub Suffices : (m : Method) (E : Edition) → Type 0
 Suffices m E = (N T : ℕ) (c : Counts) → roomed E (plannerOf m) N T ≡ Done c → (d buf : List ℕ) → longest N (cell N d) ≤ T
     → c .records ≤ whole (E .width) buf → codeOf (resultOf m E N d buf .outcome) ≡ 5 → ⊥
 

@@ -21,7 +21,7 @@ use Rattle.tasks.specs.Read.{Accepts, fine, reading}
 use Rattle.promises.specs.Planner.{Fair, Fault}
 
 -- how many pairs have slots
-abbrev pub asking : ℕ → List ℕ → ℕ
+abbrev pub asking : (N : ℕ) (d : List ℕ) → ℕ
 asking N d = sum N (row N (λ i j. pairs (cell N d i j)))
 
 -- a demand that is taken, and a buffer with room for a record for each pair with slots
@@ -46,10 +46,10 @@ pub record Shops (N s : ℕ) (d : List ℕ) (p : List Task) : Type 0 where
   pub soon : (q : List Task) → Schedule N (timed s (cell N d)) q → latest p ≤ 2 * latest q - 1
 
 -- the part of the buffer that an answer speaks of, and its tasks
-abbrev pub taskPart : Outcome → List ℕ → List ℕ
+abbrev pub taskPart : (r : Outcome) (after : List ℕ) → List ℕ
 taskPart r after = take (countsOf r .records * 12) after
 
-abbrev pub tasksIn : Outcome → List ℕ → List Task
+abbrev pub tasksIn : (r : Outcome) (after : List ℕ) → List Task
 tasksIn r after = tasksOf (taskPart r after)
 
 -- what code 0 brings: the tasks written are worth that, the counts are theirs, the reader passes them with the same answer, and no byte behind

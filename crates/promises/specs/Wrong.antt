@@ -20,7 +20,7 @@ pub record Modest (N : ℕ) (d : List ℕ) (p : List Record) : Type 0 where
   pub short : total p ≤ 2 * longest N (cell N d) - 1
 
 -- all N rotations, each held for T
-abbrev pub allRotations : ℕ → ℕ → ℕ → List Record
+abbrev pub allRotations : (W N T : ℕ) → List Record
 allRotations W N T = turns W (rotate N) (λ _. T) N 0
 
 -- the first setting is held for T, and the rest grant nothing that is asked

@@ -32,7 +32,7 @@ pub record Lent (E : Edition) (w lows highs out : List ℕ) : Type 0 where
   pub wide : length out ≡ E .width
 
 -- the working copy has the demand's cells
-abbrev pub Copied : ℕ → List ℕ → List ℕ → Type 0
+abbrev pub Copied : (N : ℕ) (d w : List ℕ) → Type 0
 Copied N d w = (i j : ℕ) → i < N → j < N → cell N w i j ≡ cell N d i j
 
 -- the demand is checked, and where nothing refuses it by itself it is copied in
@@ -54,7 +54,7 @@ pub record ShortOf (W N : ℕ) (d plan plan' w' : List ℕ) (need : ℕ) : Type 
   pub copied : need ≡ 0 → Copied N d w'
 
 -- the plan with a string laid over it from a place on, where that is to be written
-unfoldable pub laidIf : Bool → List ℕ → ℕ → List ℕ → List ℕ
+unfoldable pub laidIf : (writes : Bool) (plan : List ℕ) (at : ℕ) (s : List ℕ) → List ℕ
 laidIf writes plan at s = cond writes (laid plan at s) plan
 
 -- one record of hold 1 is laid where it is to be written, and the next one goes behind it

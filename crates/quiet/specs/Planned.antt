@@ -13,10 +13,10 @@ use Rattle.planner.specs.Planned.{roomFor, afterCheck}
 use Rattle.quiet_rule.specs.Quiet.{quietPlan}
 
 -- the plan p of a demand d, where the room decides
-abbrev pub decides : Edition → ℕ → List ℕ → ℕ → List Record → List ℕ → Result
+abbrev pub decides : (E : Edition) (N : ℕ) (d : List ℕ) (T : ℕ) (p : List Record) (buf : List ℕ) → Result
 decides E N d T p buf = roomFor E N T (emptySlots N (cell N d) p) p buf
 
 -- a planner's refusals 1, 2, 3 and 5, and between 3 and 5 code 17: a limit of 0
-unfoldable pub quietPlanned : Edition → ℕ → List ℕ → ℕ → List ℕ → Result
+unfoldable pub quietPlanned : (E : Edition) (N : ℕ) (d : List ℕ) (L : ℕ) (buf : List ℕ) → Result
 quietPlanned E N d L buf =
     afterCheck (checkDemand (E .width) N d) (λ T. unless (ltb 0 L) (refuses Limit buf) (decides E N d T (quietPlan (E .width) N L d) buf)) buf

@@ -40,7 +40,7 @@ pub record Ready (N L : ℕ) (w lows highs : List ℕ) : Type 0 where
   pub few : N ≤ 64
 
 -- the records still to come of what is left in the working copy
-abbrev pub leftover : ℕ → ℕ → List ℕ → List Record
+abbrev pub leftover : (N L : ℕ) (w : List ℕ) → List Record
 leftover N L w = quietFrom 64 N L (cell N w)
 
 -- the next record was taken off: what was still to come is this record and what is still to come; and a hold of 0 says that there was none

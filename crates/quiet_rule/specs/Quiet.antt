@@ -16,7 +16,7 @@ use Rattle.quiet_rule.specs.Limit.{lit}
 -- ---- the setting
 
 -- input i may take output j: it is free, with slots left for that pair, and fewer than L inputs use its wavelength so far
-unfoldable pub mayWithin : ℕ → ℕ → (ℕ → ℕ → ℕ) → Slot → ℕ → ℕ → Bool
+unfoldable pub mayWithin : (N L : ℕ) (M : ℕ → ℕ → ℕ) (x : Slot) (i j : ℕ) → Bool
 mayWithin N L M x i j = may M (x .taken) i j && ltb (lit N (x .outputs) (wavelength N i j)) L
 
 -- the first v inputs, in order: each takes the lowest output that it may, or is idle
@@ -25,7 +25,7 @@ served N L M zero = record { outputs = λ _. 255; taken = λ _. false }
 served N L M (suc v) = let x = served N L M v in seat x v (lowest N 0 (mayWithin N L M x v))
 
 -- all N inputs visited
-unfoldable pub quietSetting : ℕ → ℕ → (ℕ → ℕ → ℕ) → ℕ → ℕ
+unfoldable pub quietSetting : (N L : ℕ) (M : ℕ → ℕ → ℕ) → ℕ → ℕ
 quietSetting N L M = served N L M N .outputs
 
 -- ---- its hold
@@ -42,25 +42,25 @@ smallest zero f = 0
 smallest (suc n) f = lesser (smallest n f) (f n)
 
 -- the cell of the pair that joins input i, and 0 where it is idle
-unfoldable pub joinedCell : ℕ → (ℕ → ℕ → ℕ) → (ℕ → ℕ) → ℕ → ℕ
+unfoldable pub joinedCell : (N : ℕ) (M : ℕ → ℕ → ℕ) (o : ℕ → ℕ) (i : ℕ) → ℕ
 joinedCell N M o i = cond (ltb (o i) N) (M i (o i)) 0
 
 -- the hold: the smallest cell among the joined pairs
-unfoldable pub quietHold : ℕ → ℕ → (ℕ → ℕ → ℕ) → ℕ
+unfoldable pub quietHold : (N L : ℕ) (M : ℕ → ℕ → ℕ) → ℕ
 quietHold N L M = smallest N (joinedCell N M (quietSetting N L M))
 
 -- ---- the plan
 
 -- how many cells are not zero
-unfoldable pub pairs : ℕ → (ℕ → ℕ → ℕ) → ℕ
+unfoldable pub pairs : (N : ℕ) (M : ℕ → ℕ → ℕ) → ℕ
 pairs N M = sum N (λ i. count N (λ j. ltb 0 (M i j)))
 
 -- the record, W outputs wide
-unfoldable pub quietRecord : ℕ → ℕ → ℕ → (ℕ → ℕ → ℕ) → Record
+unfoldable pub quietRecord : (W N L : ℕ) (M : ℕ → ℕ → ℕ) → Record
 quietRecord W N L M = record { hold = quietHold N L M; outputs = tab W 0 (quietSetting N L M) }
 
 -- what is left once it is subtracted
-unfoldable pub quietRest : ℕ → ℕ → (ℕ → ℕ → ℕ) → ℕ → ℕ → ℕ
+unfoldable pub quietRest : (N L : ℕ) (M : ℕ → ℕ → ℕ) → ℕ → ℕ → ℕ
 quietRest N L M = peel (quietHold N L M) (quietSetting N L M) M
 
 -- the records while a cell is not zero, at most k of them
@@ -69,9 +69,9 @@ quiets W zero N L M = []
 quiets W (suc k) N L M = cond (eqb (pairs N M) 0) [] (quietRecord W N L M ∷ quiets W k N L (quietRest N L M))
 
 -- all of them: as many records as there are non-zero cells are enough, since each empties one at least
-unfoldable pub quietFrom : ℕ → ℕ → ℕ → (ℕ → ℕ → ℕ) → List Record
+unfoldable pub quietFrom : (W N L : ℕ) (M : ℕ → ℕ → ℕ) → List Record
 quietFrom W N L M = quiets W (pairs N M) N L M
 
 -- the quiet plan of demand d within limit L
-unfoldable pub quietPlan : ℕ → ℕ → ℕ → List ℕ → List Record
+unfoldable pub quietPlan : (W N L : ℕ) (d : List ℕ) → List Record
 quietPlan W N L d = quietFrom W N L (cell N d)

@@ -21,7 +21,7 @@ pub record Around (N l r : ℕ) : Type 0 where
   pub turns : (j : ℕ) → j < N → digit r j ≡ digit l ((j + (N - 1)) % N)
 
 -- 1 where output j is in the label of input i, and 0 elsewhere: a demand of the pairs with slots left
-unfoldable pub asks : List ℕ → ℕ → ℕ → ℕ
+unfoldable pub asks : (lows : List ℕ) (i j : ℕ) → ℕ
 asks lows i j = digit (getD lows i 0) j
 
 -- a label of outputs for each of N inputs, in one word

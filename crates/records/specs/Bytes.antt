@@ -6,15 +6,15 @@ use Rattle.switch.specs.Plan.{Record}
 use Rattle.records.specs.Record.{decoded}
 
 -- a record's bytes: hold in two bytes, low first; N; the edition's byte; the outputs
-abbrev pub encode : ℕ → ℕ → ℕ → List ℕ → List ℕ
+abbrev pub encode : (e hold N : ℕ) (outputs : List ℕ) → List ℕ
 encode e hold N outputs = hold % 256 ∷ hold / 256 ∷ N ∷ e ∷ outputs
 
 -- record k of a plan; records are counted from 0
-abbrev pub recordAt : ℕ → List ℕ → ℕ → List ℕ
+abbrev pub recordAt : (W : ℕ) (plan : List ℕ) (k : ℕ) → List ℕ
 recordAt W plan k = take (W + 4) (drop (k * (W + 4)) plan)
 
 -- how many whole records a plan's bytes have
-abbrev pub whole : ℕ → List ℕ → ℕ
+abbrev pub whole : (W : ℕ) (plan : List ℕ) → ℕ
 whole W plan = length plan / (W + 4)
 
 -- m records of a plan from record k on
@@ -23,7 +23,7 @@ planFrom W plan k zero = []
 planFrom W plan k (suc m) = decoded (recordAt W plan k) ∷ planFrom W plan (suc k) m
 
 -- the records of a plan, in their order
-abbrev pub planOf : ℕ → List ℕ → List Record
+abbrev pub planOf : (W : ℕ) (plan : List ℕ) → List Record
 planOf W plan = planFrom W plan 0 (whole W plan)
 
 -- the bytes of a plan
@@ -32,5 +32,5 @@ bytes e N [] = []
 bytes e N (r ∷ p) = encode e (r .hold) N (r .outputs) ++ bytes e N p
 
 -- d with s laid over it from at on
-unfoldable pub laid : List ℕ → ℕ → List ℕ → List ℕ
+unfoldable pub laid : (d : List ℕ) (at : ℕ) (s : List ℕ) → List ℕ
 laid d at s = take at d ++ s ++ drop (at + length s) d

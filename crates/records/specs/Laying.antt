@@ -7,7 +7,7 @@ use lib.ListN.{length}
 use Rattle.records.specs.Bytes.{encode, laid}
 
 -- the plan with a string laid over it from a place on, where that is to be written
-unfoldable pub laidIf : Bool → List ℕ → ℕ → List ℕ → List ℕ
+unfoldable pub laidIf : (writes : Bool) (plan : List ℕ) (at : ℕ) (s : List ℕ) → List ℕ
 laidIf writes plan at s = cond writes (laid plan at s) plan
 
 -- one record is laid where it is to be written, and the next one goes behind it

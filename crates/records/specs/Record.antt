@@ -19,39 +19,39 @@ any zero p = false
 any (suc n) p = any n p || p n
 
 -- hold in two bytes, low first
-abbrev pub hold : List ℕ → ℕ
+abbrev pub hold : (b : List ℕ) → ℕ
 hold b = getD b 0 0 + 256 * getD b 1 0
 
 -- the output of input i stands i bytes behind the head of four
-abbrev pub outputs : List ℕ → List ℕ
+abbrev pub outputs : (b : List ℕ) → List ℕ
 outputs b = drop 4 b
 
 -- 255 for idle
-abbrev pub idle : List ℕ → ℕ → Bool
+abbrev pub idle : (o : List ℕ) (i : ℕ) → Bool
 idle o i = eqb (getD o i 0) 255
 
 -- the outputs of the N inputs are ports or idle
-unfoldable pub inside : ℕ → List ℕ → ℕ → Bool
+unfoldable pub inside : (N : ℕ) (o : List ℕ) (i : ℕ) → Bool
 inside N o i = ltb (getD o i 0) N || idle o i
 
 -- no output twice, but for 255
-unfoldable pub new : List ℕ → ℕ → Bool
+unfoldable pub new : (o : List ℕ) (i : ℕ) → Bool
 new o i = idle o i || not (any i (λ j. eqb (getD o j 0) (getD o i 0)))
 
 -- what stands behind them is idle
-unfoldable pub later : ℕ → List ℕ → ℕ → Bool
+unfoldable pub later : (N : ℕ) (o : List ℕ) (i : ℕ) → Bool
 later N o i = ltb i N || idle o i
 
 -- the outputs are fine where these three are so
-unfoldable pub outputsFine : ℕ → ℕ → List ℕ → Bool
+unfoldable pub outputsFine : (W N : ℕ) (o : List ℕ) → Bool
 outputsFine W N o = all N (inside N o) && all N (new o) && all W (later N o)
 
 -- well formed (§5.2): held at all, for this N, with the edition's byte in its place, and the outputs fine
-unfoldable pub wellFormed : ℕ → ℕ → ℕ → List ℕ → Bool
+unfoldable pub wellFormed : (W e N : ℕ) (b : List ℕ) → Bool
 wellFormed W e N b = ltb 0 (hold b) && eqb (getD b 2 0) N && eqb (getD b 3 0) e && outputsFine W N (outputs b)
 
 -- a record's hold and outputs
-abbrev pub decoded : List ℕ → Record
+abbrev pub decoded : (b : List ℕ) → Record
 decoded b = record { hold = hold b; outputs = outputs b }
 
 -- the same in plain statements: the record's N and edition byte, and its hold and outputs sound

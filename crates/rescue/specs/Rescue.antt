@@ -33,7 +33,7 @@ pub record Saves (given : Saved) (r : Answer) (after listed : List ℕ) : Type 0
   pub list : listed ≡ given .list
 
 -- a refusal counts nothing
-abbrev pub refusal : Refusal → Answer
+abbrev pub refusal : (r : Refusal) → Answer
 refusal r = record { outcome = Refused r; added = 0; dropped = 0 }
 
 -- and changes no byte of either buffer

@@ -19,7 +19,7 @@ reasonOf W e N b = cond (ltb 0 (hold b)) (cond (eqb (getD b 2 0) N) (cond (eqb (
 -- ---- the same in plain statements
 
 -- the output of input i in a record's bytes
-abbrev pub outputAt : List ℕ → ℕ → ℕ
+abbrev pub outputAt : (b : List ℕ) (i : ℕ) → ℕ
 outputAt b i = getD (outputs b) i 0
 
 -- none of the reasons 1, 2 and 3
@@ -29,11 +29,11 @@ pub record Headed (e N : ℕ) (b : List ℕ) : Type 0 where
   pub edition : getD b 3 0 ≡ e
 
 -- not reason 4
-abbrev pub Ranged : ℕ → List ℕ → Type 0
+abbrev pub Ranged : (N : ℕ) (b : List ℕ) → Type 0
 Ranged N b = (i : ℕ) → i < N → (outputAt b i < N) ⊎ (outputAt b i ≡ 255)
 
 -- not reason 5; 255 may stand twice
-abbrev pub Once : ℕ → List ℕ → Type 0
+abbrev pub Once : (N : ℕ) (b : List ℕ) → Type 0
 Once N b = (i k : ℕ) → k < i → i < N → outputAt b i < N → outputAt b k ≡ outputAt b i → ⊥
 
 -- reason k is what its name says, and none before it applies

@@ -22,7 +22,7 @@ least zero f = f 0
 least (suc n) f = min (least n f) (f (suc n))
 
 -- the record of setting o, W outputs wide: its hold is the smallest cell it uses
-unfoldable pub recordOf : ℕ → ℕ → (ℕ → ℕ → ℕ) → (ℕ → ℕ) → Record
+unfoldable pub recordOf : (W N : ℕ) (M : ℕ → ℕ → ℕ) (o : ℕ → ℕ) → Record
 recordOf W N M o = record { hold = least (N - 1) (λ i. M i (o i)); outputs = tab W 0 o }
 
 -- the records of M, at most k of them: take the first setting, subtract it for its hold, and repeat while there is one
@@ -31,11 +31,11 @@ peels W zero N M = []
 peels W (suc k) N M = elim (firstSetting N M) [ none ↦ [] | some o ↦ recordOf W N M o ∷ peels W k N (peel (recordOf W N M o .hold) o M) ]
 
 -- all of them: a line's sum of records is enough, since each takes at least 1 of it
-unfoldable pub exactFrom : ℕ → ℕ → (ℕ → ℕ → ℕ) → List Record
+unfoldable pub exactFrom : (W N : ℕ) (M : ℕ → ℕ → ℕ) → List Record
 exactFrom W N M = peels W (row N M 0) N M
 
 -- the exact plan of demand d
-unfoldable pub exactPlan : ℕ → ℕ → List ℕ → List Record
+unfoldable pub exactPlan : (W N : ℕ) (d : List ℕ) → List Record
 exactPlan W N d = exactFrom W N (filled N d)
 
 -- what the exact plan is worth: it covers the demand; its total hold is T; no plan that covers, of however many settings, full or with idle

@@ -4,7 +4,7 @@ use Prim.Native.Nat.{ℕ, _<_}
 use Rattle.switch.specs.Plan.{Full}
 
 -- the pairs whose cell is not zero
-abbrev pub NonZero : (ℕ → ℕ → ℕ) → ℕ → ℕ → Type 0
+abbrev pub NonZero : (M : ℕ → ℕ → ℕ) (i j : ℕ) → Type 0
 NonZero M i j = 0 < M i j
 
 -- o is a full setting that uses only pairs of E
@@ -13,7 +13,7 @@ pub record Fits (N : ℕ) (E : ℕ → ℕ → Type 0) (o : ℕ → ℕ) : Type 
   pub used : (i : ℕ) → i < N → E i (o i)
 
 -- o and p agree at the inputs below k
-abbrev pub Agree : ℕ → (ℕ → ℕ) → (ℕ → ℕ) → Type 0
+abbrev pub Agree : (k : ℕ) (o p : ℕ → ℕ) → Type 0
 Agree k o p = (i : ℕ) → i < k → o i ≡ p i
 
 -- o comes before p in dictionary order: at the first input where they differ, o has the lower output

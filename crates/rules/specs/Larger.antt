@@ -7,7 +7,7 @@ use Rattle.rules.specs.Exact.{exactPlan}
 use Rattle.rules.specs.Doubled.{stretch}
 
 -- every cell multiplied by k
-unfoldable pub multiplied : ℕ → List ℕ → List ℕ
+unfoldable pub multiplied : (k : ℕ) (d : List ℕ) → List ℕ
 multiplied k d = map (λ x. x * k) d
 
 -- for every k of at least 1 the exact plan keeps its settings and their order, and each hold is multiplied by k

@@ -11,7 +11,7 @@ use Rattle.switch.specs.Plan.{Record, output}
 use Rattle.rules.specs.First.{NonZero, First}
 
 -- setting o, held for h, subtracted
-unfoldable pub peel : ℕ → (ℕ → ℕ) → (ℕ → ℕ → ℕ) → ℕ → ℕ → ℕ
+unfoldable pub peel : (h : ℕ) (o : ℕ → ℕ) (M : ℕ → ℕ → ℕ) (i j : ℕ) → ℕ
 peel h o M i j = M i j - h * δ (o i) j
 
 -- inner: the same on a list of cells, input by input: those below k that are joined have given up h each
@@ -20,7 +20,7 @@ peelTo N h o d zero = d
 peelTo N h o d (suc k) = let e = peelTo N h o d k in cond (ltb (o k) N) (set e (k * N + o k) (cell N e k (o k) - h)) e
 
 -- all is zero
-abbrev pub Clear : ℕ → (ℕ → ℕ → ℕ) → Type 0
+abbrev pub Clear : (N : ℕ) (M : ℕ → ℕ → ℕ) → Type 0
 Clear N M = (i j : ℕ) → i < N → j < N → M i j ≡ 0
 
 -- h is the smallest cell that o uses

@@ -24,11 +24,11 @@ pub record Slot : Type 0 where
   pub taken : ℕ → Bool
 
 -- input i may take output j: it is free, with slots left for that pair
-unfoldable pub may : (ℕ → ℕ → ℕ) → (ℕ → Bool) → ℕ → ℕ → Bool
+unfoldable pub may : (M : ℕ → ℕ → ℕ) (taken : ℕ → Bool) (i j : ℕ) → Bool
 may M taken i j = ltb 0 (M i j) && not (taken j)
 
 -- input i takes output j, or is idle where j is 255
-unfoldable pub seat : Slot → ℕ → ℕ → Slot
+unfoldable pub seat : (x : Slot) (i j : ℕ) → Slot
 seat x i j = record { outputs = put (x .outputs) i j; taken = put (x .taken) j true }
 
 -- the first v visits of slot s: from input s mod N on and around, each takes the lowest output that it may (§8.1)
@@ -37,7 +37,7 @@ visits N M s zero = record { outputs = λ _. 255; taken = λ _. false }
 visits N M s (suc v) = let x = visits N M s v in let i = (v + s) % N in seat x i (lowest N 0 (may M (x .taken) i))
 
 -- the setting of slot s, all N inputs visited
-unfoldable pub slot : ℕ → (ℕ → ℕ → ℕ) → ℕ → ℕ → ℕ
+unfoldable pub slot : (N : ℕ) (M : ℕ → ℕ → ℕ) (s : ℕ) → ℕ → ℕ
 slot N M s = visits N M s N .outputs
 
 -- one record of hold 1 per slot, from slot s on and at most k of them, one slot of each joined pair subtracted, ending when nothing is left
@@ -47,11 +47,11 @@ slots W (suc k) N s M =
     cond (eqb (sum N (row N M)) 0) [] (record { hold = 1; outputs = tab W 0 (slot N M s) } ∷ slots W k N (suc s) (peel 1 (slot N M s) M))
 
 -- all of them: as many slots as are asked for are enough, since each serves one at least
-unfoldable pub quickFrom : ℕ → ℕ → ℕ → (ℕ → ℕ → ℕ) → List Record
+unfoldable pub quickFrom : (W N s : ℕ) (M : ℕ → ℕ → ℕ) → List Record
 quickFrom W N s M = slots W (sum N (row N M)) N s M
 
 -- the quick cover of demand d: for slot s = 0, 1, ..
-unfoldable pub quickPlan : ℕ → ℕ → List ℕ → List Record
+unfoldable pub quickPlan : (W N : ℕ) (d : List ℕ) → List Record
 quickPlan W N d = quickFrom W N 0 (cell N d)
 
 -- what the quick cover is worth: it covers the demand and grants no slot beyond it; each record is held for one slot; and there are T to

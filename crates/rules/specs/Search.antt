@@ -24,5 +24,5 @@ complete N M zero i o = some o
 complete N M (suc k) i o = pick N 0 (λ j. cond (ltb 0 (M i j) && free i o j) (complete N M k (suc i) (put o i j)) none)
 
 -- of the full settings over cells that are not 0 the first in dictionary order, input 0 counting most (§6.3); idle past N
-unfoldable pub firstSetting : ℕ → (ℕ → ℕ → ℕ) → Option (ℕ → ℕ)
+unfoldable pub firstSetting : (N : ℕ) (M : ℕ → ℕ → ℕ) → Option (ℕ → ℕ)
 firstSetting N M = complete N M N 0 (λ _. 255)

@@ -13,15 +13,15 @@ use Rattle.search.specs.declared.Asked.the-variants.{Freed, Stuck}
 use Rattle.search.specs.Tables.{triedOf, Held, Holds, joined, Matching}
 
 -- every output that input i may take is in u
-abbrev pub Shut : (ℕ → ℕ → Type 0) → ℕ → ℕ → Type 0
+abbrev pub Shut : (E : ℕ → ℕ → Type 0) (u i : ℕ) → Type 0
 Shut E u i = (k : ℕ) → E i k → In u k
 
 -- output j is held by an input that has nowhere to go but u
-abbrev pub Stays : (ℕ → ℕ → Type 0) → List ℕ → ℕ → ℕ → Type 0
+abbrev pub Stays : (E : ℕ → ℕ → Type 0) (by : List ℕ) (u j : ℕ) → Type 0
 Stays E by u j = (i : ℕ) × Held by j i × Shut E u i
 
 -- every output of u was tried before, or its holder has nowhere to go but u
-abbrev pub Closed : (ℕ → ℕ → Type 0) → List ℕ → ℕ → ℕ → Type 0
+abbrev pub Closed : (E : ℕ → ℕ → Type 0) (by : List ℕ) (t u : ℕ) → Type 0
 Closed E by t u = (j : ℕ) → In u j → In t j ⊎ Stays E by u j
 
 -- the holders of w outputs are among n inputs
@@ -55,7 +55,7 @@ Leads E by wave Nothing r = Further E by wave r
 -- ---- handing on
 
 -- the holder of an output of the wave may take the wanted one
-abbrev pub Mover : (ℕ → ℕ → Type 0) → List ℕ → ℕ → ℕ → ℕ → Type 0
+abbrev pub Mover : (E : ℕ → ℕ → Type 0) (by : List ℕ) (wave wanted j : ℕ) → Type 0
 Mover E by wave wanted j = In wave j × ((i : ℕ) × Held by j i × E i wanted)
 
 -- the outputs of the wave are held, and one of them has such a holder
@@ -76,11 +76,11 @@ pub record Handed (E : ℕ → ℕ → Type 0) (by out : List ℕ) (wave wanted 
 -- ---- asking
 
 -- an output that is not among `held` is free
-abbrev pub Free : ℕ → List ℕ → ℕ → Type 0
+abbrev pub Free : (w : ℕ) (by : List ℕ) (held : ℕ) → Type 0
 Free w by held = (k : ℕ) → k < w → (In held k → ⊥) → getD by k 0 ≡ 0
 
 -- and not tried, so that it can be taken at once
-abbrev pub Spare : ℕ → List ℕ → ℕ → ℕ → Type 0
+abbrev pub Spare : (w : ℕ) (by : List ℕ) (t held : ℕ) → Type 0
 Spare w by t held = (k : ℕ) → k < w → (In held k → ⊥) → (getD by k 0 ≡ 0) × (In t k → ⊥)
 
 -- what inputs may ask with

@@ -9,11 +9,11 @@ use Rattle.labels.specs.Rows.{rowOf}
 use Rattle.search.specs.declared.Tried.{Tried}
 
 -- the set of outputs already tried
-abbrev pub triedOf : Tried → ℕ
+abbrev pub triedOf : (t : Tried) → ℕ
 triedOf t = outputsOf (t .outputs)
 
 -- input i may take output j: it is in the label of that input
-abbrev pub Allowed : List ℕ → List ℕ → ℕ → ℕ → Type 0
+abbrev pub Allowed : (lows highs : List ℕ) (i j : ℕ) → Type 0
 Allowed lows highs i j = In (rowOf lows highs i) j
 
 -- a label for each input, and no more inputs than the tables have places
@@ -22,15 +22,15 @@ pub record Rows (w : ℕ) (lows highs : List ℕ) : Type 0 where
   pub few : length lows ≤ w
 
 -- input i holds output j: the holders have i + 1 there, and 0 where nobody holds
-abbrev pub Held : List ℕ → ℕ → ℕ → Type 0
+abbrev pub Held : (by : List ℕ) (j i : ℕ) → Type 0
 Held by j i = getD by j 0 ≡ i + 1
 
 -- input i holds an output
-abbrev pub Holds : List ℕ → ℕ → Type 0
+abbrev pub Holds : (by : List ℕ) (i : ℕ) → Type 0
 Holds by i = (j : ℕ) × Held by j i
 
 -- the setting that the outputs by input tell
-abbrev pub joined : List ℕ → ℕ → ℕ
+abbrev pub joined : (out : List ℕ) (i : ℕ) → ℕ
 joined out i = getD out i 255
 
 -- who holds an output is one of n inputs, may take it, and has it by input: so no input holds two

@@ -8,19 +8,19 @@ use Rattle.sets.specs.declared.Found.{Found}
 use Rattle.sets.specs.declared.Found.the-variants.{At, Nothing}
 
 -- binary digit j of l
-unfoldable pub digit : ℕ → ℕ → ℕ
+unfoldable pub digit : (l j : ℕ) → ℕ
 digit l j = l / 2 ^ j % 2
 
 -- j is in the set l
-abbrev pub In : ℕ → ℕ → Type 0
+abbrev pub In : (l j : ℕ) → Type 0
 In l j = digit l j ≡ 1
 
 -- the same as a test
-abbrev pub isIn : ℕ → ℕ → Bool
+abbrev pub isIn : (l j : ℕ) → Bool
 isIn l j = eqb (digit l j) 1
 
 -- every number of l is in m
-abbrev pub Sub : ℕ → ℕ → Type 0
+abbrev pub Sub : (l m : ℕ) → Type 0
 Sub l m = (k : ℕ) → In l k → In m k
 
 -- r is l and j besides

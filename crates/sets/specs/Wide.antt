@@ -3,9 +3,9 @@ use Prim.Native.Nat.{ℕ, _+_, _*_, _^_}
 use Rattle.sets.specs.declared.Wide.{Wide}
 
 -- two words as one number
-unfoldable pub two : ℕ → ℕ → ℕ
+unfoldable pub two : (high low : ℕ) → ℕ
 two high low = high * 2 ^ 64 + low
 
 -- the set of a label of two words
-abbrev pub numbersOf : Wide → ℕ
+abbrev pub numbersOf : (w : Wide) → ℕ
 numbersOf w = two (w .high .0) (w .low .0)

@@ -5,7 +5,7 @@ use Rattle.labels.specs.declared.FoundInput.the-variants.{At, Nothing}
 use Rattle.sets.specs.Label.{In}
 use Rattle.shop.specs.declared.InputSet.{InputSet}
 
-abbrev pub numbersOf : InputSet → ℕ
+abbrev pub numbersOf : (s : InputSet) → ℕ
 numbersOf s = s .0 .0
 
 -- i is the lowest that l and m have both

@@ -15,13 +15,13 @@ use Rattle.shop_rule.specs.Shop.{shopPlan}
 use Rattle.tasks.specs.Bytes.{bytes}
 
 -- the plan at the buffer's start, and nothing else touched; its tasks, and its latest end as total (§21.6)
-unfoldable pub writes : List Task → List ℕ → Result
+unfoldable pub writes : (p : List Task) (buf : List ℕ) → Result
 writes p buf = record { outcome = Done (planCounts (length p) 0 (latest p)); bytes = laid buf 0 (bytes p) }
 
 -- code 5: there is room for fewer whole records than the plan has tasks
-unfoldable pub roomFor : List Task → List ℕ → Result
+unfoldable pub roomFor : (p : List Task) (buf : List ℕ) → Result
 roomFor p buf = unless (leb (length p) (length buf / 12)) (refuses (Room (length p)) buf) (writes p buf)
 
 -- the open-shop plan of demand d with switching time s: codes 1, 2, 3, then 5
-unfoldable pub shopped : ℕ → ℕ → List ℕ → List ℕ → Result
+unfoldable pub shopped : (N s : ℕ) (d buf : List ℕ) → Result
 shopped N s d buf = afterCheck (checkDemand 64 N d) (λ T. roomFor (shopPlan N s d) buf) buf

@@ -13,15 +13,15 @@ use Rattle.rules.specs.Quick.{lowest}
 use Rattle.shop_rule.specs.Task.{Task}
 
 -- a pair of c slots is one task, or none where c is 0
-unfoldable pub pairs : ℕ → ℕ
+unfoldable pub pairs : (c : ℕ) → ℕ
 pairs c = ind (ltb 0 c)
 
 -- how long it lasts, s being the switching time
-unfoldable pub lasting : ℕ → ℕ → ℕ
+unfoldable pub lasting : (s c : ℕ) → ℕ
 lasting s c = cond (ltb 0 c) (s + c) 0
 
 -- the task times of the pairs of M; a port's load is their sum over its line
-abbrev pub timed : ℕ → (ℕ → ℕ → ℕ) → ℕ → ℕ → ℕ
+abbrev pub timed : (s : ℕ) (M : ℕ → ℕ → ℕ) (i j : ℕ) → ℕ
 timed s M i j = lasting s (M i j)
 
 -- a task of a pair of M with slots, as long as they take with one switching, over within the task times of its ports, its own counted once
@@ -40,11 +40,11 @@ pub record Shop : Type 0 where
   pub begun : List Task
 
 -- at time t input i is idle, with an unstarted task for output j
-unfoldable pub ready : ℕ → Shop → ℕ → ℕ → Bool
+unfoldable pub ready : (t : ℕ) (x : Shop) (j i : ℕ) → Bool
 ready t x j i = ltb 0 (x .left i j) && leb (x .ins i) t
 
 -- input i and output j start their task at time t
-unfoldable pub begin : ℕ → ℕ → Shop → ℕ → ℕ → Shop
+unfoldable pub begin : (s t : ℕ) (x : Shop) (i j : ℕ) → Shop
 begin s t x i j = record {
   left = put (x .left) i (put (x .left i) j 0);
   ins = put (x .ins) i (t + (s + x .left i j));
@@ -53,11 +53,11 @@ begin s t x i j = record {
 }
 
 -- output j takes input i, or none where i is no port
-unfoldable pub take : ℕ → ℕ → ℕ → Shop → ℕ → ℕ → Shop
+unfoldable pub take : (N s t : ℕ) (x : Shop) (j i : ℕ) → Shop
 take N s t x j i = cond (ltb i N) (begin s t x i j) x
 
 -- output j's turn at time t: if it is idle, it takes the lowest input that is ready for it
-unfoldable pub turn : ℕ → ℕ → ℕ → Shop → ℕ → Shop
+unfoldable pub turn : (N s t : ℕ) (x : Shop) (j : ℕ) → Shop
 turn N s t x j = cond (leb (x .outs j) t) (take N s t x j (lowest N 0 (ready t x j))) x
 
 -- the turns of outputs 0 .. v - 1
@@ -66,7 +66,7 @@ turns N s t x zero = x
 turns N s t x (suc v) = turn N s t (turns N s t x v) v
 
 -- the sooner of two finishes m and e of which only those after t count; t stands for none
-unfoldable pub sooner : ℕ → ℕ → ℕ → ℕ
+unfoldable pub sooner : (t m e : ℕ) → ℕ
 sooner t m e = cond (ltb t e) (cond (ltb t m) (cond (ltb e m) e m) e) m
 
 -- the first of f 0 .. f (n - 1) that is after t, or t
@@ -82,9 +82,9 @@ moments (suc k) N s t x =
     cond (ltb t (next N t (y .outs))) (moments k N s (next N t (y .outs)) y) y
 
 -- nothing is started, and every port is idle
-unfoldable pub closed : (ℕ → ℕ → ℕ) → Shop
+unfoldable pub closed : (M : ℕ → ℕ → ℕ) → Shop
 closed M = record { left = M; ins = λ _. 0; outs = λ _. 0; begun = [] }
 
 -- the plan of demand d: time 0 and a finish for each of N² pairs are enough moments
-unfoldable pub shopPlan : ℕ → ℕ → List ℕ → List Task
+unfoldable pub shopPlan : (N s : ℕ) (d : List ℕ) → List Task
 shopPlan N s d = moments (suc (N * N)) N s 0 (closed (cell N d)) .begun

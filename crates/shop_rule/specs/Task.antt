@@ -22,7 +22,7 @@ pub data Ordered (R : Task → Task → Type 0) : List Task → Type 0 where
   before : {x : Task} {p : List Task} → Each (R x) p → Ordered R p → Ordered R (x ∷ p)
 
 -- y starts after x, or with it at a higher output
-abbrev pub Rises : Task → Task → Type 0
+abbrev pub Rises : (x y : Task) → Type 0
 Rises x y = (x .start < y .start) ⊎ ((x .start ≡ y .start) × (x .output < y .output))
 
 -- x is over when y starts, if they share a port

@@ -19,11 +19,11 @@ use Rattle.board.specs.Level.{Sized}
 use Rattle.board.specs.Labelled.{Labelled}
 
 -- how many slots are left in all
-unfoldable pub leftIn : ℕ → List ℕ → ℕ
+unfoldable pub leftIn : (N : ℕ) (w : List ℕ) → ℕ
 leftIn N w = sum N (row N (cell N w))
 
 -- the records still to come, from slot s on, of what is left in the working copy
-unfoldable pub leftover : ℕ → ℕ → ℕ → List ℕ → List Record
+unfoldable pub leftover : (W N s : ℕ) (w : List ℕ) → List Record
 leftover W N s w = quickFrom W N s (cell N w)
 
 -- a working copy with its labels, and what is left of it to serve
@@ -40,11 +40,11 @@ pub record Seats (N : ℕ) (out : List ℕ) : Type 0 where
   pub idle : (i : ℕ) → N ≤ i → getD out i 255 ≡ 255
 
 -- an output is taken where it is not free
-abbrev pub takenOf : ℕ → ℕ → Bool
+abbrev pub takenOf : (free j : ℕ) → Bool
 takenOf free j = not (isIn free j)
 
 -- what input i takes on its turn, where some outputs are free: the lowest of them with slots left for that pair, 255 where there is none
-unfoldable pub turnOf : ℕ → List ℕ → ℕ → ℕ → ℕ
+unfoldable pub turnOf : (N : ℕ) (w : List ℕ) (free i : ℕ) → ℕ
 turnOf N w free i = lowest N 0 (may (cell N w) (takenOf free) i)
 
 -- input i has had its turn: what it takes stands among the outputs, one slot of that pair is subtracted, and the output is taken
@@ -55,7 +55,7 @@ pub record Turned (N i : ℕ) (w out : List ℕ) (turn : Turn) (w' lows' highs' 
   pub taken : (b : ℕ) → b < N → takenOf (outputsOf (turn' .free)) b ≡ put (takenOf (outputsOf (turn .free))) (turnOf N w (outputsOf (turn .free)) i) true b
 
 -- the inputs of l are of the switch, and idle so far
-abbrev pub Waiting : ℕ → ℕ → List ℕ → Type 0
+abbrev pub Waiting : (N l : ℕ) (out : List ℕ) → Type 0
 Waiting N l out = (i : ℕ) → In l i → (i < N) × (getD out i 255 ≡ 255)
 
 -- the inputs of l have had their turns, the lowest first

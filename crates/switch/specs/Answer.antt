@@ -108,7 +108,7 @@ countsOf (Done c) = c
 countsOf (Refused r) = noCounts
 
 -- inner: what a call answers on paper; what does not apply is 0
-abbrev pub numbersOf : Outcome → Numbers
+abbrev pub numbersOf : (o : Outcome) → Numbers
 numbersOf o = record { code = codeOf o; place = placeOf o; side = sideOf o; counts = countsOf o }
 
 -- the number of what a refusal is about; 0 where there is nothing to tell apart
@@ -122,9 +122,9 @@ aboutNumber about.Wished = 5
 aboutNumber about.Sum = 6
 
 -- what the planners and the checker count: records, T, total and empty slots (§9.2)
-abbrev pub demandCounts : ℕ → ℕ → ℕ → ℕ → Counts
+abbrev pub demandCounts : (records longest total empty : ℕ) → Counts
 demandCounts records longest total empty = record { records = records; longest = longest; total = total; length = 0; empty = empty }
 
 -- what a call counts that sets no plan against a demand: no empty slots (§9.4)
-abbrev pub planCounts : ℕ → ℕ → ℕ → Counts
+abbrev pub planCounts : (records longest total : ℕ) → Counts
 planCounts records longest total = demandCounts records longest total 0

@@ -4,5 +4,5 @@ use Prim.Native.Nat.{ℕ}
 use lib.Dec.{ltb, leb}
 
 -- N is 1 to most
-unfoldable pub portsFine : ℕ → ℕ → Bool
+unfoldable pub portsFine : (most N : ℕ) → Bool
 portsFine most N = ltb 0 N && leb N most

@@ -6,15 +6,15 @@ use Rattle.counting.specs.Matrix.{row}
 use Rattle.switch.specs.Plan.{Full, Record, output, grant}
 
 -- all slots that M asks, or grants: the sum of all cells
-unfoldable pub allSlots : ℕ → (ℕ → ℕ → ℕ) → ℕ
+unfoldable pub allSlots : (N : ℕ) (M : ℕ → ℕ → ℕ) → ℕ
 allSlots N M = sum N (row N M)
 
 -- over all pairs, granted (G) less asked (M), summed
-unfoldable pub beyond : ℕ → (ℕ → ℕ → ℕ) → (ℕ → ℕ → ℕ) → ℕ
+unfoldable pub beyond : (N : ℕ) (M G : ℕ → ℕ → ℕ) → ℕ
 beyond N M G = sum N (row N (λ i j. G i j - M i j))
 
 -- a plan's empty slots
-unfoldable pub emptySlots : ℕ → (ℕ → ℕ → ℕ) → List Record → ℕ
+unfoldable pub emptySlots : (N : ℕ) (M : ℕ → ℕ → ℕ) (p : List Record) → ℕ
 emptySlots N M p = beyond N M (grant p)
 
 -- every setting of the plan joins every input

@@ -20,7 +20,7 @@ pub record Record : Type 0 where
   pub outputs : List ℕ
 
 -- the output of input i, 255 for idle
-unfoldable pub output : Record → ℕ → ℕ
+unfoldable pub output : (r : Record) (i : ℕ) → ℕ
 output r i = getD (r .outputs) i 255
 
 -- A plan (§3.6): settings, and none is held for 0 slots.
@@ -39,5 +39,5 @@ total [] = 0
 total (r ∷ p) = r .hold + total p
 
 -- A plan covers a demand where no pair is granted less than its cell (§3.7).
-abbrev pub Covers : ℕ → (ℕ → ℕ → ℕ) → List Record → Type 0
+abbrev pub Covers : (N : ℕ) (M : ℕ → ℕ → ℕ) (p : List Record) → Type 0
 Covers N M p = (i j : ℕ) → i < N → j < N → M i j ≤ grant p i j

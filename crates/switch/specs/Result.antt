@@ -13,7 +13,7 @@ pub record Result : Type 0 where
   pub bytes : List ℕ
 
 -- a refusal changes nothing that is lent
-abbrev pub refuses : Refusal → List ℕ → Result
+abbrev pub refuses : (r : Refusal) (lent : List ℕ) → Result
 refuses r lent = record { outcome = Refused r; bytes = lent }
 
 -- refusals in the order in which they are tried: refused where the test fails, and else what follows
@@ -26,7 +26,7 @@ byOutcome (Done c) refused go = go c
 byOutcome (Refused r) refused go = refused r
 
 -- what is read is refused by itself, and else what is done with its counts
-abbrev pub afterReading : Outcome → List ℕ → (Counts → Result) → Result
+abbrev pub afterReading : (o : Outcome) (lent : List ℕ) (go : Counts → Result) → Result
 afterReading o lent go = byOutcome o (λ r. refuses r lent) go
 
 -- what a call answers, and what it leaves in the lent memory, is what is given

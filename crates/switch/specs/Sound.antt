@@ -12,7 +12,7 @@ pub data Each (P : Record → Type 0) : List Record → Type 0 where
   more : {r : Record} {p : List Record} → P r → Each P p → Each P (r ∷ p)
 
 -- a record of W outputs
-abbrev pub OfWidth : ℕ → Record → Type 0
+abbrev pub OfWidth : (W : ℕ) (r : Record) → Type 0
 OfWidth W r = length (r .outputs) ≡ W
 
 -- held at least 1, each of its first N outputs below N or idle, no output below N twice, all later outputs idle

@@ -26,7 +26,7 @@ sumsOnto q [] = q
 sumsOnto q (r ∷ p) = sumsOnto (addHold q r) p
 
 -- the settings of a plan in order of first appearance, each with its holds summed
-abbrev pub sums : List Record → List Record
+abbrev pub sums : (p : List Record) → List Record
 sums p = sumsOnto [] p
 
 -- ---- the same in plain statements
@@ -42,7 +42,7 @@ appears o [] = 0
 appears o (r ∷ p) = cond (sameOutputs (r .outputs) o) 0 (suc (appears o p))
 
 -- the setting of record k
-abbrev pub settingAt : List Record → ℕ → List ℕ
+abbrev pub settingAt : (p : List Record) (k : ℕ) → List ℕ
 settingAt p k = getD p k (record { hold = 0; outputs = [] }) .outputs
 
 -- q has the settings of p, in order of first appearance and so none twice, and each is held in q for as long as in p

@@ -12,7 +12,7 @@ use Rattle.records.specs.Bytes.{recordAt, whole, planFrom}
 use Rattle.tally.specs.Sums.{sums}
 
 -- the setting of entry e: that of the record at which it first appears
-abbrev pub entrySetting : ℕ → List ℕ → List ℕ → ℕ → List ℕ
+abbrev pub entrySetting : (W : ℕ) (plan firsts : List ℕ) (e : ℕ) → List ℕ
 entrySetting W plan firsts e = outputs (recordAt W plan (getD firsts e 0))
 
 -- m entries from entry e on, as sums
@@ -41,14 +41,14 @@ abbrev pub buckets : ℕ
 buckets = 8192
 
 -- four outputs of a setting from `at` on as a number, the first lowest; and eight
-unfoldable pub half : List ℕ → ℕ → ℕ
+unfoldable pub half : (o : List ℕ) (at : ℕ) → ℕ
 half o at = getD o at 0 + 256 * getD o (at + 1) 0 + 65536 * getD o (at + 2) 0 + 16777216 * getD o (at + 3) 0
 
-unfoldable pub word : List ℕ → ℕ → ℕ
+unfoldable pub word : (o : List ℕ) (at : ℕ) → ℕ
 word o at = half o at + 4294967296 * half o (at + 4)
 
 -- the lower 32 bits of a number of 64 are spread over all of them, and the upper go below
-unfoldable pub stir : ℕ → ℕ
+unfoldable pub stir : (h : ℕ) → ℕ
 stir h = h % 4294967296 * 2654435761 + h / 4294967296
 
 -- the first m eights of a setting's outputs stirred one after the other into a number
@@ -57,7 +57,7 @@ stirred o zero = 0
 stirred o (suc m) = stir (bitXor (stirred o m) (word o (8 * m)))
 
 -- a setting's bucket. Equal settings share one; the rest is chance, on which nothing relies but speed
-unfoldable pub bucketOf : List ℕ → ℕ
+unfoldable pub bucketOf : (o : List ℕ) → ℕ
 bucketOf o = stir (stirred o (length o / 8)) / 2251799813685248
 
 -- one more than the last entry below n in bucket b, bucket e being that of entry e; 0 where there is none
@@ -66,7 +66,7 @@ lastIn bucket b zero = 0
 lastIn bucket b (suc n) = cond (eqb (bucket n) b) (suc n) (lastIn bucket b n)
 
 -- the bucket of entry e
-abbrev pub entryBucket : ℕ → List ℕ → List ℕ → ℕ → ℕ
+abbrev pub entryBucket : (W : ℕ) (plan firsts : List ℕ) (e : ℕ) → ℕ
 entryBucket W plan firsts e = bucketOf (entrySetting W plan firsts e)
 
 -- a bucket's chain starts with its last entry, and each entry leads to the last one before it that shares its bucket

@@ -18,7 +18,7 @@ use Rattle.tasks.specs.Bytes.{word, taskOf, recordAt, tasksFrom, tasksOf
 use Rattle.tasks.specs.declared.Judged.{Judged}
 
 -- a record's own rules: ports below N, zero bytes, start below end
-unfoldable pub alone : ℕ → List ℕ → Bool
+unfoldable pub alone : (N : ℕ) (b : List ℕ) → Bool
 alone N b = ltb (getD b 0 0) N && (ltb (getD b 1 0) N && (eqb (getD b 2 0) 0 && (eqb (getD b 3 0) 0 && ltb (word b 4) (word b 8))))
 
 -- y, the task of record k, starts after that of the record in front, or with it at a higher output
@@ -29,7 +29,7 @@ after tasks (suc k) y =
     ltb (x .start) (y .start) || (eqb (x .start) (y .start) && ltb (x .output) (y .output))
 
 -- two tasks share a port and a time: neither is over when the other starts
-unfoldable pub overlaps : Task → Task → Bool
+unfoldable pub overlaps : (x y : Task) → Bool
 overlaps x y = (eqb (x .input) (y .input) || eqb (x .output) (y .output)) && (ltb (x .start) (y .end) && ltb (y .start) (x .end))
 
 -- y overlaps one of the first k tasks
@@ -38,7 +38,7 @@ overlapsAny tasks zero y = false
 overlapsAny tasks (suc k) y = overlapsAny tasks k y || overlaps (taskOf (recordAt tasks k)) y
 
 -- record k breaks no rule
-unfoldable pub fine : ℕ → List ℕ → ℕ → Bool
+unfoldable pub fine : (N : ℕ) (tasks : List ℕ) (k : ℕ) → Bool
 fine N tasks k =
     let b = recordAt tasks k in
     alone N b && (after tasks k (taskOf b) && not (overlapsAny tasks k (taskOf b)))
@@ -49,11 +49,11 @@ faulty N tasks zero k = k
 faulty N tasks (suc m) k = cond (fine N tasks k) (faulty N tasks m (suc k)) k
 
 -- m records
-unfoldable pub readingIn : ℕ → ℕ → List ℕ → Outcome
+unfoldable pub readingIn : (m N : ℕ) (tasks : List ℕ) → Outcome
 readingIn m N tasks = unless (leb m (faulty N tasks m 0)) (Refused (Malformed (faulty N tasks m 0))) (Done (planCounts m 0 (latest (tasksFrom tasks 0 m))))
 
 -- codes 1, 9 and 11; any number of records is read
-unfoldable pub reading : ℕ → List ℕ → Outcome
+unfoldable pub reading : (N : ℕ) (tasks : List ℕ) → Outcome
 reading N tasks =
     unless (portsFine 64 N) (Refused Ports)
     (unless (eqb (length tasks % 12) 0) (Refused (Torn (length tasks / 12)))
@@ -80,11 +80,11 @@ pub record Accepts (N : ℕ) (tasks : List ℕ) (c : Counts) : Type 0 where
 -- ---- the same in one pass
 
 -- inner: the start is after s, or s with an output of o or higher
-unfoldable pub follows : ℕ → ℕ → ℕ → ℕ → Bool
+unfoldable pub follows : (s o start output : ℕ) → Bool
 follows s o start output = ltb s start || (eqb s start && leb o output)
 
 -- inner: a record that rises from s and o, and starts no sooner than the times kept for its ports
-unfoldable pub fits : ℕ → List ℕ → ℕ → ℕ → List ℕ → List ℕ → Bool
+unfoldable pub fits : (N : ℕ) (b : List ℕ) (s o : ℕ) (ins outs : List ℕ) → Bool
 fits N b s o ins outs =
     alone N b && (follows s o (word b 4) (getD b 1 0) && not (ltb (word b 4) (getD ins (getD b 0 0) 0) || ltb (word b 4) (getD outs (getD b 1 0) 0)))
 

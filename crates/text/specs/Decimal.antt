@@ -7,7 +7,7 @@ use lib.ListN.{length, getD}
 use lib.Dec.{ltb}
 
 -- the byte of a digit
-abbrev pub digit : ℕ → ℕ
+abbrev pub digit : (d : ℕ) → ℕ
 digit d = 48 + d
 
 -- the digits of n, the most significant first, where k of them are enough
@@ -16,7 +16,7 @@ digitsIn zero n = []
 digitsIn (suc k) n = cond (ltb n 10) (digit n ∷ []) (digitsIn k (n / 10) ++ (digit (n % 10) ∷ []))
 
 -- the digits of n: n has no more than n + 1 of them
-unfoldable pub decimal : ℕ → List ℕ
+unfoldable pub decimal : (n : ℕ) → List ℕ
 decimal n = digitsIn (suc n) n
 
 -- the number that digits say which follow those of v

@@ -14,5 +14,5 @@ spaced [] = []
 spaced (f ∷ fs) = space ∷ (f ++ spaced fs)
 
 -- a line of a first field and others
-unfoldable pub line : List ℕ → List (List ℕ) → List ℕ
+unfoldable pub line : (f : List ℕ) (fs : List (List ℕ)) → List ℕ
 line f fs = f ++ spaced fs ++ (feed ∷ [])

@@ -13,18 +13,18 @@ use Rattle.text.specs.Decimal.{decimal}
 use Rattle.text.specs.Line.{line}
 
 -- the first line: each number behind its word (§14.4)
-unfoldable pub firstLine : ℕ → Counts → List ℕ
+unfoldable pub firstLine : (N : ℕ) (c : Counts) → List ℕ
 firstLine N c =
     line (ascii "ports")
     (decimal N ∷ ascii "longest" ∷ decimal (c .longest) ∷ ascii "records" ∷ decimal (c .records) ∷ ascii "total" ∷ decimal (c .total)
     ∷ ascii "empty" ∷ decimal (c .empty) ∷ [])
 
 -- 255 printed as a dash
-unfoldable pub outputField : ℕ → List ℕ
+unfoldable pub outputField : (o : ℕ) → List ℕ
 outputField o = cond (eqb o 255) (ascii "-") (decimal o)
 
 -- a record's line: its hold and its N outputs
-unfoldable pub recordLine : ℕ → Record → List ℕ
+unfoldable pub recordLine : (N : ℕ) (r : Record) → List ℕ
 recordLine N r = line (decimal (r .hold)) (map outputField (take N (r .outputs)))
 
 -- one line per record
@@ -33,7 +33,7 @@ recordLines N [] = []
 recordLines N (r ∷ p) = recordLine N r ++ recordLines N p
 
 -- a plan, with what its planner counted
-unfoldable pub planText : ℕ → Counts → List Record → List ℕ
+unfoldable pub planText : (N : ℕ) (c : Counts) (p : List Record) → List ℕ
 planText N c p = firstLine N c ++ recordLines N p
 
 -- the side of code 3 as a word, in front of its number (§14.5)
@@ -43,5 +43,5 @@ sideField (suc zero) = ascii "input" ∷ []
 sideField (suc (suc k)) = ascii "output" ∷ []
 
 -- a refusal's only line: `refused`, code, place (§14.5)
-unfoldable pub refusedLine : Refusal → List ℕ
+unfoldable pub refusedLine : (r : Refusal) → List ℕ
 refusedLine r = line (ascii "refused") (decimal (refusalCode r) ∷ (sideField (refusalSide r) ++ (decimal (refusalPlace r) ∷ [])))

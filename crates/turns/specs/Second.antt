@@ -32,15 +32,15 @@ holdsBy Tight t N d = tight N (turn t N) d
 holdsBy Every t N d = alike
 
 -- the doubled plan by either rule, with the settings of either way
-abbrev pub doubledRule : Rule → Turning → ℕ → ℕ → List ℕ → List Record
+abbrev pub doubledRule : (r : Rule) (t : Turning) (W N : ℕ) (d : List ℕ) → List Record
 doubledRule r t W N d = doubledBy W N (turn t N) (holdsBy r t N d) d
 
 -- the N settings, k from 0 to N - 1, setting k held for what stands at k and left out where that is 0
-abbrev pub second : Turning → ℕ → ℕ → List ℕ → List Record
+abbrev pub second : (t : Turning) (W N : ℕ) (H : List ℕ) → List Record
 second t W N H = turns W (turn t N) (λ k. getD H k 0) N 0
 
 -- first the exact plan of the quotients q, each hold multiplied by u; then the settings, held for H
-abbrev pub parts : Turning → ℕ → ℕ → ℕ → List ℕ → List ℕ → List Record
+abbrev pub parts : (t : Turning) (W N u : ℕ) (q H : List ℕ) → List Record
 parts t W N u q H = map (stretch u) (exactPlan W N q) ++ second t W N H
 
 -- a demand that asks for something, whose longest line fits a hold

@@ -13,13 +13,13 @@ use Rattle.plans.specs.Read.{checking}
 use Rattle.wavelengths.specs.Shared.{gratingReport}
 
 -- one byte for each record from the buffer's start on, and nothing else touched; the counts are those of the plan read
-abbrev pub reports : Edition → ℕ → List ℕ → Counts → List ℕ → Result
+abbrev pub reports : (E : Edition) (N : ℕ) (plan : List ℕ) (c : Counts) (buf : List ℕ) → Result
 reports E N plan c buf = record { outcome = Done c; bytes = laid buf 0 (gratingReport N (planOf (E .width) plan)) }
 
 -- code 5: the report has fewer bytes than the plan has records
-unfoldable pub reportIn : Edition → ℕ → List ℕ → Counts → List ℕ → Result
+unfoldable pub reportIn : (E : Edition) (N : ℕ) (plan : List ℕ) (c : Counts) (buf : List ℕ) → Result
 reportIn E N plan c buf = unless (leb (c .records) (length buf)) (refuses (Room (c .records)) buf) (reports E N plan c buf)
 
 -- refusals 1, 9, 10, 11, then 5
-unfoldable pub reported : Edition → ℕ → List ℕ → List ℕ → Result
+unfoldable pub reported : (E : Edition) (N : ℕ) (plan buf : List ℕ) → Result
 reported E N plan buf = afterReading (checking E N plan) buf (λ c. reportIn E N plan c buf)

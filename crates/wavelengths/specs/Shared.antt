@@ -10,23 +10,23 @@ use Rattle.counting.specs.Count.{count}
 use Rattle.switch.specs.Plan.{Record, output}
 
 -- the wavelength that leads from input i to output j (§13.1)
-unfoldable pub wavelength : ℕ → ℕ → ℕ → ℕ
+unfoldable pub wavelength : (N i j : ℕ) → ℕ
 wavelength N i j = (j + (N - i)) % N
 
 -- input i is joined by wavelength w; an idle input is not
-unfoldable pub uses : ℕ → Record → ℕ → ℕ → Bool
+unfoldable pub uses : (N : ℕ) (r : Record) (w i : ℕ) → Bool
 uses N r w i = ltb (output r i) N && eqb (wavelength N i (output r i)) w
 
 -- how many inputs share wavelength w
-unfoldable pub sharing : ℕ → Record → ℕ → ℕ
+unfoldable pub sharing : (N : ℕ) (r : Record) (w : ℕ) → ℕ
 sharing N r w = count N (uses N r w)
 
 -- the most inputs that share one wavelength (§13.3)
-unfoldable pub mostShared : ℕ → Record → ℕ
+unfoldable pub mostShared : (N : ℕ) (r : Record) → ℕ
 mostShared N r = most N (sharing N r)
 
 -- one number for each record of a plan, in order
-unfoldable pub gratingReport : ℕ → List Record → List ℕ
+unfoldable pub gratingReport : (N : ℕ) (p : List Record) → List ℕ
 gratingReport N p = map (mostShared N) p
 
 -- the same in plain statements: some wavelength has that many inputs, unless it is 0, and none has more

@@ -22,5 +22,5 @@ pub data Answers : Float → Wish → Type 0 where
   its-slots : {s : Bool} {m : ℕ} {e : ℤ} {k : ℕ} → (s ≡ true → m * up e ≡ 0) → LeastNotBelow (m * up e) (down e) k → k ≤ mostSlots → Answers (fin s m e) (Slots (worth k))
 
 -- the wish x is above zero, as binary32 compares: zero and minus zero are not, and neither is a NaN
-abbrev pub AboveZero : Float → Type 0
+abbrev pub AboveZero : (x : Float) → Type 0
 AboveZero x = lt (fin false 0 (pos 0)) x ≡ true

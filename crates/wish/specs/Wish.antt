@@ -13,7 +13,7 @@ abbrev pub mostSlots : ℕ
 mostSlots = 65535
 
 -- the least whole number not below num / den, where den is above 0
-unfoldable pub ceil : ℕ → ℕ → ℕ
+unfoldable pub ceil : (num den : ℕ) → ℕ
 ceil num den = (num + (den - 1)) / den
 
 -- the slots of a wish whose ceiling is k: that, but 2 in the place of 1 (§4.3)
@@ -22,7 +22,7 @@ worth zero = 0
 worth (suc k) = max 2 (suc k)
 
 -- the finite wish num / den, negated where s is true; minus zero is not below zero
-unfoldable pub finite : Bool → ℕ → ℕ → Wish
+unfoldable pub finite : (s : Bool) (num den : ℕ) → Wish
 finite s num den =
     cond (s && ltb 0 num) BelowZero
     (cond (ltb (mostSlots * den) num) AboveMost
@@ -35,7 +35,7 @@ wishOf (inf s) = NotFinite
 wishOf (fin s m e) = finite s (m * up e) (down e)
 
 -- the wish of 32 bits, whatever they are: ofBits reads every NaN's pattern as nan
-unfoldable pub wishBits : ℕ → Wish
+unfoldable pub wishBits : (b : ℕ) → Wish
 wishBits b = wishOf (ofBits binary32 b)
 
 -- the code of a wish (§4.4), 0 where nothing is refused

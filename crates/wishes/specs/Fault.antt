@@ -33,11 +33,11 @@ wishFault k Wish.BelowZero = At (BelowZero k)
 wishFault k Wish.AboveMost = At (AboveMost k)
 
 -- the fault of record k, which is r, where `before` says whether an earlier record names its pair
-unfoldable pub faultOf : ℕ → ℕ → Bool → WishRecord → Fault
+unfoldable pub faultOf : (N k : ℕ) (before : Bool) (r : WishRecord) → Fault
 faultOf N k before r = cond (wellFormed N r) (cond before (At (Named k)) (wishFault k (wishBits (r .bits)))) (At (Malformed k))
 
 -- the fault of record k of the list s
-unfoldable pub faultAt : ℕ → List ℕ → ℕ → Fault
+unfoldable pub faultAt : (N : ℕ) (s : List ℕ) (k : ℕ) → Fault
 faultAt N s k = let r = recordAt s k in faultOf N k (named s k (r .input .0) (r .output .0)) r
 
 abbrev pub orElse : Fault → Fault → Fault

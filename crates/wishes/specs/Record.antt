@@ -7,11 +7,11 @@ use lib.ListN.{getD}
 use Rattle.wishes.specs.declared.WishRecord.{WishRecord}
 
 -- four bytes from `at` on as a number, low byte first
-unfoldable pub word : List ℕ → ℕ → ℕ
+unfoldable pub word : (s : List ℕ) (at : ℕ) → ℕ
 word s at = getD s at 0 + 256 * getD s (at + 1) 0 + 65536 * getD s (at + 2) 0 + 16777216 * getD s (at + 3) 0
 
 -- record k of the list s, counted from 0
-unfoldable pub recordAt : List ℕ → ℕ → WishRecord
+unfoldable pub recordAt : (s : List ℕ) (k : ℕ) → WishRecord
 recordAt s k = record {
   input = record { 0 = getD s (8 * k) 0 };
   output = record { 0 = getD s (8 * k + 1) 0 };
@@ -21,13 +21,13 @@ recordAt s k = record {
 }
 
 -- both ports are below N, and both spare bytes are zero
-unfoldable pub wellFormed : ℕ → WishRecord → Bool
+unfoldable pub wellFormed : (N : ℕ) (r : WishRecord) → Bool
 wellFormed N r = ltb (r .input .0) N && (ltb (r .output .0) N && (eqb (r .spare0) 0 && eqb (r .spare1) 0))
 
 -- input i and output j are input a and output b
-unfoldable pub samePair : ℕ → ℕ → ℕ → ℕ → Bool
+unfoldable pub samePair : (i j a b : ℕ) → Bool
 samePair i j a b = eqb i a && eqb j b
 
 -- the record names input i and output j
-abbrev pub names : WishRecord → ℕ → ℕ → Bool
+abbrev pub names : (r : WishRecord) (i j : ℕ) → Bool
 names r i j = samePair (r .input .0) (r .output .0) i j

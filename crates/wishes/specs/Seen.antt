@@ -10,7 +10,7 @@ use Rattle.wishes.specs.Record.{samePair}
 use Rattle.wishes.specs.Fault.{named}
 
 -- output j is in the set of input i
-unfoldable pub seenPair : List ℕ → List ℕ → ℕ → ℕ → Bool
+unfoldable pub seenPair : (lows highs : List ℕ) (i j : ℕ) → Bool
 seenPair lows highs i j = isIn (rowOf lows highs i) j
 
 -- room for N inputs
@@ -19,7 +19,7 @@ pub record Room (N : ℕ) (lows highs : List ℕ) : Type 0 where
   pub high : N ≤ length highs
 
 -- the sets hold the pairs that the first m records name
-abbrev pub Seen : ℕ → List ℕ → ℕ → List ℕ → List ℕ → Type 0
+abbrev pub Seen : (N : ℕ) (s : List ℕ) (m : ℕ) (lows highs : List ℕ) → Type 0
 Seen N s m lows highs = (i j : ℕ) → i < N → j < N → seenPair lows highs i j ≡ named s m i j
 
 -- room for N inputs, and every set empty

@@ -20,7 +20,7 @@ use Rattle.wishes.specs.Record.{recordAt}
 use Rattle.wishes.specs.Fault.{NamedBy, firstFault}
 
 -- the cells with a record's slots put in
-unfoldable pub put : ℕ → WishRecord → List ℕ → List ℕ
+unfoldable pub put : (N : ℕ) (r : WishRecord) (cells : List ℕ) → List ℕ
 put N r cells = set cells (r .input .0 * N + r .output .0) (slotsOf (wishBits (r .bits)))
 
 -- the demand of the first m records: a pair not named has 0 slots
@@ -40,7 +40,7 @@ ofFault count Nothing = Done (planCounts count 0 0)
 ofFault count (At r) = Refused r
 
 -- codes 1, 2 and 9, then the first fault (§9.9); for a list s and len cells, of a switch of up to `most` ports
-unfoldable pub outcome : ℕ → ℕ → List ℕ → ℕ → Outcome
+unfoldable pub outcome : (most N : ℕ) (s : List ℕ) (len : ℕ) → Outcome
 outcome most N s len =
     unless (portsFine most N) (Refused Ports)
     (unless (eqb len (N * N)) (Refused (Cells (N * N)))
@@ -52,7 +52,7 @@ cellsOf N s cells (Done c) = demandOf N s (length s / 8)
 cellsOf N s cells (Refused r) = cells
 
 -- the cells after the call
-unfoldable pub cellsAfter : ℕ → ℕ → List ℕ → List ℕ → List ℕ
+unfoldable pub cellsAfter : (most N : ℕ) (s cells : List ℕ) → List ℕ
 cellsAfter most N s cells = cellsOf N s cells (outcome most N s (length cells))
 
 -- both, for an edition's switches: a wish list knows no more of an edition than how many ports it has
