@@ -10,6 +10,7 @@ mod list;
 mod plan;
 mod record;
 mod rooms;
+mod schedule;
 mod show;
 mod tape;
 mod wide;
@@ -21,7 +22,7 @@ ghost use Prim.Native.Nat.{_≤_, _<_};
 ghost use lib.ListN.{length};
 
 // The most bytes of a tape.
-const TAPE: usize = 1048576;
+const TAPE: usize = 2097152;
 
 // The most bytes laid for one call: 65 × 65 cells, or 64 × 64 and a plan of a record more than may be read.
 const LAID: usize = 573600;
@@ -77,6 +78,8 @@ fn run(step: Step, laid: &[u8])
         b'i' => console::in_force(step, laid),
         b'c' => console::carry_over(step, laid),
         b'm' => rooms::room(step.small, laid),
+        b'o' => schedule::plan(step, laid),
+        b'a' => schedule::read(step.first, laid),
         _ => show::text(b" no such call\n"),
     }
 }

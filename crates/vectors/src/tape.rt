@@ -169,7 +169,7 @@ pub fn long_at(bytes: &[u8], at: usize) -> u64
 }
 
 // Four bytes as a number, low byte first.
-fn word_at(bytes: &[u8], at: usize) -> u64
+pub fn word_at(bytes: &[u8], at: usize) -> u64
     requires { ⌜ at ≤ 12 ⌝ }
     ensures { λ r. ⌜ r ≤ 4294967295 ⌝ }
 {
