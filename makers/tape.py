@@ -24,12 +24,13 @@ laid. Tapes may be put one after the other, and so may the lines that they give.
 | c | carry over | N | cells lent, each holding 7 before | 0 | first records in 8 bytes, cells asked and wished in 2 each, those cells, the plan |
 | o | open shop | N | whole task records of room | bytes of room more | d in two bytes, then the cells |
 | a | read tasks | N | 0 | 0 | the tasks |
+| v | rescue | N | whole records of room | bytes of room more | how many cells and the bytes lent for the list, in 2 bytes each, the cells, the plan |
 | m | the room beforehand | 0 | 0 | exact, doubled, quick; 3 to 5 those of the second edition | N and T, 8 bytes each |
 
 A case's line is its name and what the call answered; planners, joining and the writer add a checksum of the lent buffer, which is filled
 with the byte 170 before the call. A plan that g or u wrote is reported in the lines after it. b gives a line for each word, s and c a second line
 with the lent cells. i adds what the answer is about, the part's numbers and a checksum of it. Tasks that o wrote are read again in the line
-after them.
+after them. v adds the records added and dropped, and the checksum of the list behind that of the plan.
 """
 BLANK = 170
 

@@ -18,13 +18,14 @@ import plan_vectors
 import quiet_vectors
 import record_vectors
 import reference as ref
+import rescue_vectors
 import room_vectors
 import second_vectors
 import shop_vectors
 import wish_list
 import wish_vectors
 
-MAKERS = [record_vectors, check_vectors, join_vectors, plan_vectors, grating_vectors, quiet_vectors, wish_vectors, lister_vectors, room_vectors, console_vectors, second_vectors, shop_vectors]
+MAKERS = [record_vectors, check_vectors, join_vectors, plan_vectors, grating_vectors, quiet_vectors, wish_vectors, lister_vectors, room_vectors, console_vectors, second_vectors, shop_vectors, rescue_vectors]
 
 
 def files():

@@ -10,6 +10,7 @@ mod list;
 mod plan;
 mod record;
 mod rooms;
+mod saved;
 mod schedule;
 mod show;
 mod tape;
@@ -80,6 +81,7 @@ fn run(step: Step, laid: &[u8])
         b'm' => rooms::room(step.small, laid),
         b'o' => schedule::plan(step, laid),
         b'a' => schedule::read(step.first, laid),
+        b'v' => saved::rescue(step, laid),
         _ => show::text(b" no such call\n"),
     }
 }
