@@ -13,7 +13,7 @@ use Rattle.rules.specs.Fill.{fill, fillTo, fillCell, lack}
 use Rattle.rules.specs.Search.{put, pick, free, complete, firstSetting}
 use Rattle.rules.specs.Peel.{peel}
 use Rattle.rules.specs.Exact.{tab, least, recordOf, peels, exactFrom, exactPlan}
-use Rattle.rules.specs.Doubled.{unit, divide, stretch, rotate, held, turns, doubledBy, flat, everyRotationPlan, tight, doubledPlan}
+use Rattle.rules.specs.Doubled.{unit, divide, stretch, rotate, held, turns, doubledBy, alike, everyRotationPlan, tight, doubledPlan}
 use Rattle.rules.specs.Quick.{lowest, may, seat, visits, slot, slots, quickFrom, quickPlan}
 use Rattle.wish.specs.Wish.{wishBits, wishOf, finite, worth, ceil}
 use Rattle.promises.specs.Papers.{Asked, Given, give, rec, table, d1, d6}
@@ -27,7 +27,7 @@ use Rattle.length.specs.Length.{moves, charge, lengthOf}
 pub small-plans : map (λ (r : Asked × Given). give (r .0)) table ≡ map (λ (r : Asked × Given). r .1) table
 unfolding table give rec
     exactPlan exactFrom peels recordOf least tab firstSetting complete free pick put peel fill fillTo fillCell lack longest most row col cell sum δ ind
-    everyRotationPlan doubledPlan tight doubledBy flat turns held rotate stretch divide unit
+    everyRotationPlan doubledPlan tight doubledBy alike turns held rotate stretch divide unit
     quickPlan quickFrom slots slot visits seat may lowest
     wishBits ofBits wishOf finite worth ceil
 small-plans = refl
@@ -41,13 +41,13 @@ p7-meets = refl
 
 -- P8 by the rule of every rotation has a doubled plan's most records and its longest total (§15.3)
 pub p8-meets : (length (everyRotationPlan 64 1 (5 ∷ [])) ≡ 2 * 1) × (total (everyRotationPlan 64 1 (5 ∷ [])) ≡ 2 * longest 1 (cell 1 (5 ∷ [])) - 1)
-unfolding total everyRotationPlan doubledBy flat turns held rotate stretch divide unit
+unfolding total everyRotationPlan doubledBy alike turns held rotate stretch divide unit
     exactPlan exactFrom peels recordOf least tab firstSetting complete free pick put peel fill fillTo fillCell lack longest most row col cell sum δ ind
 p8-meets = (refl, refl)
 
 -- four ports: no rotation at T = 4, where u is 1; u is 2 at T = 5 (§15.5); by the rule of every rotation
-pub units : (unit 4 4 ≡ 1) × (turns 64 (rotate 4) (flat 1) 4 0 ≡ []) × (unit 4 5 ≡ 2)
-unfolding unit turns held flat
+pub units : (unit 4 4 ≡ 1) × (turns 64 (rotate 4) (alike 1) 4 0 ≡ []) × (unit 4 5 ≡ 2)
+unfolding unit turns held alike
 units = (refl, refl, refl)
 
 -- and no rotations by the tight rule where u is 1: no cell has a remainder modulo 1
@@ -69,7 +69,7 @@ p1-starts = refl
 
 -- by the rule of every rotation (§11.5)
 pub p8-old-length : (d : ℕ) → lengthOf d (everyRotationPlan 64 1 (5 ∷ [])) ≡ 9 + d
-unfolding lengthOf charge moves sameOutputs total everyRotationPlan doubledBy flat turns held rotate stretch divide unit
+unfolding lengthOf charge moves sameOutputs total everyRotationPlan doubledBy alike turns held rotate stretch divide unit
     exactPlan exactFrom peels recordOf least tab firstSetting complete free pick put peel fill fillTo fillCell lack longest most row col cell sum δ ind
 p8-old-length d = omega arith
 
