@@ -5,6 +5,7 @@
 use demand::Checked;
 use demand::check_demand;
 use labels::FoundInput;
+use numbers::larger_word;
 use sets::Found;
 use sets::Label;
 use switch::Counts;
@@ -14,7 +15,6 @@ use switch::OutputPort;
 use switch::PORTS;
 use switch::Refusal;
 use tasks::TASK;
-use tasks::larger;
 use tasks::put_task;
 ghost use mathlib.Core.Path.{_≡_};
 ghost use Prim.Native.Nat.{ℕ, _+_, _*_, _<_, _≤_, max};
@@ -261,7 +261,7 @@ fn one_more(begun: Begun, end: u32) -> Begun
 {
     Begun {
         records: begun.records + 1,
-        latest: larger(begun.latest, end),
+        latest: larger_word(begun.latest, end),
     }
 }
 

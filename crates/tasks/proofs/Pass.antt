@@ -11,8 +11,9 @@ use lib.ListN.{length, getD, set, take, drop, replicate}
 use lib.Seq.{getD-set-same, getD-set-other}
 use lib.Dec.{ltb, leb, eqb}
 use borrow.Author.Tests.{ltb-true, ltb-false, lt-ltb, le-ltb, le-leb, eq-eqb, ne-eqb}
+use Rattle.numbers.specs.Word.{word}
 use Rattle.shop_rule.specs.Task.{Task}
-use Rattle.tasks.specs.Bytes.{word, taskOf, recordAt}
+use Rattle.tasks.specs.Bytes.{taskOf, recordAt}
 use Rattle.tasks.specs.Read.{alone, after, overlaps, overlapsAny, fine, follows, fits}
 use Rattle.tasks.proofs.Read.{part-record}
 

@@ -8,13 +8,14 @@ use native.Mathlib.Numerals.{add-one}
 use native.Mathlib.Omega.{arith}
 use lib.ListN.{length, getD, take, drop, length-take, length-drop}
 use borrow.Author.Tests.{lt-leb, le-leb, eq-eqb, ne-eqb}
+use Rattle.numbers.specs.Word.{word}
 use Rattle.switch.specs.declared.Outcome.the-variants.{Done, Refused}
 use Rattle.switch.specs.declared.Refusal.the-variants.{Ports, Torn, Malformed}
 use Rattle.switch.specs.Answer.{planCounts}
 use Rattle.switch.specs.Check.{portsFine}
 use Rattle.switch.proofs.Check.{some-ports}
 use Rattle.shop_rule.specs.Task.{latest}
-use Rattle.tasks.specs.Bytes.{word, recordAt, tasksFrom}
+use Rattle.tasks.specs.Bytes.{recordAt, tasksFrom}
 use Rattle.tasks.specs.Read.{fine, faulty, readingIn, reading}
 
 -- ---- a record's bytes

@@ -10,10 +10,11 @@ use lib.ListN.{length, take, drop}
 use lib.Seq.{drop-drop}
 use lib.Dec.{ltb, eqb}
 use borrow.Author.Tests.{lt-ltb, le-ltb, eq-eqb, ne-eqb}
+use Rattle.numbers.specs.Word.{word}
 use Rattle.switch.specs.declared.Outcome.the-variants.{Done}
 use Rattle.switch.specs.Answer.{planCounts}
 use Rattle.shop_rule.specs.Task.{Task, Each, none, more, Ordered, nothing, before, Rises, Apart, latest}
-use Rattle.tasks.specs.Bytes.{word, taskOf, encode, bytes, recordAt, tasksFrom}
+use Rattle.tasks.specs.Bytes.{taskOf, encode, bytes, recordAt, tasksFrom}
 use Rattle.tasks.specs.Read.{Fair, alone, after, overlaps, overlapsAny, fine, faulty, reading}
 use Rattle.tasks.proofs.Read.{reading-done}
 

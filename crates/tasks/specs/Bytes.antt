@@ -2,14 +2,11 @@
 use mathlib.Core.List.{List, [], _∷_, _++_}
 use Prim.Native.Nat.{ℕ, zero, suc, _+_, _*_, _/_, _%_}
 use lib.ListN.{length, take, drop, getD}
+use Rattle.numbers.specs.Word.{word}
 use Rattle.shop_rule.specs.Task.{Task}
 
 abbrev pub task : (input output start end : ℕ) → Task
 task input output start end = record { input = input; output = output; start = start; end = end }
-
--- four bytes from k on, low first
-unfoldable pub word : (b : List ℕ) (k : ℕ) → ℕ
-word b k = getD b k 0 + 256 * getD b (k + 1) 0 + 65536 * getD b (k + 2) 0 + 16777216 * getD b (k + 3) 0
 
 -- the task of a record
 abbrev pub taskOf : (b : List ℕ) → Task

@@ -6,6 +6,7 @@ use mathlib.Core.List.{List}
 use Prim.Native.Nat.{ℕ, zero, suc, _/_, _%_, _≤_, _<_}
 use lib.ListN.{length, getD}
 use lib.Dec.{ltb, leb, eqb}
+use Rattle.numbers.specs.Word.{word}
 use Rattle.switch.specs.declared.Counts.{Counts}
 use Rattle.switch.specs.declared.Outcome.{Outcome}
 use Rattle.switch.specs.declared.Outcome.the-variants.{Done, Refused}
@@ -14,7 +15,7 @@ use Rattle.switch.specs.Answer.{planCounts}
 use Rattle.switch.specs.Check.{portsFine}
 use Rattle.switch.specs.Result.{unless}
 use Rattle.shop_rule.specs.Task.{Task, Each, Ordered, Rises, Apart, latest}
-use Rattle.tasks.specs.Bytes.{word, taskOf, recordAt, tasksFrom, tasksOf}
+use Rattle.tasks.specs.Bytes.{taskOf, recordAt, tasksFrom, tasksOf}
 use Rattle.tasks.specs.declared.Judged.{Judged}
 
 -- a record's own rules: ports below N, zero bytes, start below end

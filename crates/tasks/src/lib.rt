@@ -2,16 +2,19 @@
 // bytes. A record is refused where it breaks a rule of its own, does not rise from the one before it, or overlaps any before it on a port
 // (§21.7). Since starts rise, the latest end on each port decides the last, so that one pass does. What a schedule is for is left to the
 // crates above.
+use numbers::larger_word;
+use numbers::size_of_byte;
+use numbers::word_at;
 use switch::Counts;
 use switch::InputPort;
 use switch::Outcome;
 use switch::OutputPort;
 use switch::Refusal;
 ghost use mathlib.Core.Path.{_≡_};
-ghost use Prim.Native.Nat.{_+_, _*_, _<_, _≤_, max};
+ghost use Prim.Native.Nat.{_+_, _*_, _<_, _≤_};
 ghost use lib.ListN.{length};
 ghost use Rattle.records.specs.Bytes.{laid};
-ghost use Rattle.tasks.specs.Bytes.{word, task, fourBytes, encode};
+ghost use Rattle.tasks.specs.Bytes.{task, fourBytes, encode};
 ghost use Rattle.tasks.specs.Read.{alone, follows, fits, reading, Judges};
 
 // Input, output, two zero bytes, and start and end in four bytes each, low first.
@@ -72,14 +75,14 @@ fn judge_all(n: usize, tasks: &[u8], records: usize) -> Judged
         if !fitting(rec, n, start, least, &ins, &outs) {
             return Judged { first: k, latest };
         }
-        let i = wide(rec[0]);
-        let j = wide(rec[1]);
+        let i = size_of_byte(rec[0]);
+        let j = size_of_byte(rec[1]);
         let end = word_at(rec, END);
         ins[i] = end;
         outs[j] = end;
         start = word_at(rec, START);
         least = j + 1;
-        latest = larger(latest, end);
+        latest = larger_word(latest, end);
     }
     Judged {
         first: records,
@@ -95,8 +98,8 @@ fn fitting(rec: &[u8], n: usize, start: u32, least: usize, ins: &[u32], outs: &[
     if !fine_alone(rec, n) {
         return false;
     }
-    let i = wide(rec[0]);
-    let j = wide(rec[1]);
+    let i = size_of_byte(rec[0]);
+    let j = size_of_byte(rec[1]);
     let begin = word_at(rec, START);
     if !rising(start, least, begin, j) {
         return false;
@@ -112,10 +115,10 @@ fn fine_alone(rec: &[u8], n: usize) -> bool
     requires { ⌜ length (now rec) ≡ 12 ⌝ }
     ensures { λ r. ⌜ r ≡ alone n (now (rec .entry)) ⌝ }
 {
-    if n <= wide(rec[0]) {
+    if n <= size_of_byte(rec[0]) {
         return false;
     }
-    if n <= wide(rec[1]) {
+    if n <= size_of_byte(rec[1]) {
         return false;
     }
     if rec[2] != 0 {
@@ -140,29 +143,6 @@ fn rising(s: u32, o: usize, start: u32, output: usize) -> bool
     o <= output
 }
 
-// Four bytes from `at` on, low first.
-fn word_at(rec: &[u8], at: usize) -> u32
-    requires { ⌜ at + 4 ≤ length (now rec) ⌝ }
-    ensures { λ r. ⌜ r ≡ word (now (rec .entry)) at ⌝ }
-{
-    long(rec[at])
-        + 256 * long(rec[at + 1])
-        + 65536 * long(rec[at + 2])
-        + 16777216 * long(rec[at + 3])
-}
-
-fn long(b: u8) -> u32
-    ensures { λ r. ⌜ (r ≡ b) × (r < 256) ⌝ }
-{
-    b as u32
-}
-
-fn wide(b: u8) -> usize
-    ensures { λ r. ⌜ (r ≡ b) × (r < 256) ⌝ }
-{
-    b as usize
-}
-
 // Lays one task's record over a schedule from `at` on.
 pub fn put_task(tasks: &mut [u8], at: usize, i: InputPort, j: OutputPort, start: u32, end: u32)
     requires { ⌜ (at + 12 ≤ length (now tasks)) × (i .0 < 256) × (j .0 < 256) ⌝ }
@@ -185,13 +165,4 @@ fn put_four(tasks: &mut [u8], at: usize, x: u32)
     tasks[at + 1] = (x / 256 % 256) as u8;
     tasks[at + 2] = (x / 65536 % 256) as u8;
     tasks[at + 3] = (x / 16777216) as u8;
-}
-
-pub fn larger(a: u32, b: u32) -> u32
-    ensures { λ r. ⌜ r ≡ max a b ⌝ }
-{
-    if a < b {
-        return b;
-    }
-    a
 }

@@ -53,14 +53,14 @@ array-write-ins c =
     let a = c .before .before .before .before .before .before .before .before .before .before .before .before .before .args in
     let l = c .before .before .before .before .before .before .before .before .before .before .before .loop in
     let f = fit-is _ _ _ _ _ _ (part-fits (a .n) (a .tasks .now) (l .k) _ _ _ _ _ (c .before .before .before .before .before .before .fitting .ensures) ∙ not-false _ (c .before .before .before .before .before .if1 .left)) in
-    omega (arith, f .input-in, c .before .before .before .wide .ensures .0, byte (a .tasks .now) (l .k) 0)
+    omega (arith, f .input-in, c .before .before .before .size-of-byte .ensures .0, byte (a .tasks .now) (l .k) 0)
 
 array-write-outs : tie.Need-array-write-outs Inv-loop μ-loop
 array-write-outs c =
     let a = c .before .before .before .before .before .before .before .before .before .before .before .before .before .args in
     let l = c .before .before .before .before .before .before .before .before .before .before .before .loop in
     let f = fit-is _ _ _ _ _ _ (part-fits (a .n) (a .tasks .now) (l .k) _ _ _ _ _ (c .before .before .before .before .before .before .fitting .ensures) ∙ not-false _ (c .before .before .before .before .before .if1 .left)) in
-    omega (arith, f .output-in, c .before .wide2 .ensures .0, byte (a .tasks .now) (l .k) 1)
+    omega (arith, f .output-in, c .before .size-of-byte2 .ensures .0, byte (a .tasks .now) (l .k) 1)
 
 loop-again : tie.Need-loop-again Inv-loop μ-loop
 loop-again c =
@@ -73,8 +73,8 @@ loop-again c =
       simp length-set (l .inv .2),
       simp length-set (l .inv .3),
       passed-next _ _ _ _ _ _ _ (l .inv .4) f (omega (arith, f .input-in, l .inv .2)) (omega (arith, f .output-in, l .inv .3)) _ _ _ _
-          (c .before .before .before .before .before .wide .ensures .0 ∙ byte _ (l .k) 0) (c .before .before .before .wide2 .ensures .0 ∙ byte _ (l .k) 1) (c .before .before .word-at .ensures ∙ four _ (l .k) 8) (c .before .word-at2 .ensures ∙ four _ (l .k) 4),
-      omega (arith, latest-more (a .tasks .now) (a .records) (l .k) (omega arith), c .larger .ensures, c .before .before .word-at .ensures ∙ four (a .tasks .now) (l .k) 8, l .inv .5),
+          (c .before .before .before .before .before .size-of-byte .ensures .0 ∙ byte _ (l .k) 0) (c .before .before .before .size-of-byte2 .ensures .0 ∙ byte _ (l .k) 1) (c .before .before .word-at .ensures ∙ four _ (l .k) 8) (c .before .word-at2 .ensures ∙ four _ (l .k) 4),
+      omega (arith, latest-more (a .tasks .now) (a .records) (l .k) (omega arith), c .larger-word .ensures, c .before .before .word-at .ensures ∙ four (a .tasks .now) (l .k) 8, l .inv .5),
     )
 
 returns-2 : tie.Need-returns-2 Inv-loop μ-loop

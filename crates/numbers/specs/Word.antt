@@ -1,0 +1,8 @@
+-- A word in bytes. Definitions only.
+use mathlib.Core.List.{List}
+use Prim.Native.Nat.{ℕ, _+_, _*_}
+use lib.ListN.{getD}
+
+-- four bytes from `at` on as a number, low byte first
+unfoldable pub word : List ℕ → ℕ → ℕ
+word s at = getD s at 0 + 256 * getD s (at + 1) 0 + 65536 * getD s (at + 2) 0 + 16777216 * getD s (at + 3) 0
