@@ -151,22 +151,3 @@ module _ (asked wished before : List ℕ) where
 
   pub turned-all : (after : List ℕ) (k : ℕ) → length asked ≤ k → Turned asked wished before after k → Renewed asked wished before after
   turned-all after k l t = record { size = t .size; is = λ x lx. t .done x (omega arith) }
-
--- ---- a copy: the cells below k are done
-
-pub record Copied (from to : List ℕ) (k : ℕ) : Type 0 where
-  pub done : (x : ℕ) → x < k → getD to x 0 ≡ getD from x 0
-
-module _ (from to : List ℕ) where
-  pub copied-none : Copied from to 0
-  copied-none = record { done = λ x l. absurd (omega arith) }
-
-  pub copied-next : (k : ℕ) → k < length to → Copied from to k → Copied from (set to k (getD from k 0)) (k + 1)
-  copied-next k l c = record {
-    done = λ x lx. dite (ℕ-discrete x k)
-        (λ s. rw s (getD-set-same to k (getD from k 0) 0 l))
-        (λ n. getD-set-other to k x (getD from k 0) 0 n ∙ c .done x (omega (arith, n)));
-  }
-
-  pub copied-all : (k : ℕ) → length from ≤ k → length to ≡ length from → Copied from to k → to ≡ from
-  copied-all k l size c = ext-getD 0 to from size (λ x lx. c .done x (omega arith))

@@ -2,6 +2,8 @@
 // The answer and every lent cell are promised for any N, cells, plan and number of records. The demand and the wishes are only read, and the
 // new cells are computed in working memory, so that nothing is written before all is known.
 use demand::Checked;
+use numbers::copy;
+use numbers::word_less;
 use switch::About;
 use switch::Edition;
 use switch::Outcome;
@@ -141,19 +143,9 @@ fn renew(asked: &[u32], wished: &[u32], granted: &mut [u32])
     ensures { λ _. ⌜ Renewed (now (asked .entry)) (now (wished .entry)) (now (granted .entry)) (now (granted .exit)) ⌝ }
 {
     for k in 0..asked.len() {
-        let left = less(asked[k], granted[k]);
+        let left = word_less(asked[k], granted[k]);
         granted[k] = left + wished[k];
     }
-}
-
-// a - b, and 0 where b is larger.
-fn less(a: u32, b: u32) -> u32
-    ensures { λ r. ⌜ r ≡ a - b ⌝ }
-{
-    if a < b {
-        return 0;
-    }
-    a - b
 }
 
 // Writes a new demand that no line refuses.
@@ -167,13 +159,4 @@ fn write_sum(n: usize, sum: &[u32], cells: &mut [u32]) -> Carried
     };
     copy(sum, cells);
     summed
-}
-
-fn copy(from: &[u32], to: &mut [u32])
-    requires { ⌜ length (now from) ≡ length (now to) ⌝ }
-    ensures { λ _. ⌜ now (to .exit) ≡ now (from .entry) ⌝ }
-{
-    for k in 0..from.len() {
-        to[k] = from[k];
-    }
 }

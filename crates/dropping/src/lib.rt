@@ -1,6 +1,7 @@
 // What is dropped of a damaged plan (§19.2): which records are not well formed, each with the first reason that applies, and a torn tail;
 // and the list of them, 4 bytes each. It promises each reason and every byte of the list by the definitions of the crate rescue_rule, for
 // records of any edition. What is kept, and whether the list has room, is left to the crate above.
+use numbers::size_of_byte;
 use records::HEAD;
 use switch::Edition;
 ghost use mathlib.Core.Path.{_≡_};
@@ -113,7 +114,7 @@ fn reason_of(rec: &[u8], n: usize, edition: u8) -> u8
     if records::hold_of(rec) == 0 {
         return HOLD;
     }
-    if wide(rec[2]) != n {
+    if size_of_byte(rec[2]) != n {
         return PORTS;
     }
     if rec[3] != edition {
@@ -153,14 +154,8 @@ fn in_range(outputs: &[u8], n: usize) -> bool
 fn one_in_range(b: u8, n: usize) -> bool
     ensures { λ r. ⌜ r ≡ (ltb b n || eqb b 255) ⌝ }
 {
-    if wide(b) < n {
+    if (b as usize) < n {
         return true;
     }
     b == records::IDLE
-}
-
-fn wide(b: u8) -> usize
-    ensures { λ r. ⌜ r ≡ b ⌝ }
-{
-    b as usize
 }

@@ -1,6 +1,7 @@
 // What the first records of a plan grant each pair: one pass, which a record that is not well formed stops.
 // The checker holds the grants of a whole plan against a demand, and a carry-over takes those of the records that were run off what was
 // asked. Which plans there are and what a well-formed record is stand below; what the grants are held against is left to the crates above.
+use numbers::size_of_byte;
 use records::HEAD;
 use switch::Counts;
 use switch::Edition;
@@ -39,16 +40,10 @@ pub fn grant_record(rec: &[u8], n: usize, hold: u32, grants: &mut [u32])
     ensures { λ _. ⌜ Granted n hold (decoded (now (rec .entry))) (now (grants .entry)) (now (grants .exit)) ⌝ }
 {
     for i in 0..n {
-        let j = wide(rec[HEAD + i]);
+        let j = size_of_byte(rec[HEAD + i]);
         if j < n {
             let at = demand::cell_at(n, InputPort(i), OutputPort(j));
             grants[at] += hold;
         }
     }
-}
-
-fn wide(b: u8) -> usize
-    ensures { λ r. ⌜ r ≡ b ⌝ }
-{
-    b as usize
 }

@@ -174,7 +174,7 @@ fn lay_first(e: Edition, n: usize, unit: u32, first: &[u8], records: usize, plan
     let width = e.width;
     for k in 0..records {
         let rec = record_at(first, width, k);
-        let hold = wide(hold_of(rec)) * unit;
+        let hold = hold_of(rec) as u32 * unit;
         put_record(
             plan,
             k * (width + HEAD),
@@ -197,10 +197,4 @@ fn done(records: usize, total: u64) -> Outcome
         length: 0,
         empty: 0,
     })
-}
-
-fn wide(hold: u16) -> u32
-    ensures { λ r. ⌜ r ≡ hold ⌝ }
-{
-    hold as u32
 }

@@ -4,6 +4,8 @@
 use demand::Checked;
 use demand::cell_at;
 use demand::check_demand;
+use numbers::larger_long;
+use numbers::long_of_word;
 use switch::Counts;
 use switch::InputPort;
 use switch::Outcome;
@@ -32,7 +34,7 @@ pub fn least_within(n: usize, cells: &[u32], limit: u64) -> Outcome
             Outcome::Done(Counts {
                 records: 0,
                 longest: longest,
-                total: larger(longest, shared),
+                total: larger_long(longest, shared),
                 length: 0,
                 empty: 0,
             })
@@ -47,7 +49,7 @@ fn busiest_sum(n: usize, cells: &[u32]) -> u64
 {
     let mut most: u64 = 0;
     for w in 0..n {
-        most = larger(most, band_sum(n, cells, w));
+        most = larger_long(most, band_sum(n, cells, w));
     }
     most
 }
@@ -60,7 +62,7 @@ fn band_sum(n: usize, cells: &[u32], w: usize) -> u64
     let mut sum: u64 = 0;
     for i in 0..n {
         let at = cell_at(n, InputPort(i), OutputPort((i + w) % n));
-        sum += wide(cells[at]);
+        sum += long_of_word(cells[at]);
     }
     sum
 }
@@ -74,19 +76,4 @@ fn rounded_up(sum: u64, by: u64) -> u64
         return 0;
     }
     (sum - 1) / by + 1
-}
-
-fn larger(a: u64, b: u64) -> u64
-    ensures { λ r. ⌜ r ≡ max a b ⌝ }
-{
-    if a < b {
-        return b;
-    }
-    a
-}
-
-fn wide(x: u32) -> u64
-    ensures { λ r. ⌜ r ≡ x ⌝ }
-{
-    x as u64
 }

@@ -1,6 +1,7 @@
 // The lister's text: the bytes of a wish list to the exact plan of its demand, or to the line of what is refused.
 // `listing` promises the text to the byte, for any bytes, and that it fits; the program `lister` only reads and writes.
 // How a line is laid out is the crate `text`'s matter, and the plan the planner's.
+use numbers::larger_size;
 use switch::Outcome;
 use switch::Refusal;
 use text::put_plan;
@@ -64,16 +65,10 @@ fn ports_of(list: &[u8]) -> usize
     let mut n: usize = 0;
     for k in 0..count {
         let at = RECORD * k;
-        n = larger(n, above(list[at]));
-        n = larger(n, above(list[at + 1]));
+        n = larger_size(n, above(list[at]));
+        n = larger_size(n, above(list[at + 1]));
     }
     n
-}
-
-fn larger(a: usize, b: usize) -> usize
-    ensures { λ r. ⌜ r ≡ max a b ⌝ }
-{
-    if a < b { b } else { a }
 }
 
 // One more than a port.

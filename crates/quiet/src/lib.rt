@@ -220,7 +220,7 @@ fn lay_records(
         }
         put_record(plan, at, EDITION, hold as u16, n, &out);
         at += RECORD;
-        held += wide(hold);
+        held += hold as u64;
         records += 1;
     }
 }
@@ -314,10 +314,4 @@ fn give(
         return;
     }
     take(work, n, lows, highs, i, OutputPort(j), hold);
-}
-
-fn wide(x: u32) -> u64
-    ensures { λ r. ⌜ r ≡ x ⌝ }
-{
-    x as u64
 }

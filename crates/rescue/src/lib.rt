@@ -2,6 +2,8 @@
 // says which records were dropped, and why. `rescue_plan` promises its answer and every byte of both lent buffers for any N, cells and
 // bytes, and nothing is written before all is known. What is kept, dropped and added stands on paper in the crate rescue_rule.
 use demand::Checked;
+use numbers::smaller_size;
+use numbers::word_less;
 use records::HEAD;
 use switch::Counts;
 use switch::Edition;
@@ -166,7 +168,7 @@ fn write_or_refuse(
     ensures { λ r. ⌜ Saves (fitting e n (stock .longest) (stock .empty) (kept (e .width) (e .byte) n (now (damaged .entry))) (exactPlan (e .width) n (now (left .entry))) (dropped (e .width) (e .byte) n (now (damaged .entry))) (now (plan .entry)) (now (list .entry))) r (now (plan .exit)) (now (list .exit)) ⌝ }
 {
     let room = plan.len() / (e.width + HEAD);
-    let most = smaller(e.records, room);
+    let most = smaller_size(e.records, room);
     let records = records_known(n, stock.kept, stock.left, left, spare, most);
     if e.records < records {
         return refused(Refusal::Records(e.records));
@@ -196,16 +198,6 @@ fn records_known(
     let square = n * n;
     board::copy(&left[0..square], spare);
     kept + exact::short_of(spare, n, longest, behind(most, kept))
-}
-
-// The smaller of two numbers.
-fn smaller(a: usize, b: usize) -> usize
-    ensures { λ r. ⌜ (r ≤ a) × (r ≤ b) ⌝ }
-{
-    if a < b {
-        return a;
-    }
-    b
 }
 
 // The room behind so many records.
@@ -294,7 +286,7 @@ fn surplus(n: usize, cells: &[u32], grants: &[u32]) -> u64
 {
     let mut empty: u64 = 0;
     for k in 0..cells.len() {
-        empty += less(grants[k], cells[k]) as u64;
+        empty += word_less(grants[k], cells[k]) as u64;
     }
     empty
 }
@@ -305,18 +297,8 @@ fn leave(cells: &[u32], grants: &mut [u32])
     ensures { λ _. ⌜ Left (length (now (cells .entry))) (now (cells .entry)) (now (grants .entry)) (now (grants .exit)) ⌝ }
 {
     for k in 0..cells.len() {
-        grants[k] = less(cells[k], grants[k]);
+        grants[k] = word_less(cells[k], grants[k]);
     }
-}
-
-// The larger of 0 and a less b.
-fn less(a: u32, b: u32) -> u32
-    ensures { λ r. ⌜ r ≡ a - b ⌝ }
-{
-    if a < b {
-        return 0;
-    }
-    a - b
 }
 
 // Lays the rescued plan over a plan from its start on: the kept records, and behind them the exact plan of what they leave uncovered; and how

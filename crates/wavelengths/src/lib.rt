@@ -1,6 +1,7 @@
 // What a plan does on the grating fabric, where the pair (i, j) has wavelength (j - i) mod N: the largest number of inputs on one
 // wavelength, record by record (§13.3). It judges the plan as every reader of plans does, and promises its whole answer and every byte of the
 // report for any N and any bytes; everything is decided before the first byte is written. Who made the plan makes no difference.
+use numbers::size_of_byte;
 use plans::check_plan;
 use plans::record_at;
 use records::HEAD;
@@ -67,7 +68,7 @@ fn count_inputs(n: usize, rec: &[u8], shares: &mut [u8])
     ensures { λ _. ⌜ Shares n (decoded (now (rec .entry))) (now (shares .exit)) ⌝ }
 {
     for i in 0..n {
-        let j = wide(rec[HEAD + i]);
+        let j = size_of_byte(rec[HEAD + i]);
         if j < n {
             let w = wavelength_of(n, InputPort(i), OutputPort(j));
             shares[w] += 1;
@@ -95,10 +96,4 @@ fn largest(numbers: &[u8]) -> u8
         }
     }
     most
-}
-
-fn wide(b: u8) -> usize
-    ensures { λ r. ⌜ r ≡ b ⌝ }
-{
-    b as usize
 }

@@ -17,8 +17,8 @@ abbrev μ-loop : tie.MeasureT-loop
 loop-holds : tie.Need-loop-holds Inv-loop μ-loop
 loop-holds c = (refl, omega arith, turned-none _ _ _)
 
-slice-read-less : tie.Need-slice-read-less Inv-loop μ-loop
-slice-read-less c = omega (arith, c .before .before .before .loop .inv .2 .size, c .before .before .before .before .before .before .before .pre .room)
+slice-read-word-less : tie.Need-slice-read-word-less Inv-loop μ-loop
+slice-read-word-less c = omega (arith, c .before .before .before .loop .inv .2 .size, c .before .before .before .before .before .before .before .pre .room)
 
 shared-slice-read-granted : tie.Need-shared-slice-read-granted Inv-loop μ-loop
 shared-slice-read-granted c = omega (arith, c .before .before .before .before .before .before .before .before .before .pre .size)
@@ -27,7 +27,7 @@ add-granted : tie.Need-add-granted Inv-loop μ-loop
 add-granted c =
     let p5 = c .before .before .before .before .before in
     let p9 = p5 .before .before .before .before in
-    omega (arith, c .before .less .ensures, p9 .pre .small (p5 .loop .k) (omega arith))
+    omega (arith, c .before .word-less .ensures, p9 .pre .small (p5 .loop .k) (omega arith))
 
 slice-write-granted : tie.Need-slice-write-granted Inv-loop μ-loop
 slice-write-granted c =
@@ -40,7 +40,7 @@ loop-again c =
     let p5 = c .before .before .before .before .before in
     let p9 = p5 .before .before .before .before in
     let l = p5 .loop in
-    (refl, omega arith, turned-next _ _ _ (l .granted) (l .k) (omega (arith, p9 .pre .room)) (l .inv .2) _ (omega (arith, c .before .less .ensures)))
+    (refl, omega arith, turned-next _ _ _ (l .granted) (l .k) (omega (arith, p9 .pre .room)) (l .inv .2) _ (omega (arith, c .before .word-less .ensures)))
 
 same-length : tie.Need-same-length Inv-loop μ-loop
 same-length c = c .before .loop .inv .2 .size
@@ -52,6 +52,6 @@ pub renew-spec : {M : Type 1} → statement M
 renew-spec =
     tie.close
     (tie.spec
-    Inv-loop μ-loop loop-holds (λ c. search needs) (λ c. search needs) (λ c. search needs) slice-read-less (λ c κs. search needs) (λ c. search needs)
+    Inv-loop μ-loop loop-holds (λ c. search needs) (λ c. search needs) (λ c. search needs) slice-read-word-less (λ c κs. search needs) (λ c. search needs)
     shared-slice-read-granted add-granted (λ c. search needs) slice-write-granted (λ c. search needs) (λ c. search needs) loop-again same-length
     returns)

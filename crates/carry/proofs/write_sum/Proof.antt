@@ -1,5 +1,6 @@
 -- A sum that is refused is not written.
 use mathlib.Core.Path.{sym, ap, _∙_}
+use Rattle.numbers.proofs.Copies.{copy-whole}
 use Rattle.carry.specs.declared.Carried.{Carried}
 use Rattle.carry.specs.Carry.{cellsAfter}
 use borrow.Author.Needs.{needs}
@@ -17,7 +18,7 @@ returns-2 c =
     let p6 = p4 .before .before in
     let p9 = p6 .before .before .before in
     let a = p9 .args in
-    (p6 .lines-of .ensures, c .before .before .copy .ensures ∙ sym (ap (λ (x : Carried). cellsAfter x (a .sum .now) (a .cells .now)) (p4 .enum-told .given .1)))
+    (p6 .lines-of .ensures, c .before .before .copy .ensures ∙ copy-whole _ _ (p9 .pre .1) ∙ sym (ap (λ (x : Carried). cellsAfter x (a .sum .now) (a .cells .now)) (p4 .enum-told .given .1)))
 
 pub write-sum-spec : {M : Type 1} → statement M
 write-sum-spec =

@@ -20,11 +20,11 @@ returns-2 c = sym (reason-hold _ _ _ _ (sym (c .before .hold-of .ensures) ∙ c 
 
 returns-3 : tie.Need-returns-3
 returns-3 c =
-    sym (reason-ports _ _ _ (c .before .before .before .before .before .before .before .before .args .rec .now) (omega (arith, c .before .before .before .before .hold-of .ensures, c .before .before .before .if2 .left)) (λ q. c .if3 .taken (c .before .wide .ensures ∙ q)))
+    sym (reason-ports _ _ _ (c .before .before .before .before .before .before .before .before .args .rec .now) (omega (arith, c .before .before .before .before .hold-of .ensures, c .before .before .before .if2 .left)) (λ q. c .if3 .taken (c .before .size-of-byte .ensures .0 ∙ q)))
 
 returns-4 : tie.Need-returns-4
 returns-4 c =
-    sym (reason-spare _ _ _ (c .before .before .before .before .before .before .before .before .before .before .args .rec .now) (omega (arith, c .before .before .before .before .before .before .hold-of .ensures, c .before .before .before .before .before .if2 .left)) (sym (c .before .before .before .wide .ensures) ∙ c .before .before .if3 .left) (c .if4 .taken))
+    sym (reason-spare _ _ _ (c .before .before .before .before .before .before .before .before .before .before .args .rec .now) (omega (arith, c .before .before .before .before .before .before .hold-of .ensures, c .before .before .before .before .before .if2 .left)) (sym (c .before .before .before .size-of-byte .ensures .0) ∙ c .before .before .if3 .left) (c .if4 .taken))
 
 outputs-reason-requires : tie.Need-outputs-reason-requires
 outputs-reason-requires c κs =
@@ -34,7 +34,7 @@ outputs-reason-requires c κs =
       s .pre .0,
       omega (arith, s .pre .1, part-size rec long),
       part-says rec long (λ w o. outputsFine w (s .args .n) o)
-          ∙ sym (outputs-decide (length rec - 4) (s .args .edition) (s .args .n) rec (λ q. c .before .before .before .before .before .before .if2 .left (c .before .before .before .before .before .before .before .hold-of .ensures ∙ q)) (sym (c .before .before .before .before .wide .ensures) ∙ c .before .before .before .if3 .left) (c .before .if4 .left))
+          ∙ sym (outputs-decide (length rec - 4) (s .args .edition) (s .args .n) rec (λ q. c .before .before .before .before .before .before .if2 .left (c .before .before .before .before .before .before .before .hold-of .ensures ∙ q)) (sym (c .before .before .before .before .size-of-byte .ensures .0) ∙ c .before .before .before .if3 .left) (c .before .if4 .left))
           ∙ sym (c .before .before .before .before .before .before .before .before .before .record-fine .ensures) ∙ c .before .before .before .before .before .before .before .before .if1 .left,
     )
 
@@ -46,7 +46,7 @@ returns-5 c =
     let held : 0 < hold rec = omega (arith, c .before .before .before .before .before .before .before .before .hold-of .ensures, c .before .before .before .before .before .before .before .if2 .left) in
     c .outputs-reason .ensures
     ∙ part-says rec long (λ w o. outputsReason w (s .args .n) o)
-    ∙ sym (reason-outputs (length rec - 4) (s .args .edition) (s .args .n) rec (record { held = held; ports = sym (c .before .before .before .before .before .wide .ensures) ∙ c .before .before .before .before .if3 .left; edition = c .before .before .if4 .left }))
+    ∙ sym (reason-outputs (length rec - 4) (s .args .edition) (s .args .n) rec (record { held = held; ports = sym (c .before .before .before .before .before .size-of-byte .ensures .0) ∙ c .before .before .before .before .if3 .left; edition = c .before .before .if4 .left }))
 
 pub reason-of-spec : {M : Type 1} → statement M
 reason-of-spec =

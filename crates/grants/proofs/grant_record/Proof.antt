@@ -29,25 +29,25 @@ mul-grants c =
 slice-read-grants : tie.Need-slice-read-grants Inv-loop μ-loop
 slice-read-grants c =
     let l = c .before .before .before .before .before .before .loop in
-    let o = output-byte (c .before .before .before .before .before .before .before .before .before .args .rec .now) (l .i) (omega (arith, c .before .before .before .before .before .before .before .before .before .pre .size)) ∙ sym (c .before .before .before .wide .ensures) in
+    let o = output-byte (c .before .before .before .before .before .before .before .before .before .args .rec .now) (l .i) (omega (arith, c .before .before .before .before .before .before .before .before .before .pre .size)) ∙ sym (c .before .before .before .size-of-byte .ensures .0) in
     pair-inside _ _ _ _ _ (l .i) (omega arith) (l .inv .1) _ o (c .before .before .if1 .taken) _ (c .before .cell-at .ensures) (c .before .before .before .before .before .before .before .before .before .pre .room)
 
 add-grants : tie.Need-add-grants Inv-loop μ-loop
 add-grants c =
     let l = c .before .before .before .before .before .before .loop in
-    let o = output-byte (c .before .before .before .before .before .before .before .before .before .args .rec .now) (l .i) (omega (arith, c .before .before .before .before .before .before .before .before .before .pre .size)) ∙ sym (c .before .before .before .wide .ensures) in
+    let o = output-byte (c .before .before .before .before .before .before .before .before .before .args .rec .now) (l .i) (omega (arith, c .before .before .before .before .before .before .before .before .before .pre .size)) ∙ sym (c .before .before .before .size-of-byte .ensures .0) in
     omega (arith, pair-small _ _ _ _ _ (l .i) (omega arith) (l .inv .1) _ o (c .before .before .if1 .taken) _ (c .before .cell-at .ensures) _ (c .before .before .before .before .before .before .before .before .before .pre))
 
 slice-write-grants : tie.Need-slice-write-grants Inv-loop μ-loop
 slice-write-grants c =
     let l = c .before .before .before .before .before .before .loop in
-    let o = output-byte (c .before .before .before .before .before .before .before .before .before .args .rec .now) (l .i) (omega (arith, c .before .before .before .before .before .before .before .before .before .pre .size)) ∙ sym (c .before .before .before .wide .ensures) in
+    let o = output-byte (c .before .before .before .before .before .before .before .before .before .args .rec .now) (l .i) (omega (arith, c .before .before .before .before .before .before .before .before .before .pre .size)) ∙ sym (c .before .before .before .size-of-byte .ensures .0) in
     pair-inside _ _ _ _ _ (l .i) (omega arith) (l .inv .1) _ o (c .before .before .if1 .taken) _ (c .before .cell-at .ensures) (c .before .before .before .before .before .before .before .before .before .pre .room)
 
 loop-again : tie.Need-loop-again Inv-loop μ-loop
 loop-again c =
     let l = c .before .before .before .before .loop in
-    let o = output-byte (c .before .before .before .before .before .before .before .args .rec .now) (l .i) (omega (arith, c .before .before .before .before .before .before .before .pre .size)) ∙ sym (c .before .wide .ensures) in (
+    let o = output-byte (c .before .before .before .before .before .before .before .args .rec .now) (l .i) (omega (arith, c .before .before .before .before .before .before .before .pre .size)) ∙ sym (c .before .size-of-byte .ensures .0) in (
       omega arith,
       ⊎-elim
           (λ w. partly-joined _ _ _ _ _ (l .i) (omega arith) (l .inv .1) _ o (w .0 .taken) _ (w .1 .ensures) (c .before .before .before .before .before .before .before .pre .room) _ (w .3))

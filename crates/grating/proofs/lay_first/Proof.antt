@@ -21,11 +21,11 @@ module _ {W u : ℕ} {first : List ℕ} {m sum : ℕ} (f : First W u first m sum
   outs : take (length rec - 4) (drop 4 rec) ≡ outputs (recordAt W first k)
   outs = part-outputs rec ∙ ap outputs is
 
-  longer-is : {w h : ℕ} → w ≡ h → h ≡ hold rec → w * u ≡ hold (recordAt W first k) * u
-  longer-is a b = ap (λ (x : ℕ). x * u) (a ∙ b ∙ ap hold is)
+  longer-is : {h : ℕ} → h ≡ hold rec → h * u ≡ hold (recordAt W first k) * u
+  longer-is e = ap (λ (x : ℕ). x * u) (e ∙ ap hold is)
 
-  fits : {w h : ℕ} → w ≡ h → h ≡ hold rec → w * u ≤ 65535
-  fits a b = omega (arith, longer-is a b, longer-small f k l)
+  fits : {h : ℕ} → h ≡ hold rec → h * u ≤ 65535
+  fits e = omega (arith, longer-is e, longer-small f k l)
 
   inside : {room : ℕ} → m * (W + 4) ≤ room → k * (W + 4) ≤ room
   inside r = omega (arith, r, mul-le-mul-right (W + 4) (let h : k ≤ m = omega arith in h))
@@ -47,43 +47,43 @@ hold-of-requires c κs = omega (arith, long (c .before .before .before .before .
 
 mul-hold : tie.Need-mul-hold Inv-loop μ-loop
 mul-hold c =
-    omega (arith, fits (c .before .before .before .before .before .before .before .pre .2) _ (c .before .before .before .loop-test .taken) (c .before .before .record-at .ensures) (c .wide .ensures) (c .before .hold-of .ensures))
+    omega (arith, fits (c .before .before .before .before .before .before .pre .2) _ (c .before .before .loop-test .taken) (c .before .record-at .ensures) (c .hold-of .ensures))
 
 add-put-record : tie.Need-add-put-record Inv-loop μ-loop
-add-put-record c = omega (arith, c .before .before .before .before .before .before .before .before .pre .1)
+add-put-record c = omega (arith, c .before .before .before .before .before .before .before .pre .1)
 
 mul-put-record : tie.Need-mul-put-record Inv-loop μ-loop
 mul-put-record c =
-    let p = c .before .before .before .before .before .before .before .before .pre in
-    omega (arith, inside (p .2) _ (c .before .before .before .before .loop-test .taken) (c .before .before .before .record-at .ensures) (p .3))
+    let p = c .before .before .before .before .before .before .before .pre in
+    omega (arith, inside (p .2) _ (c .before .before .before .loop-test .taken) (c .before .before .record-at .ensures) (p .3))
 
 cast-put-record : tie.Need-cast-put-record Inv-loop μ-loop
 cast-put-record c =
-    omega (arith, fits (c .before .before .before .before .before .before .before .before .pre .2) _ (c .before .before .before .before .loop-test .taken) (c .before .before .before .record-at .ensures) (c .before .wide .ensures) (c .before .before .hold-of .ensures))
+    omega (arith, fits (c .before .before .before .before .before .before .before .pre .2) _ (c .before .before .before .loop-test .taken) (c .before .before .record-at .ensures) (c .before .hold-of .ensures))
 
 sub-put-record : tie.Need-sub-put-record Inv-loop μ-loop
-sub-put-record c = omega (arith, long (c .before .before .before .before .before .before .before .before .pre .2) _ (c .before .before .before .before .loop-test .taken) (c .before .before .before .record-at .ensures))
+sub-put-record c = omega (arith, long (c .before .before .before .before .before .before .before .pre .2) _ (c .before .before .before .loop-test .taken) (c .before .before .record-at .ensures))
 
 part-put-record-start : tie.Need-part-put-record-start Inv-loop μ-loop
-part-put-record-start c = omega (arith, long (c .before .before .before .before .before .before .before .before .pre .2) _ (c .before .before .before .before .loop-test .taken) (c .before .before .before .record-at .ensures))
+part-put-record-start c = omega (arith, long (c .before .before .before .before .before .before .before .pre .2) _ (c .before .before .before .loop-test .taken) (c .before .before .record-at .ensures))
 
 put-record-requires : tie.Need-put-record-requires Inv-loop μ-loop
 put-record-requires c κs =
-    let s = c .before .before .before .before .before .before .before .before .before in
+    let s = c .before .before .before .before .before .before .before .before in
     let f = s .pre .2 in
-    let l = c .before .before .before .before .before .before .loop in
-    let t = c .before .before .before .before .before .loop-test .taken in
-    let o = outs f (l .k) t (c .before .before .before .before .record-at .ensures) in
+    let l = c .before .before .before .before .before .loop in
+    let t = c .before .before .before .before .loop-test .taken in
+    let o = outs f (l .k) t (c .before .before .before .record-at .ensures) in
     (omega (arith, s .pre .0, s .pre .1), omega (arith, ap length o, laying-room f (s .args .e .byte) (s .args .n) (s .args .plan .now) (l .inv .1) t))
 
 loop-again : tie.Need-loop-again Inv-loop μ-loop
 loop-again c =
-    let s = c .before .before .before .before .before .before .before .before .before .before .before .before in
+    let s = c .before .before .before .before .before .before .before .before .before .before .before in
     let f = s .pre .2 in
-    let l = c .before .before .before .before .before .before .before .before .before .loop in
-    let t = c .before .before .before .before .before .before .before .before .loop-test .taken in
-    let is = c .before .before .before .before .before .before .before .record-at .ensures in
-    let h = longer-is f (l .k) t is (c .before .before .before .before .before .wide .ensures) (c .before .before .before .before .before .before .hold-of .ensures) in
+    let l = c .before .before .before .before .before .before .before .before .loop in
+    let t = c .before .before .before .before .before .before .before .loop-test .taken in
+    let is = c .before .before .before .before .before .before .record-at .ensures in
+    let h = longer-is f (l .k) t is (c .before .before .before .before .before .hold-of .ensures) in
     let put = c .before .before .put-record .ensures ∙ ap₂ (λ (x : ℕ) (o : List ℕ). laid (l .plan) (l .k * (s .args .e .width + 4)) (encode (s .args .e .byte) x (s .args .n) o)) h (outs f (l .k) t is) in
     (omega arith, laying-next f (s .args .e .byte) (s .args .n) (s .args .plan .now) (l .inv .1) t put)
 
@@ -97,6 +97,6 @@ pub lay-first-spec : {M : Type 1} → statement M
 lay-first-spec =
     tie.close
     (tie.spec
-    Inv-loop μ-loop loop-holds record-at-requires hold-of-requires (λ c κs. search needs) mul-hold add-put-record mul-put-record cast-put-record
+    Inv-loop μ-loop loop-holds record-at-requires hold-of-requires (λ c. search needs) mul-hold add-put-record mul-put-record cast-put-record
     sub-put-record part-put-record-start (λ c. search needs) put-record-requires (λ c. search needs) (λ c. search needs) loop-again same-length
     returns)

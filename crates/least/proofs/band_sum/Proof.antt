@@ -38,14 +38,14 @@ place c =
     let a = c .before .before .before .before .args in
     omega (arith, c .cell-at .ensures, c .before .before .before .before .pre .0 .room, digits-lt {q = c .before .before .loop .i} {m = a .n} {r = (c .before .before .loop .i + a .w) % a .n} {c = a .n} (c .before .loop-test .taken) (inside (c .before)))
 
-mul-wide : tie.Need-mul-wide Inv-loop μ-loop
-mul-wide c = omega (arith, place c)
+mul-long-of-word : tie.Need-mul-long-of-word Inv-loop μ-loop
+mul-long-of-word c = omega (arith, place c)
 
-shared-slice-read-wide : tie.Need-shared-slice-read-wide Inv-loop μ-loop
-shared-slice-read-wide c = place (c .before)
+shared-slice-read-long-of-word : tie.Need-shared-slice-read-long-of-word Inv-loop μ-loop
+shared-slice-read-long-of-word c = place (c .before)
 
 add-sum : tie.Need-add-sum Inv-loop μ-loop
-add-sum c = omega (arith, c .wide .ensures, c .before .shared-slice-known2 .given (c .before .before .cell-at .result), c .before .before .before .before .before .before .pre .0 .few)
+add-sum c = omega (arith, c .long-of-word .ensures .1, c .before .before .before .before .before .before .pre .0 .few)
 
 loop-again : tie.Need-loop-again Inv-loop μ-loop
 unfolding cell
@@ -54,8 +54,8 @@ loop-again c =
     let l = c .before .before .before .before .loop in
     let k = c .before .before .cell-at in (
       omega arith,
-      omega (arith, c .wide .ensures, l .inv .1, sum-next (l .i) (λ x. cell (a .n) (a .cells .now) x ((x + a .w) % a .n)), ap (λ (x : ℕ). getD (a .cells .now) x 0) (k .ensures)),
-      omega (arith, c .wide .ensures, c .before .shared-slice-known2 .given (k .result)),
+      omega (arith, c .long-of-word .ensures .0, l .inv .1, sum-next (l .i) (λ x. cell (a .n) (a .cells .now) x ((x + a .w) % a .n)), ap (λ (x : ℕ). getD (a .cells .now) x 0) (k .ensures)),
+      omega (arith, c .long-of-word .ensures .1),
     )
 
 returns : tie.Need-returns Inv-loop μ-loop
@@ -70,5 +70,5 @@ pub band-sum-spec : {M : Type 1} → statement M
 band-sum-spec =
     tie.close
     (tie.spec
-    Inv-loop μ-loop loop-holds add-t9 (λ c. search needs) cell-at-requires mul-wide shared-slice-read-wide (λ c κs. search needs) add-sum
+    Inv-loop μ-loop loop-holds add-t9 (λ c. search needs) cell-at-requires mul-long-of-word shared-slice-read-long-of-word (λ c κs. search needs) add-sum
     (λ c. search needs) (λ c. search needs) loop-again returns)

@@ -23,7 +23,7 @@ band-sum-requires : tie.Need-band-sum-requires Inv-loop μ-loop
 band-sum-requires c κs = (c .before .before .before .pre, c .loop-test .taken)
 
 loop-again : tie.Need-loop-again Inv-loop μ-loop
-loop-again c = (omega arith, c .larger .ensures ∙ ap₂ max (c .before .before .before .loop .inv .1) (c .before .band-sum .ensures) ∙ sym (most-next _ _))
+loop-again c = (omega arith, c .larger-long .ensures ∙ ap₂ max (c .before .before .before .loop .inv .1) (c .before .band-sum .ensures) ∙ sym (most-next _ _))
 
 returns : tie.Need-returns Inv-loop μ-loop
 unfolding busiest

@@ -29,7 +29,7 @@ returns-2 c = let a = c .before .before .before .before .before .args in least-f
 returns-3 : tie.Need-returns-3
 returns-3 c =
     let a = c .before .before .before .before .before .before .before .before .before .args in
-    least-told (a .n) (a .cells .now) (a .limit) _ (fine (c .before .before .before .before .before)) (omega (arith, c .before .before .before .if1 .left)) _ _ _ (c .before .before .busiest-sum .ensures) (c .before .rounded-up .ensures) (c .larger .ensures)
+    least-told (a .n) (a .cells .now) (a .limit) _ (fine (c .before .before .before .before .before)) (omega (arith, c .before .before .before .if1 .left)) _ _ _ (c .before .before .busiest-sum .ensures) (c .before .rounded-up .ensures) (c .larger-long .ensures)
 
 pub least-within-spec : {M : Type 1} → statement M
 least-within-spec =

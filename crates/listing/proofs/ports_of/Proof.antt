@@ -21,7 +21,7 @@ loop-holds c = (omega arith, refl, sym (ports-none _))
 loop-again : tie.Need-loop-again Inv-loop μ-loop
 loop-again c =
     let l = c .before .before .before .before .before .before .before .loop in
-    (omega arith, l .inv .1, c .larger2 .ensures ∙ ap (λ (x : ℕ). max x (c .before .above2 .result)) (c .before .before .before .larger .ensures ∙ ap (λ (x : ℕ). max x (c .before .before .before .before .above .result)) (l .inv .2)) ∙ ports-next (c .before .before .before .before .before .before .before .before .before .args .list .now) (l .k) _ _ (c .before .before .before .before .above .ensures) (c .before .above2 .ensures))
+    (omega arith, l .inv .1, c .larger-size2 .ensures ∙ ap (λ (x : ℕ). max x (c .before .above2 .result)) (c .before .before .before .larger-size .ensures ∙ ap (λ (x : ℕ). max x (c .before .before .before .before .above .result)) (l .inv .2)) ∙ ports-next (c .before .before .before .before .before .before .before .before .before .args .list .now) (l .k) _ _ (c .before .before .before .before .above .ensures) (c .before .above2 .ensures))
 
 returns : tie.Need-returns Inv-loop μ-loop
 returns c =

@@ -89,41 +89,40 @@ add-at c = omega (arith, room (c .before .before .before .before .before), long 
 
 add-held : tie.Need-add-held Inv-loop μ-loop
 add-held c =
-    let k = c .before .before .before .before .before .before .before .before .before .before .before .before .before .before .next-record in
-    let l = c .before .before .before .before .before .before .before .before .before .before .before .before .before .before .before .before .before .before .before .loop in
-    let a = c .before .before .before .before .before .before .before .before .before .before .before .before .before .before .before .before .before .before .before .before .before .before .before .before .args in
-    omega (arith, c .wide .ensures, laying-small (a .n) (a .limit) (leftover (a .n) (a .limit) (a .work .now)) (a .plan .now) (l .work) (l .plan) (l .records) (l .at) (l .held) (l .inv .1) (k .last .1 .1 .0) (k .last .1 .1 .1 .0) (k .last .1 .1 .1 .1 .0) (k .last .1 .1 .1 .1 .1 .0) (k .result) (k .ensures) (long (c .before .before .before .before .before .before)) (some (c .before .before .before .before .before .before)))
+    let k = c .before .before .before .before .before .before .before .before .before .before .before .before .before .next-record in
+    let l = c .before .before .before .before .before .before .before .before .before .before .before .before .before .before .before .before .before .before .loop in
+    let a = c .before .before .before .before .before .before .before .before .before .before .before .before .before .before .before .before .before .before .before .before .before .before .before .args in
+    omega (arith, laying-small (a .n) (a .limit) (leftover (a .n) (a .limit) (a .work .now)) (a .plan .now) (l .work) (l .plan) (l .records) (l .at) (l .held) (l .inv .1) (k .last .1 .1 .0) (k .last .1 .1 .1 .0) (k .last .1 .1 .1 .1 .0) (k .last .1 .1 .1 .1 .1 .0) (k .result) (k .ensures) (long (c .before .before .before .before .before)) (some (c .before .before .before .before .before)))
 
 add-records : tie.Need-add-records Inv-loop μ-loop
 add-records c =
-    let k = c .before .before .before .before .before .before .before .before .before .before .before .before .before .before .next-record in
-    let l = c .before .before .before .before .before .before .before .before .before .before .before .before .before .before .before .before .before .before .before .loop in
-    let a = c .before .before .before .before .before .before .before .before .before .before .before .before .before .before .before .before .before .before .before .before .before .before .before .before .args in
-    omega (arith, running-small (a .n) (a .limit) (leftover (a .n) (a .limit) (a .work .now)) (l .work) (l .lows) (l .highs) (l .records) (l .inv .0) (k .last .1 .1 .0) (k .last .1 .1 .1 .0) (k .last .1 .1 .1 .1 .0) (k .last .1 .1 .1 .1 .1 .0) (k .result) (k .ensures) (some (c .before .before .before .before .before .before)))
+    let k = c .before .before .before .before .before .before .before .before .before .before .before .before .before .next-record in
+    let l = c .before .before .before .before .before .before .before .before .before .before .before .before .before .before .before .before .before .before .loop in
+    let a = c .before .before .before .before .before .before .before .before .before .before .before .before .before .before .before .before .before .before .before .before .before .before .before .args in
+    omega (arith, running-small (a .n) (a .limit) (leftover (a .n) (a .limit) (a .work .now)) (l .work) (l .lows) (l .highs) (l .records) (l .inv .0) (k .last .1 .1 .0) (k .last .1 .1 .1 .0) (k .last .1 .1 .1 .1 .0) (k .last .1 .1 .1 .1 .1 .0) (k .result) (k .ensures) (some (c .before .before .before .before .before)))
 
 loop-less : tie.Need-loop-less Inv-loop μ-loop
 loop-less c =
-    let k = c .before .before .before .before .before .before .before .before .before .before .before .before .before .before .next-record in
-    let l = c .before .before .before .before .before .before .before .before .before .before .before .before .before .before .before .before .before .before .before .loop in
-    let a = c .before .before .before .before .before .before .before .before .before .before .before .before .before .before .before .before .before .before .before .before .before .before .before .before .args in
-    running-less (a .n) (a .limit) (leftover (a .n) (a .limit) (a .work .now)) (l .work) (l .lows) (l .highs) (l .records) (l .inv .0) (k .last .1 .1 .0) (k .last .1 .1 .1 .0) (k .last .1 .1 .1 .1 .0) (k .last .1 .1 .1 .1 .1 .0) (k .result) (k .ensures) (some (c .before .before .before .before .before .before))
+    let k = c .before .before .before .before .before .before .before .before .before .before .before .before .before .next-record in
+    let l = c .before .before .before .before .before .before .before .before .before .before .before .before .before .before .before .before .before .before .loop in
+    let a = c .before .before .before .before .before .before .before .before .before .before .before .before .before .before .before .before .before .before .before .before .before .before .before .args in
+    running-less (a .n) (a .limit) (leftover (a .n) (a .limit) (a .work .now)) (l .work) (l .lows) (l .highs) (l .records) (l .inv .0) (k .last .1 .1 .0) (k .last .1 .1 .1 .0) (k .last .1 .1 .1 .1 .0) (k .last .1 .1 .1 .1 .1 .0) (k .result) (k .ensures) (some (c .before .before .before .before .before))
 
 loop-again : tie.Need-loop-again Inv-loop μ-loop
 loop-again c =
-    let k = c .before .before .before .before .before .before .before .before .before .before .before .before .before .before .next-record in
-    let l = c .before .before .before .before .before .before .before .before .before .before .before .before .before .before .before .before .before .before .before .loop in
-    let a = c .before .before .before .before .before .before .before .before .before .before .before .before .before .before .before .before .before .before .before .before .before .before .before .before .args in
+    let k = c .before .before .before .before .before .before .before .before .before .before .before .before .before .next-record in
+    let l = c .before .before .before .before .before .before .before .before .before .before .before .before .before .before .before .before .before .before .loop in
+    let a = c .before .before .before .before .before .before .before .before .before .before .before .before .before .before .before .before .before .before .before .before .before .before .before .args in
     let p₀ = leftover (a .n) (a .limit) (a .work .now) in
-    let q = c .before .before .before .put-record in
-    let w : c .wide .result ≡ k .result = c .wide .ensures in (
-      running-next (a .n) (a .limit) p₀ (l .work) (l .lows) (l .highs) (l .records) (l .inv .0) (k .last .1 .1 .0) (k .last .1 .1 .1 .0) (k .last .1 .1 .1 .1 .0) (k .last .1 .1 .1 .1 .1 .0) (k .result) (k .ensures) (some (c .before .before .before .before .before .before)),
-      laying-next (a .n) (a .limit) p₀ (a .plan .now) (l .work) (l .plan) (l .records) (l .at) (l .held) (l .inv .1) (k .last .1 .1 .0) (k .last .1 .1 .1 .0) (k .last .1 .1 .1 .1 .0) (k .last .1 .1 .1 .1 .1 .0) (k .result) (k .ensures) (long (c .before .before .before .before .before .before)) (some (c .before .before .before .before .before .before))
-          (q .last .0) (q .ensures) _ refl _ (ap (λ (x : ℕ). l .held + x) w),
+    let q = c .before .before .put-record in (
+      running-next (a .n) (a .limit) p₀ (l .work) (l .lows) (l .highs) (l .records) (l .inv .0) (k .last .1 .1 .0) (k .last .1 .1 .1 .0) (k .last .1 .1 .1 .1 .0) (k .last .1 .1 .1 .1 .1 .0) (k .result) (k .ensures) (some (c .before .before .before .before .before)),
+      laying-next (a .n) (a .limit) p₀ (a .plan .now) (l .work) (l .plan) (l .records) (l .at) (l .held) (l .inv .1) (k .last .1 .1 .0) (k .last .1 .1 .1 .0) (k .last .1 .1 .1 .1 .0) (k .last .1 .1 .1 .1 .1 .0) (k .result) (k .ensures) (long (c .before .before .before .before .before)) (some (c .before .before .before .before .before))
+          (q .last .0) (q .ensures) _ refl _ refl,
       q .kept .0 ∙ l .inv .2,
       k .kept .1 .1 .0 ∙ l .inv .3,
       k .kept .1 .1 .1 .0 ∙ l .inv .4,
       k .kept .1 .1 .1 .1 .0 ∙ l .inv .5,
-      long (c .before .before .before .before .before .before),
+      long (c .before .before .before .before .before),
     )
 
 pub lay-records-spec : {M : Type 1} → statement M
@@ -131,4 +130,4 @@ lay-records-spec =
     tie.close
     (tie.spec
     Inv-loop μ-loop loop-holds slice-aggregate-next-record next-record-requires same-length same-length-2 same-length-3 same-length-4 returns
-    cast-put-record slice-aggregate-put-record put-record-requires add-at (λ c κs. search needs) add-held add-records loop-less loop-again)
+    cast-put-record slice-aggregate-put-record put-record-requires add-at (λ c. search needs) add-held add-records loop-less loop-again)

@@ -23,13 +23,13 @@ loop-holds c = (refl, omega arith, sym (sum-zero _), omega arith)
 add-empty : tie.Need-add-empty Inv-loop μ-loop
 add-empty c =
     let p = c .before .before .before .before .before .before .before .pre in
-    omega (arith, c .before .before .before .before .loop .inv .3, c .less .ensures, mul-le-mul (p .0) (p .0))
+    omega (arith, c .before .before .before .before .loop .inv .3, c .word-less .ensures, mul-le-mul (p .0) (p .0))
 
 loop-again : tie.Need-loop-again Inv-loop μ-loop
 loop-again c =
     let a = c .before .before .before .before .before .before .before .args in
     let l = c .before .before .before .before .loop in
-    (l .inv .0, omega arith, omega (arith, l .inv .2, c .less .ensures, sum-next (l .k) (λ x. getD (a .grants .now) x 0 - getD (a .cells .now) x 0)), omega (arith, l .inv .3))
+    (l .inv .0, omega arith, omega (arith, l .inv .2, c .word-less .ensures, sum-next (l .k) (λ x. getD (a .grants .now) x 0 - getD (a .cells .now) x 0)), omega (arith, l .inv .3))
 
 returns : tie.Need-returns Inv-loop μ-loop
 returns c =

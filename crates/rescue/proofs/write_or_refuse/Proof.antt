@@ -28,7 +28,7 @@ returns c =
     let st = s .pre .0 in
     let fit = ports-fit _ _ _ _ (st .reads) in
     let k = c .before .before .before .before .before .records-known .ensures _ (fit .0) (st .reads .bounded .width) in
-    let over = all-over _ _ _ _ _ st _ _ k _ (c .before .before .before .before .before .before .before .before .smaller .ensures .0) (c .before .if1 .taken) in
+    let over = all-over _ _ _ _ _ st _ _ k _ (omega (arith, c .before .before .before .before .before .before .before .before .smaller-size .ensures)) (c .before .if1 .taken) in
     saves-refusal (fitting-many _ _ _ _ _ _ _ _ _ (omega (arith, over, c .before .if1 .taken))) (c .refused .ensures)
 
 returns-2 : tie.Need-returns-2
@@ -37,8 +37,8 @@ returns-2 c =
     let st = s .pre .0 in
     let fit = ports-fit _ _ _ _ (st .reads) in
     let k = c .before .before .before .before .before .before .records-known .ensures _ (fit .0) (st .reads .bounded .width) in
-    let over = all-over _ _ _ _ _ st _ _ k _ (c .before .before .before .before .before .before .before .before .before .smaller .ensures .1) (c .before .if2 .taken) in
-    let few = all-within _ _ _ _ _ st _ _ k _ (c .before .before .before .before .before .before .before .before .before .smaller .ensures .0) (c .before .before .if1 .left) in
+    let over = all-over _ _ _ _ _ st _ _ k _ (omega (arith, c .before .before .before .before .before .before .before .before .before .smaller-size .ensures)) (c .before .if2 .taken) in
+    let few = all-within _ _ _ _ _ st _ _ k _ (omega (arith, c .before .before .before .before .before .before .before .before .before .smaller-size .ensures)) (c .before .before .if1 .left) in
     saves-refusal (fitting-room _ _ _ _ _ _ _ _ _ few (omega (arith, over, c .before .if2 .taken))) (c .refused2 .ensures ∙ ap {B = Answer} (λ (x : ℕ). refusal (Room x)) over)
 
 returns-3 : tie.Need-returns-3
@@ -47,8 +47,8 @@ returns-3 c =
     let st = s .pre .0 in
     let fit = ports-fit _ _ _ _ (st .reads) in
     let k = c .before .before .before .before .before .before .before .before .records-known .ensures _ (fit .0) (st .reads .bounded .width) in
-    let few = all-within _ _ _ _ _ st _ _ k _ (c .before .before .before .before .before .before .before .before .before .before .before .smaller .ensures .0) (c .before .before .before .before .if1 .left) in
-    let room = all-within _ _ _ _ _ st _ _ k _ (c .before .before .before .before .before .before .before .before .before .before .before .smaller .ensures .1) (c .before .before .before .if2 .left) in
+    let few = all-within _ _ _ _ _ st _ _ k _ (omega (arith, c .before .before .before .before .before .before .before .before .before .before .before .smaller-size .ensures)) (c .before .before .before .before .if1 .left) in
+    let room = all-within _ _ _ _ _ st _ _ k _ (omega (arith, c .before .before .before .before .before .before .before .before .before .before .before .smaller-size .ensures)) (c .before .before .before .if2 .left) in
     saves-refusal (fitting-list _ _ _ _ _ _ _ _ _ few room (omega (arith, st .goes, c .before .if3 .taken))) (c .refused3 .ensures ∙ ap {B = Answer} (λ (x : ℕ). refusal (ListRoom x)) (st .goes))
 
 write-requires : tie.Need-write-requires
@@ -57,7 +57,7 @@ write-requires c κs =
     let st = s .pre .0 in
     let fit = ports-fit _ _ _ _ (st .reads) in
     let k = c .before .before .before .before .before .before .before .before .before .before .records-known .ensures _ (fit .0) (st .reads .bounded .width) in
-    let room = all-within _ _ _ _ _ st _ _ k _ (c .before .before .before .before .before .before .before .before .before .before .before .before .before .smaller .ensures .1) (c .before .before .before .before .before .if2 .left) in (
+    let room = all-within _ _ _ _ _ st _ _ k _ (omega (arith, c .before .before .before .before .before .before .before .before .before .before .before .before .before .smaller-size .ensures)) (c .before .before .before .before .before .if2 .left) in (
       st,
       omega (arith, div-mul-le-self (length (s .args .plan .now)) (s .args .e .width + 4), mul-le-mul-right (s .args .e .width + 4) room, ap (λ (x : ℕ). x * (s .args .e .width + 4)) (all-length _ _ _ _ _ st)),
       omega (arith, c .before .before .before .if3 .left),
@@ -69,8 +69,8 @@ returns-4 c =
     let st = s .pre .0 in
     let fit = ports-fit _ _ _ _ (st .reads) in
     let k = c .before .before .before .before .before .before .before .before .before .before .before .before .before .before .before .before .before .records-known .ensures _ (fit .0) (st .reads .bounded .width) in
-    let few = all-within _ _ _ _ _ st _ _ k _ (c .before .before .before .before .before .before .before .before .before .before .before .before .before .before .before .before .before .before .before .before .smaller .ensures .0) (c .before .before .before .before .before .before .before .before .before .before .before .before .before .if1 .left) in
-    let room = all-within _ _ _ _ _ st _ _ k _ (c .before .before .before .before .before .before .before .before .before .before .before .before .before .before .before .before .before .before .before .before .smaller .ensures .1) (c .before .before .before .before .before .before .before .before .before .before .before .before .if2 .left) in
+    let few = all-within _ _ _ _ _ st _ _ k _ (omega (arith, c .before .before .before .before .before .before .before .before .before .before .before .before .before .before .before .before .before .before .before .before .smaller-size .ensures)) (c .before .before .before .before .before .before .before .before .before .before .before .before .before .if1 .left) in
+    let room = all-within _ _ _ _ _ st _ _ k _ (omega (arith, c .before .before .before .before .before .before .before .before .before .before .before .before .before .before .before .before .before .before .before .before .smaller-size .ensures)) (c .before .before .before .before .before .before .before .before .before .before .before .before .if2 .left) in
     saves-as (fitting-done _ _ _ _ _ _ _ _ _ few room (omega (arith, st .goes, c .before .before .before .before .before .before .before .before .before .before .if3 .left))) (c .before .before .before .before .before .before .write .ensures)
 
 pub write-or-refuse-spec : {M : Type 1} → statement M

@@ -26,7 +26,7 @@ slice-read-shares c = omega (arith, c .before .before .before .before .before .b
 add-shares : tie.Need-add-shares Inv-loop μ-loop
 add-shares c =
     let l = c .before .before .before .before .before .before .loop in
-    let o = output-byte (c .before .before .before .before .before .before .before .before .before .args .rec .now) (l .i) (omega (arith, c .before .before .before .before .before .before .before .before .before .pre .2)) ∙ sym (c .before .before .before .wide .ensures) in
+    let o = output-byte (c .before .before .before .before .before .before .before .before .before .args .rec .now) (l .i) (omega (arith, c .before .before .before .before .before .before .before .before .before .pre .2)) ∙ sym (c .before .before .before .size-of-byte .ensures .0) in
     omega (arith, c .before .before .before .before .before .before .before .before .before .pre .1, place-small _ _ _ (l .i) (l .inv .2) _ _ o (c .before .before .if1 .taken) (c .before .wavelength-of .ensures .0) (c .before .wavelength-of .ensures .1))
 
 slice-write-shares : tie.Need-slice-write-shares Inv-loop μ-loop
@@ -35,7 +35,7 @@ slice-write-shares c = omega (arith, c .before .before .before .before .before .
 loop-again : tie.Need-loop-again Inv-loop μ-loop
 loop-again c =
     let l = c .before .before .before .before .loop in
-    let o = output-byte (c .before .before .before .before .before .before .before .args .rec .now) (l .i) (omega (arith, c .before .before .before .before .before .before .before .pre .2)) ∙ sym (c .before .wide .ensures) in (
+    let o = output-byte (c .before .before .before .before .before .before .before .args .rec .now) (l .i) (omega (arith, c .before .before .before .before .before .before .before .pre .2)) ∙ sym (c .before .size-of-byte .ensures .0) in (
       omega arith,
       ⊎-elim (λ w. ap length (w .3) ∙ simp length-set (l .inv .1)) (λ w. rw (w .1) (l .inv .1)) (c .if1 .came),
       ⊎-elim
