@@ -1,12 +1,10 @@
 -- Cells of the working copy: an index is small and inside, the hold is the least so far, and a peeled list is one store more.
 use mathlib.Core.Path.{_≡_, refl, sym, ap, _∙_}
-use mathlib.Core.List.{List, [], _∷_, _++_}
+use mathlib.Core.List.{List, [], _∷_}
 use Prim.Native.Nat.{ℕ, zero, suc, _+_, _*_, _-_, _≤_, _<_, min}
 use native.Mathlib.Omega.{arith}
-use native.Mathlib.Nat.{mul-le-mul, zero-add}
-use native.Mathlib.Numerals.{add-one}
-use lib.ListN.{length, getD, set, drop}
-use lib.Seq.{paste, paste-suc, take-length}
+use native.Mathlib.Nat.{mul-le-mul}
+use lib.ListN.{length, getD, set}
 use lib.Arith.{digits-lt}
 use Rattle.switch.specs.Demand.{cell}
 use Rattle.rules.specs.Exact.{least}
@@ -25,20 +23,6 @@ pub getD-any : (l : List ℕ) (i a b : ℕ) → i < length l → getD l i a ≡ 
 getD-any [] i a b h = absurd (omega arith)
 getD-any (x ∷ l) zero a b h = refl
 getD-any (x ∷ l) (suc i) a b h = getD-any l i a b (omega arith)
-
--- ---- a copy
-
-pub copy-next : (d s p : List ℕ) (k : ℕ) → k < length d → k < length s → p ≡ paste d 0 s k → set p k (getD s k 0) ≡ paste d 0 s (k + 1)
-copy-next d s p k hd hs e =
-    ap (λ (l : List ℕ). set l k (getD s k 0)) e
-    ∙ ap (λ (m : ℕ). set (paste d 0 s k) m (getD s k 0)) (sym (zero-add k))
-    ∙ paste-suc d 0 s k 0 (omega arith) hs ∙ ap (paste d 0 s) (sym (add-one k))
-
-pub copy-all : (d s : List ℕ) (k : ℕ) → k ≡ length s → paste d 0 s k ≡ s ++ drop (length s) d
-copy-all d s k e =
-    ap (paste d 0 s) e
-    ∙ ap (λ (l : List ℕ). l ++ drop (0 + length s) d) (take-length s)
-    ∙ ap (λ (m : ℕ). s ++ drop m d) (zero-add (length s))
 
 -- ---- the smallest so far
 

@@ -7,12 +7,13 @@ use demand::line_sum;
 use labels::Outputs;
 use labels::put_row;
 use labels::row_of;
+pub use numbers::copy;
+use numbers::smaller_word;
 use switch::InputPort;
 use switch::OutputPort;
 ghost use mathlib.Core.Path.{_≡_};
-ghost use mathlib.Core.List.{_++_};
-ghost use Prim.Native.Nat.{ℕ, _+_, _-_, _*_, _<_, _≤_, min};
-ghost use lib.ListN.{length, set, drop};
+ghost use Prim.Native.Nat.{_+_, _-_, _*_, _<_, _≤_};
+ghost use lib.ListN.{length, set};
 ghost use Rattle.switch.specs.Demand.{cell};
 ghost use Rattle.labels.specs.Ports.{outputsOf};
 ghost use Rattle.rules.specs.Fill.{fill};
@@ -22,16 +23,6 @@ ghost use Rattle.board.specs.Labelled.{RowOf, Labelled, TakePre, TakePos
 
 // The lines of the largest switch.
 const LINES: usize = 256;
-
-// Copies a demand to the start of the working copy.
-pub fn copy(demand: &[u32], cells: &mut [u32])
-    requires { ⌜ length (now demand) ≤ length (now cells) ⌝ }
-    ensures { λ _. ⌜ now (cells .exit) ≡ now (demand .entry) ++ drop (length (now (demand .entry))) (now (cells .entry)) ⌝ }
-{
-    for k in 0..demand.len() {
-        cells[k] = demand[k];
-    }
-}
 
 // Cells in order are topped up, each by as much as its row and its column both allow (§6.2). The pair is counted on from cell to cell: a
 // division for each would cost more than the rest.
@@ -73,19 +64,10 @@ fn fill_cell(cells: &mut [u32], lacking: &mut [u32], n: usize, i: InputPort, j: 
     let at = cell_at(n, i, j);
     let across = lacking[row];
     let down = lacking[column];
-    let more = smaller(across, down);
+    let more = smaller_word(across, down);
     cells[at] += more;
     lacking[row] = across - more;
     lacking[column] = down - more;
-}
-
-fn smaller(a: u32, b: u32) -> u32
-    ensures { λ r. ⌜ r ≡ min a b ⌝ }
-{
-    if a < b {
-        return a;
-    }
-    b
 }
 
 // The label of each input: the outputs whose cells are not zero.
@@ -121,7 +103,7 @@ pub fn smallest(cells: &[u32], n: usize, out: &[u8]) -> u32
     let mut hold = cells[first];
     for i in 1..n {
         let at = used(n, out, InputPort(i));
-        hold = smaller(hold, cells[at]);
+        hold = smaller_word(hold, cells[at]);
     }
     hold
 }

@@ -9,7 +9,7 @@ use switch::Edition;
 use switch::Outcome;
 use switch::Refusal;
 ghost use mathlib.Core.Path.{_≡_};
-ghost use Prim.Native.Nat.{_*_, _-_};
+ghost use Prim.Native.Nat.{_*_};
 ghost use lib.ListN.{length};
 ghost use Rattle.switch.specs.Editions.{firstEdition, Bounded};
 ghost use Rattle.demand.specs.Lines.{Sized};

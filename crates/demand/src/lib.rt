@@ -1,6 +1,7 @@
 // The checks that every call on a demand shares: N (code 1), the cells lent (code 2), and the lines (code 3, with the line's side).
 // It promises each refusal exactly in its case and order (§9.9), and T where there is none. Cells are any 32-bit numbers, so a
 // line's sum is kept in 64 bits and cannot wrap. It also counts the slots asked. What a call then does with the demand is left to the crates above.
+use numbers::long_of_word;
 use switch::InputPort;
 use switch::LONGEST;
 use switch::OutputPort;
@@ -110,7 +111,7 @@ fn sum_of(cells: &[u32], from: usize, step: usize, n: usize) -> u64
     let mut sum: u64 = 0;
     let mut at = from;
     for b in 0..n {
-        sum += wide(cells[at]);
+        sum += long_of_word(cells[at]);
         at += step;
     }
     sum
@@ -134,12 +135,6 @@ pub fn asked_slots(n: usize, cells: &[u32]) -> u64
         asked += line_sum(cells, n, i);
     }
     asked
-}
-
-fn wide(x: u32) -> u64
-    ensures { λ r. ⌜ r ≡ x ⌝ }
-{
-    x as u64
 }
 
 // Where the cell of a pair stands: cell i × N + j.

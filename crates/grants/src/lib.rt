@@ -7,7 +7,6 @@ use switch::Counts;
 use switch::Edition;
 use switch::InputPort;
 use switch::OutputPort;
-ghost use mathlib.Core.Path.{_≡_};
 ghost use Prim.Native.Nat.{_*_};
 ghost use Rattle.records.specs.Record.{decoded};
 ghost use Rattle.records.specs.Bytes.{planFrom};

@@ -13,7 +13,7 @@ use switch::OutputPort;
 use switch::PORTS;
 use switch::Refusal;
 ghost use mathlib.Core.Path.{_≡_};
-ghost use Prim.Native.Nat.{_+_, _-_, _/_, _<_, _≤_, max};
+ghost use Prim.Native.Nat.{_+_, _-_, _/_, _<_};
 ghost use Rattle.switch.specs.Demand.{cell};
 ghost use Rattle.switch.specs.Editions.{firstEdition};
 ghost use Rattle.demand.specs.Lines.{Sized};

@@ -7,11 +7,11 @@ use switch::Refusal;
 use text::put_plan;
 use text::put_refusal;
 ghost use mathlib.Core.Path.{_≡_};
-ghost use Prim.Native.Nat.{_+_, _*_, _/_, _<_, _≤_, max};
+ghost use Prim.Native.Nat.{_+_, _*_, _<_, _≤_};
 ghost use lib.ListN.{length, take};
 ghost use Rattle.records.specs.Bytes.{laid};
 ghost use Rattle.text.specs.Put.{Put};
-ghost use Rattle.listing.specs.Listing.{portsIn, portsOf, demandText, wishText, listingOf};
+ghost use Rattle.listing.specs.Listing.{portsOf, demandText, wishText, listingOf};
 
 // What is behind so many bytes of the input does not count.
 pub const LISTED: usize = 4096;

@@ -1,6 +1,6 @@
 -- Tasks as bytes (§21.3): one after the other, 12 bytes each, no header: input, output, two zero bytes, start and end. Definitions only.
 use mathlib.Core.List.{List, [], _∷_, _++_}
-use Prim.Native.Nat.{ℕ, zero, suc, _+_, _*_, _/_, _%_}
+use Prim.Native.Nat.{ℕ, zero, suc, _*_, _/_, _%_}
 use lib.ListN.{length, take, drop, getD}
 use Rattle.numbers.specs.Word.{word}
 use Rattle.shop_rule.specs.Task.{Task}

@@ -19,7 +19,7 @@ add-cells : tie.Need-add-cells
 unfolding cell
 add-cells c =
     let a = c .before .before .before .before .before .before .before .before .args in
-    omega (arith, c .before .smaller .ensures, c .before .before .before .before .before .before .before .before .pre .fits, ap (λ (k : ℕ). getD (a .cells .now) k 0) (c .before .before .before .before .cell-at .ensures))
+    omega (arith, c .before .smaller-word .ensures, c .before .before .before .before .before .before .before .before .pre .fits, ap (λ (k : ℕ). getD (a .cells .now) k 0) (c .before .before .before .before .cell-at .ensures))
 
 slice-write-cells : tie.Need-slice-write-cells
 slice-write-cells c = let p = c .before .before .before .before .before .before .before .before .pre in omega (arith, c .before .before .before .before .cell-at .ensures, index-in _ _ _ _ (p .sized) (p .input) (p .output))
@@ -32,7 +32,7 @@ unfolding cell
 returns c =
     let a = c .before .before .before .before .before .before .before .before .args in
     let e = c .before .before .before .before .cell-at .ensures in
-    let m = c .before .smaller .ensures in (
+    let m = c .before .smaller-word .ensures in (
       ap₂ (λ (k v : ℕ). set (a .cells .now) k (getD (a .cells .now) k 0 + v)) e m,
       ap (λ (v : ℕ). set (set (a .lacking .now) (a .i .0) (getD (a .lacking .now) (a .i .0) 0 - v)) (a .n + a .j .0) (getD (a .lacking .now) (a .n + a .j .0) 0 - v)) m,
     )

@@ -31,11 +31,11 @@ loop-holds c = let u = c .before .before .before .before .pre in (u .sized .some
 used-requires-2 : tie.Need-used-requires-2 Inv-loop μ-loop
 used-requires-2 c κs = let u = c .before .before .before .before .before .before .pre in (u .sized .few, c .loop-test .taken, u .long, u .inside _ (c .loop-test .taken))
 
-mul-smaller : tie.Need-mul-smaller Inv-loop μ-loop
-mul-smaller c = omega (arith, at-in _ _ _ (c .before .before .before .before .before .before .before .pre) _ (c .before .loop-test .taken) _ (c .used2 .ensures))
+mul-smaller-word : tie.Need-mul-smaller-word Inv-loop μ-loop
+mul-smaller-word c = omega (arith, at-in _ _ _ (c .before .before .before .before .before .before .before .pre) _ (c .before .loop-test .taken) _ (c .used2 .ensures))
 
-shared-slice-read-smaller : tie.Need-shared-slice-read-smaller Inv-loop μ-loop
-shared-slice-read-smaller c = at-in _ _ _ (c .before .before .before .before .before .before .before .before .pre) _ (c .before .before .loop-test .taken) _ (c .before .used2 .ensures) .0
+shared-slice-read-smaller-word : tie.Need-shared-slice-read-smaller-word Inv-loop μ-loop
+shared-slice-read-smaller-word c = at-in _ _ _ (c .before .before .before .before .before .before .before .before .pre) _ (c .before .before .loop-test .taken) _ (c .before .used2 .ensures) .0
 
 add-i : tie.Need-add-i Inv-loop μ-loop
 add-i c = omega arith
@@ -49,7 +49,7 @@ loop-again c =
     let a = c .before .before .before .before .before .before .before .before .before .args in
     let n = least-next (λ k. cell (a .n) (a .cells .now) k (outOf (a .out .now) k)) (l .i) (l .inv .1) in
     let v = at-cell _ _ _ (c .before .before .before .before .before .before .before .before .before .pre) (l .i) (c .before .before .before .loop-test .taken) _ (c .before .before .used2 .ensures) in
-    (omega arith, omega arith, omega (arith, c .smaller .ensures))
+    (omega arith, omega arith, omega (arith, c .smaller-word .ensures))
 
 returns : tie.Need-returns Inv-loop μ-loop
 returns c =
@@ -62,5 +62,5 @@ pub smallest-spec : {M : Type 1} → statement M
 smallest-spec =
     tie.close
     (tie.spec
-    Inv-loop μ-loop used-requires mul-hold shared-slice-read-hold loop-holds used-requires-2 mul-smaller shared-slice-read-smaller
+    Inv-loop μ-loop used-requires mul-hold shared-slice-read-hold loop-holds used-requires-2 mul-smaller-word shared-slice-read-smaller-word
     (λ c κs. search needs) add-i loop-less loop-again returns)

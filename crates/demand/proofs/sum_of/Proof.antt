@@ -24,20 +24,20 @@ small b step l k = mul-le-mul l k
 loop-holds : tie.Need-loop-holds Inv-loop μ-loop
 loop-holds c = (omega arith, omega arith, sym (sum-zero _), omega arith)
 
-mul-wide : tie.Need-mul-wide Inv-loop μ-loop
-mul-wide c =
+mul-long-of-word : tie.Need-mul-long-of-word Inv-loop μ-loop
+mul-long-of-word c =
     let a = c .before .before .before .args in
     let l = c .before .loop in
     omega (arith, small (l .b) (a .step) (omega arith) (omega arith))
 
-shared-slice-read-wide : tie.Need-shared-slice-read-wide Inv-loop μ-loop
-shared-slice-read-wide c =
+shared-slice-read-long-of-word : tie.Need-shared-slice-read-long-of-word Inv-loop μ-loop
+shared-slice-read-long-of-word c =
     let l = c .before .before .loop in
     let i = c .before .before .before .before .pre .3 (l .b) (omega arith) in
     omega (arith, l .inv .1, i)
 
 add-sum : tie.Need-add-sum Inv-loop μ-loop
-add-sum c = let l = c .before .before .before .loop in omega (arith, c .wide .ensures, c .before .shared-slice-known2 .given (l .at))
+add-sum c = omega (arith, c .long-of-word .ensures .1)
 
 add-at : tie.Need-add-at Inv-loop μ-loop
 add-at c =
@@ -51,8 +51,8 @@ loop-again c =
     let l = c .before .before .before .loop in (
       omega arith,
       omega (arith, add-mul (l .b) 1 (a .step)),
-      omega (arith, c .wide .ensures, sum-next (l .b) (λ x. getD (a .cells .now) (a .from + x * a .step) 0), ap (λ (x : ℕ). getD (a .cells .now) x 0) (l .inv .1)),
-      omega (arith, c .wide .ensures, c .before .shared-slice-known2 .given (l .at)),
+      omega (arith, c .long-of-word .ensures .0, sum-next (l .b) (λ x. getD (a .cells .now) (a .from + x * a .step) 0), ap (λ (x : ℕ). getD (a .cells .now) x 0) (l .inv .1)),
+      omega (arith, c .long-of-word .ensures .1),
     )
 
 returns : tie.Need-returns Inv-loop μ-loop
@@ -67,5 +67,5 @@ pub sum-of-spec : {M : Type 1} → statement M
 sum-of-spec =
     tie.close
     (tie.spec
-    Inv-loop μ-loop loop-holds mul-wide shared-slice-read-wide (λ c κs. search needs) add-sum add-at (λ c. search needs) (λ c. search needs)
+    Inv-loop μ-loop loop-holds mul-long-of-word shared-slice-read-long-of-word (λ c κs. search needs) add-sum add-at (λ c. search needs) (λ c. search needs)
     loop-again returns)
