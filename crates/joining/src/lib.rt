@@ -2,6 +2,9 @@
 // held for the sum of its holds. Promised are the whole answer and every byte of the second buffer, for any N and any bytes; in proofs/,
 // that every pair is granted just what it was granted before and that joining twice changes nothing further.
 // Finding equal settings is the crate settings' matter.
+use numbers::size_of_half;
+use numbers::size_of_word;
+use numbers::smaller_size;
 use records::HEAD;
 use switch::Counts;
 use switch::Edition;
@@ -9,7 +12,7 @@ use switch::Outcome;
 use switch::Refusal;
 ghost use mathlib.Core.Path.{_≡_};
 ghost use mathlib.Core.List.{List};
-ghost use Prim.Native.Nat.{ℕ, _+_, _<_, _≤_, min};
+ghost use Prim.Native.Nat.{ℕ, _+_, _<_, _≤_};
 ghost use lib.ListN.{length, getD};
 ghost use Rattle.switch.specs.Result.{Gives};
 ghost use Rattle.records.specs.Bytes.{whole, bytes, laid};
@@ -101,7 +104,7 @@ fn count_pieces(totals: &[u32], count: usize) -> usize
 {
     let mut need: usize = 0;
     for e in 0..count {
-        need += (wide(totals[e]) + (MOST - 1)) / MOST;
+        need += (size_of_word(totals[e]) + (MOST - 1)) / MOST;
     }
     need
 }
@@ -122,8 +125,8 @@ fn lay_sums(
 {
     let mut at: usize = 0;
     for e in 0..count {
-        let setting = tally::setting_at(plan, width, tally::wide(firsts[e]));
-        at = lay_sum(n, edition, setting, wide(totals[e]), buffer, at);
+        let setting = tally::setting_at(plan, width, size_of_half(firsts[e]));
+        at = lay_sum(n, edition, setting, size_of_word(totals[e]), buffer, at);
     }
 }
 
@@ -142,22 +145,10 @@ fn lay_sum(
     let mut left = total;
     let mut next = at;
     while 0 < left {
-        let hold = smaller(left, MOST);
+        let hold = smaller_size(left, MOST);
         records::put_record(buffer, next, edition, hold as u16, n, setting);
         next += setting.len() + HEAD;
         left -= hold;
     }
     next
-}
-
-fn smaller(a: usize, b: usize) -> usize
-    ensures { λ r. ⌜ r ≡ min a b ⌝ }
-{
-    if a < b { a } else { b }
-}
-
-fn wide(x: u32) -> usize
-    ensures { λ r. ⌜ r ≡ x ⌝ }
-{
-    x as usize
 }

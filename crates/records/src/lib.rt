@@ -1,6 +1,7 @@
 // One plan record (§5): when it is well formed, its hold and outputs, and writing one.
 // The description in specs/ is over a record's width and its edition byte, and the functions below the public calls are over the edition.
 // Writing promises its whole answer and every byte of lent memory, for any N; plans of many records are left to the crates above.
+use numbers::size_of_byte;
 use switch::Counts;
 use switch::Edition;
 use switch::Outcome;
@@ -101,7 +102,7 @@ pub fn record_fine(rec: &[u8], n: usize, edition: u8) -> bool
     if hold_of(rec) == 0 {
         return false;
     }
-    if wide(rec[2]) != n {
+    if size_of_byte(rec[2]) != n {
         return false;
     }
     if rec[3] != edition {
@@ -141,7 +142,7 @@ pub fn setting_fine(outputs: &[u8], n: usize) -> bool
     let mut fine = true;
     for i in 0..n {
         let b = outputs[i];
-        let j = wide(b);
+        let j = size_of_byte(b);
         let port = j < n;
         fine = fine & ((port & !seen[j]) | (b == IDLE));
         seen[j] = port;
@@ -159,12 +160,6 @@ fn later_idle(outputs: &[u8], n: usize) -> bool
         idle = idle & (outputs[i] == IDLE);
     }
     idle
-}
-
-fn wide(b: u8) -> usize
-    ensures { λ r. ⌜ (r ≡ b) × (r < 256) ⌝ }
-{
-    b as usize
 }
 
 // Lays one record over a plan from `at` on; its width is the number of outputs.

@@ -6,6 +6,7 @@ use Prim.Native.Nat.{ℕ, zero, suc, _+_, _*_, _/_, _%_, _<_, _≤_}
 use lib.Bits.{bitXor}
 use lib.ListN.{length, getD}
 use lib.Dec.{eqb}
+use Rattle.numbers.specs.Word.{word}
 use Rattle.switch.specs.Plan.{Record}
 use Rattle.records.specs.Record.{outputs}
 use Rattle.records.specs.Bytes.{recordAt, whole, planFrom}
@@ -40,12 +41,9 @@ pub record Roomy (m : ℕ) (nexts firsts totals : List ℕ) : Type 0 where
 abbrev pub buckets : ℕ
 buckets = 8192
 
--- four outputs of a setting from `at` on as a number, the first lowest; and eight
-unfoldable pub half : (o : List ℕ) (at : ℕ) → ℕ
-half o at = getD o at 0 + 256 * getD o (at + 1) 0 + 65536 * getD o (at + 2) 0 + 16777216 * getD o (at + 3) 0
-
-unfoldable pub word : (o : List ℕ) (at : ℕ) → ℕ
-word o at = half o at + 4294967296 * half o (at + 4)
+-- eight outputs of a setting from `at` on as a number, the first lowest
+unfoldable pub long : List ℕ → ℕ → ℕ
+long o at = word o at + 4294967296 * word o (at + 4)
 
 -- the lower 32 bits of a number of 64 are spread over all of them, and the upper go below
 unfoldable pub stir : (h : ℕ) → ℕ
@@ -54,7 +52,7 @@ stir h = h % 4294967296 * 2654435761 + h / 4294967296
 -- the first m eights of a setting's outputs stirred one after the other into a number
 unfoldable pub stirred : List ℕ → ℕ → ℕ
 stirred o zero = 0
-stirred o (suc m) = stir (bitXor (stirred o m) (word o (8 * m)))
+stirred o (suc m) = stir (bitXor (stirred o m) (long o (8 * m)))
 
 -- a setting's bucket. Equal settings share one; the rest is chance, on which nothing relies but speed
 unfoldable pub bucketOf : (o : List ℕ) → ℕ

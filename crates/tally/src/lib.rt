@@ -2,6 +2,8 @@
 // Promised is the list that specs/ gives, for any plan whose records are well formed, and nothing of time. So that not every pair of
 // settings is compared, a setting is looked for among those of its bucket only; a bucket is any number that equal settings share.
 // The memory is lent by the caller; what is done with the sums is left to the crates above.
+use numbers::size_of_half;
+use numbers::word_at;
 use records::HEAD;
 ghost use mathlib.Core.Path.{_≡_};
 ghost use Prim.Native.Nat.{_+_, _<_, _≤_};
@@ -9,7 +11,7 @@ ghost use lib.ListN.{length};
 ghost use Rattle.records.specs.Record.{outputs};
 ghost use Rattle.records.specs.Bytes.{recordAt, whole};
 ghost use Rattle.tally.specs.Sums.{sameOutputs};
-ghost use Rattle.tally.specs.Table.{Listed, Roomy, buckets, half, word, stir, bucketOf, Chained, Empty, Found};
+ghost use Rattle.tally.specs.Table.{Listed, Roomy, buckets, long, stir, bucketOf, Chained, Empty, Found};
 
 // Chains of entries, as many as a plan of the first edition has records.
 pub const BUCKETS: usize = 8192;
@@ -24,7 +26,7 @@ const HALF: u64 = 4294967296;
 const LOWER: u64 = 2251799813685248;
 
 // Outputs are stirred in eight at a time.
-const WORD: usize = 8;
+const LONG: usize = 8;
 
 // Sums the holds of a plan's records by setting; and how many settings there are. A record's number, and an entry's and one more, have 16 bits.
 pub fn sum_up(
@@ -89,14 +91,14 @@ fn entry_of(
     requires { ⌜ (width ≤ 128) × (length (now setting) ≡ width) × (bucket ≡ bucketOf (now setting)) × (bucket < buckets) × (count ≤ length (now nexts)) × (count ≤ length (now firsts)) × Chained width (now plan) count (now heads) (now nexts) (now firsts) ⌝ }
     ensures { λ r. ⌜ Found width (now (plan .entry)) count (now (firsts .entry)) (now (setting .entry)) r ⌝ }
 {
-    let mut link = wide(heads[bucket]);
+    let mut link = size_of_half(heads[bucket]);
     while 0 < link {
         let e = link - 1;
-        let other = setting_at(plan, width, wide(firsts[e]));
+        let other = setting_at(plan, width, size_of_half(firsts[e]));
         if same_outputs(other, setting) {
             return e;
         }
-        link = wide(nexts[e]);
+        link = size_of_half(nexts[e]);
     }
     count
 }
@@ -114,10 +116,10 @@ pub fn setting_at(plan: &[u8], width: usize, k: usize) -> &[u8]
 fn bucket_of(setting: &[u8]) -> usize
     ensures { λ r. ⌜ (r ≡ bucketOf (now (setting .entry))) × (r < buckets) ⌝ }
 {
-    let words = setting.len() / WORD;
+    let longs = setting.len() / LONG;
     let mut h: u64 = 0;
-    for k in 0..words {
-        h = stir(h ^ word_at(setting, WORD * k));
+    for k in 0..longs {
+        h = stir(h ^ long_at(setting, LONG * k));
     }
     (stir(h) / LOWER) as usize
 }
@@ -130,28 +132,11 @@ fn stir(h: u64) -> u64
 }
 
 // Eight outputs as a number, the first lowest.
-fn word_at(setting: &[u8], at: usize) -> u64
+fn long_at(setting: &[u8], at: usize) -> u64
     requires { ⌜ at + 8 ≤ length (now setting) ⌝ }
-    ensures { λ r. ⌜ r ≡ word (now (setting .entry)) at ⌝ }
+    ensures { λ r. ⌜ r ≡ long (now (setting .entry)) at ⌝ }
 {
-    half_at(setting, at) + HALF * half_at(setting, at + 4)
-}
-
-// Four of them.
-fn half_at(setting: &[u8], at: usize) -> u64
-    requires { ⌜ at + 4 ≤ length (now setting) ⌝ }
-    ensures { λ r. ⌜ (r ≡ half (now (setting .entry)) at) × (r < 4294967296) ⌝ }
-{
-    number(setting[at])
-        + 256 * number(setting[at + 1])
-        + 65536 * number(setting[at + 2])
-        + 16777216 * number(setting[at + 3])
-}
-
-fn number(output: u8) -> u64
-    ensures { λ r. ⌜ (r ≡ output) × (r < 256) ⌝ }
-{
-    output as u64
+    word_at(setting, at) as u64 + HALF * word_at(setting, at + 4) as u64
 }
 
 // Are two settings the same?
@@ -164,11 +149,4 @@ pub fn same_outputs(a: &[u8], b: &[u8]) -> bool
         same = same & (a[i] == b[i]);
     }
     same
-}
-
-// A number of 16 bits as an index.
-pub fn wide(x: u16) -> usize
-    ensures { λ r. ⌜ r ≡ x ⌝ }
-{
-    x as usize
 }

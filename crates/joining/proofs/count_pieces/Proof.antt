@@ -25,19 +25,19 @@ loop-holds c =
     (search needs, omega arith, λ W plan firsts. omega (arith, ap (λ (m : ℕ). length (cut (entriesFrom W plan firsts (a .totals .now) 0 m))) (let z : a .count - 0 ≡ a .count = omega arith in z)))
 
 add-need : tie.Need-add-need Inv-loop μ-loop
-add-need c = omega (arith, c .before .shared-slice-known2 .given (c .before .before .before .loop .e), c .wide .ensures)
+add-need c = omega (arith, c .size-of-word .ensures .1)
 
 add-need-2 : tie.Need-add-need-2 Inv-loop μ-loop
-add-need-2 c = omega (arith, c .before .shared-slice-known2 .given (c .before .before .before .loop .e), c .wide .ensures, c .before .before .before .loop .inv .1, c .before .before .before .before .before .pre .0)
+add-need-2 c = omega (arith, c .size-of-word .ensures .1, c .before .before .before .loop .inv .1, c .before .before .before .before .before .pre .0)
 
 loop-again : tie.Need-loop-again Inv-loop μ-loop
 loop-again c =
     let l = c .before .before .before .loop in
     let a = c .before .before .before .before .before .args in (
       omega arith,
-      omega (arith, c .before .shared-slice-known2 .given (l .e), c .wide .ensures, l .inv .1),
+      omega (arith, c .size-of-word .ensures .1, l .inv .1),
       λ W plan firsts.
-          omega (arith, l .inv .2 W plan firsts, cut-more W plan firsts (a .totals .now) (a .count) (l .e) (omega arith), c .wide .ensures),
+          omega (arith, l .inv .2 W plan firsts, cut-more W plan firsts (a .totals .now) (a .count) (l .e) (omega arith), c .size-of-word .ensures .0),
     )
 
 returns : tie.Need-returns Inv-loop μ-loop

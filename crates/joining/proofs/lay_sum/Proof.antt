@@ -18,25 +18,25 @@ loop-holds : tie.Need-loop-holds Inv-loop μ-loop
 loop-holds c = laying-none _ _ _ _ _ (c .before .before .pre .1)
 
 cast-put-record : tie.Need-cast-put-record Inv-loop μ-loop
-cast-put-record c = omega (arith, c .before .smaller .ensures)
+cast-put-record c = omega (arith, c .before .smaller-size .ensures)
 
 put-record-requires : tie.Need-put-record-requires Inv-loop μ-loop
-put-record-requires c κs = (c .before .before .before .before .before .before .pre .0, laying-room _ _ _ _ _ _ _ _ _ (subst (Laying _ _ _ _ _ (c .before .before .before .loop .buffer) (c .before .before .before .loop .next)) (next-piece (c .before .before .before .before .before .before .args .setting .now) (c .before .before .before .loop .left) (omega arith) _ (c .before .smaller .ensures)) (c .before .before .before .loop .inv)))
+put-record-requires c κs = (c .before .before .before .before .before .before .pre .0, laying-room _ _ _ _ _ _ _ _ _ (subst (Laying _ _ _ _ _ (c .before .before .before .loop .buffer) (c .before .before .before .loop .next)) (next-piece (c .before .before .before .before .before .before .args .setting .now) (c .before .before .before .loop .left) (omega arith) _ (c .before .smaller-size .ensures)) (c .before .before .before .loop .inv)))
 
 add-next : tie.Need-add-next Inv-loop μ-loop
-add-next c = omega (arith, laying-room _ _ _ _ _ _ _ _ _ (subst (Laying _ _ _ _ _ (c .before .before .before .before .before .before .loop .buffer) (c .before .before .before .before .before .before .loop .next)) (next-piece (c .before .before .before .before .before .before .before .before .before .args .setting .now) (c .before .before .before .before .before .before .loop .left) (omega arith) _ (c .before .before .before .before .smaller .ensures)) (c .before .before .before .before .before .before .loop .inv)))
+add-next c = omega (arith, laying-room _ _ _ _ _ _ _ _ _ (subst (Laying _ _ _ _ _ (c .before .before .before .before .before .before .loop .buffer) (c .before .before .before .before .before .before .loop .next)) (next-piece (c .before .before .before .before .before .before .before .before .before .args .setting .now) (c .before .before .before .before .before .before .loop .left) (omega arith) _ (c .before .before .before .before .smaller-size .ensures)) (c .before .before .before .before .before .before .loop .inv)))
 
 add-next-2 : tie.Need-add-next-2 Inv-loop μ-loop
-add-next-2 c = omega (arith, laying-room _ _ _ _ _ _ _ _ _ (subst (Laying _ _ _ _ _ (c .before .before .before .before .before .before .loop .buffer) (c .before .before .before .before .before .before .loop .next)) (next-piece (c .before .before .before .before .before .before .before .before .before .args .setting .now) (c .before .before .before .before .before .before .loop .left) (omega arith) _ (c .before .before .before .before .smaller .ensures)) (c .before .before .before .before .before .before .loop .inv)))
+add-next-2 c = omega (arith, laying-room _ _ _ _ _ _ _ _ _ (subst (Laying _ _ _ _ _ (c .before .before .before .before .before .before .loop .buffer) (c .before .before .before .before .before .before .loop .next)) (next-piece (c .before .before .before .before .before .before .before .before .before .args .setting .now) (c .before .before .before .before .before .before .loop .left) (omega arith) _ (c .before .before .before .before .smaller-size .ensures)) (c .before .before .before .before .before .before .loop .inv)))
 
 sub-left : tie.Need-sub-left Inv-loop μ-loop
-sub-left c = omega (arith, c .before .before .before .before .smaller .ensures)
+sub-left c = omega (arith, c .before .before .before .before .smaller-size .ensures)
 
 loop-less : tie.Need-loop-less Inv-loop μ-loop
-loop-less c = omega (arith, c .before .before .before .before .smaller .ensures)
+loop-less c = omega (arith, c .before .before .before .before .smaller-size .ensures)
 
 loop-again : tie.Need-loop-again Inv-loop μ-loop
-loop-again c = laying-more _ _ _ _ _ _ _ _ _ (subst (Laying _ _ _ _ _ (c .before .before .before .before .before .before .loop .buffer) (c .before .before .before .before .before .before .loop .next)) (next-piece (c .before .before .before .before .before .before .before .before .before .args .setting .now) (c .before .before .before .before .before .before .loop .left) (omega arith) _ (c .before .before .before .before .smaller .ensures)) (c .before .before .before .before .before .before .loop .inv)) _ (c .before .before .put-record .ensures)
+loop-again c = laying-more _ _ _ _ _ _ _ _ _ (subst (Laying _ _ _ _ _ (c .before .before .before .before .before .before .loop .buffer) (c .before .before .before .before .before .before .loop .next)) (next-piece (c .before .before .before .before .before .before .before .before .before .args .setting .now) (c .before .before .before .before .before .before .loop .left) (omega arith) _ (c .before .before .before .before .smaller-size .ensures)) (c .before .before .before .before .before .before .loop .inv)) _ (c .before .before .put-record .ensures)
 
 same-length : tie.Need-same-length Inv-loop μ-loop
 same-length c = c .before .loop .inv .size

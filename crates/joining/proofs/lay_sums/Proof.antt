@@ -27,28 +27,28 @@ loop-holds c =
           (laying-none _ _ _ _ _ (omega (arith, c .before .before .before .before .pre .5))),
     )
 
-mul-wide : tie.Need-mul-wide Inv-loop μ-loop
-mul-wide c = omega (arith, c .before .before .before .before .before .before .pre .2)
+mul-size-of-half : tie.Need-mul-size-of-half Inv-loop μ-loop
+mul-size-of-half c = omega (arith, c .before .before .before .before .before .before .pre .2)
 
-shared-slice-read-wide : tie.Need-shared-slice-read-wide Inv-loop μ-loop
-shared-slice-read-wide c = omega (arith, c .before .before .before .before .before .before .before .pre .2)
+shared-slice-read-size-of-half : tie.Need-shared-slice-read-size-of-half Inv-loop μ-loop
+shared-slice-read-size-of-half c = omega (arith, c .before .before .before .before .before .before .before .pre .2)
 
 setting-at-requires : tie.Need-setting-at-requires Inv-loop μ-loop
 setting-at-requires c κs =
     let a = c .before .before .before .before .before .before .before .before .args in
-    (c .before .before .before .before .before .before .before .before .pre .1, subst (λ (k : ℕ). k < whole (a .width) (a .plan .now)) (sym (c .wide .ensures)) (c .before .before .before .before .before .before .before .before .pre .4 (c .before .before .before .loop .e) (omega arith)))
+    (c .before .before .before .before .before .before .before .before .pre .1, subst (λ (k : ℕ). k < whole (a .width) (a .plan .now)) (sym (c .size-of-half .ensures .0)) (c .before .before .before .before .before .before .before .before .pre .4 (c .before .before .before .loop .e) (omega arith)))
 
-mul-wide-2 : tie.Need-mul-wide-2 Inv-loop μ-loop
-mul-wide-2 c = omega (arith, c .before .before .before .before .before .before .before .before .before .pre .3)
+mul-size-of-word : tie.Need-mul-size-of-word Inv-loop μ-loop
+mul-size-of-word c = omega (arith, c .before .before .before .before .before .before .before .before .before .pre .3)
 
-shared-slice-read-wide-2 : tie.Need-shared-slice-read-wide-2 Inv-loop μ-loop
-shared-slice-read-wide-2 c = omega (arith, c .before .before .before .before .before .before .before .before .before .before .pre .3)
+shared-slice-read-size-of-word : tie.Need-shared-slice-read-size-of-word Inv-loop μ-loop
+shared-slice-read-size-of-word c = omega (arith, c .before .before .before .before .before .before .before .before .before .before .pre .3)
 
 lay-sum-requires : tie.Need-lay-sum-requires Inv-loop μ-loop
-lay-sum-requires c κs = (c .before .before .before .before .before .before .before .before .before .before .before .before .pre .0, laying-room-all _ _ _ _ _ _ _ _ _ (subst (Laying _ _ _ _ _ (c .before .before .before .before .before .before .before .loop .buffer) (c .before .before .before .before .before .before .before .loop .at)) (cut-next (c .before .before .before .before .before .before .before .before .before .before .before .before .args .width) (c .before .before .before .before .before .before .before .before .before .before .before .before .args .plan .now) (c .before .before .before .before .before .before .before .before .before .before .before .before .args .firsts .now) (c .before .before .before .before .before .before .before .before .before .before .before .before .args .totals .now) (c .before .before .before .before .before .before .before .before .before .before .before .before .args .count) (c .before .before .before .before .before .before .before .loop .e) (omega arith) _ (c .before .before .before .before .wide .ensures) _ (c .before .before .before .setting-at .ensures) _ (c .before .wide2 .ensures)) (c .before .before .before .before .before .before .before .loop .inv .1)))
+lay-sum-requires c κs = (c .before .before .before .before .before .before .before .before .before .before .before .before .pre .0, laying-room-all _ _ _ _ _ _ _ _ _ (subst (Laying _ _ _ _ _ (c .before .before .before .before .before .before .before .loop .buffer) (c .before .before .before .before .before .before .before .loop .at)) (cut-next (c .before .before .before .before .before .before .before .before .before .before .before .before .args .width) (c .before .before .before .before .before .before .before .before .before .before .before .before .args .plan .now) (c .before .before .before .before .before .before .before .before .before .before .before .before .args .firsts .now) (c .before .before .before .before .before .before .before .before .before .before .before .before .args .totals .now) (c .before .before .before .before .before .before .before .before .before .before .before .before .args .count) (c .before .before .before .before .before .before .before .loop .e) (omega arith) _ (c .before .before .before .before .size-of-half .ensures .0) _ (c .before .before .before .setting-at .ensures) _ (c .before .size-of-word .ensures .0)) (c .before .before .before .before .before .before .before .loop .inv .1)))
 
 loop-again : tie.Need-loop-again Inv-loop μ-loop
-loop-again c = (omega arith, laying-all _ _ _ _ _ _ _ _ _ (subst (Laying _ _ _ _ _ (c .before .before .before .before .before .before .before .before .before .before .loop .buffer) (c .before .before .before .before .before .before .before .before .before .before .loop .at)) (cut-next (c .before .before .before .before .before .before .before .before .before .before .before .before .before .before .before .args .width) (c .before .before .before .before .before .before .before .before .before .before .before .before .before .before .before .args .plan .now) (c .before .before .before .before .before .before .before .before .before .before .before .before .before .before .before .args .firsts .now) (c .before .before .before .before .before .before .before .before .before .before .before .before .before .before .before .args .totals .now) (c .before .before .before .before .before .before .before .before .before .before .before .before .before .before .before .args .count) (c .before .before .before .before .before .before .before .before .before .before .loop .e) (omega arith) _ (c .before .before .before .before .before .before .before .wide .ensures) _ (c .before .before .before .before .before .before .setting-at .ensures) _ (c .before .before .before .before .wide2 .ensures)) (c .before .before .before .before .before .before .before .before .before .before .loop .inv .1)) _ (c .before .before .lay-sum .ensures .1) _ (c .before .before .lay-sum .ensures .0))
+loop-again c = (omega arith, laying-all _ _ _ _ _ _ _ _ _ (subst (Laying _ _ _ _ _ (c .before .before .before .before .before .before .before .before .before .before .loop .buffer) (c .before .before .before .before .before .before .before .before .before .before .loop .at)) (cut-next (c .before .before .before .before .before .before .before .before .before .before .before .before .before .before .before .args .width) (c .before .before .before .before .before .before .before .before .before .before .before .before .before .before .before .args .plan .now) (c .before .before .before .before .before .before .before .before .before .before .before .before .before .before .before .args .firsts .now) (c .before .before .before .before .before .before .before .before .before .before .before .before .before .before .before .args .totals .now) (c .before .before .before .before .before .before .before .before .before .before .before .before .before .before .before .args .count) (c .before .before .before .before .before .before .before .before .before .before .loop .e) (omega arith) _ (c .before .before .before .before .before .before .before .size-of-half .ensures .0) _ (c .before .before .before .before .before .before .setting-at .ensures) _ (c .before .before .before .before .size-of-word .ensures .0)) (c .before .before .before .before .before .before .before .before .before .before .loop .inv .1)) _ (c .before .before .lay-sum .ensures .1) _ (c .before .before .lay-sum .ensures .0))
 
 same-length : tie.Need-same-length Inv-loop μ-loop
 same-length c = c .before .loop .inv .1 .size
@@ -63,5 +63,5 @@ pub lay-sums-spec : {M : Type 1} → statement M
 lay-sums-spec =
     tie.close
     (tie.spec
-    Inv-loop μ-loop loop-holds mul-wide shared-slice-read-wide (λ c κs. search needs) setting-at-requires mul-wide-2 shared-slice-read-wide-2
+    Inv-loop μ-loop loop-holds mul-size-of-half shared-slice-read-size-of-half (λ c κs. search needs) setting-at-requires mul-size-of-word shared-slice-read-size-of-word
     (λ c κs. search needs) lay-sum-requires (λ c. search needs) (λ c. search needs) loop-again same-length returns)

@@ -16,7 +16,7 @@ returns : tie.Need-returns
 returns c = sym (no-hold _ _ _ _ (sym (c .before .hold-of .ensures) ∙ c .if1 .taken))
 
 returns-2 : tie.Need-returns-2
-returns-2 c = sym (bad-ports _ _ _ _ (λ q. c .if2 .taken (c .before .wide .ensures .0 ∙ q)))
+returns-2 c = sym (bad-ports _ _ _ _ (λ q. c .if2 .taken (c .before .size-of-byte .ensures .0 ∙ q)))
 
 returns-3 : tie.Need-returns-3
 returns-3 c = sym (bad-edition _ _ _ _ (c .if3 .taken))
@@ -31,7 +31,7 @@ returns-4 c =
     ∙ ap (λ (w : ℕ). outputsFine w n (drop 4 b)) (length-drop 4 b)
     ∙ sym (outputs-decide _ _ n b
     (λ q. c .before .before .before .before .before .before .before .if1 .left (c .before .before .before .before .before .before .before .before .hold-of .ensures ∙ q))
-    (sym (c .before .before .before .before .before .wide .ensures .0) ∙ c .before .before .before .before .if2 .left)
+    (sym (c .before .before .before .before .before .size-of-byte .ensures .0) ∙ c .before .before .before .before .if2 .left)
     (c .before .before .if3 .left))
 
 pub record-fine-spec : {M : Type 1} → statement M

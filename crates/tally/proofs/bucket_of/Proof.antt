@@ -10,10 +10,10 @@ use Rattle.tally.proofs.bucket_of.Statement.{statement}
 use Rattle.tally.proofs.bucket_of.Tie as tie
 
 abbrev Inv-loop : tie.InvT-loop
-Inv-loop setting words h₀ k₀ h k = (k ≤ words) × (words ≡ length setting / 8) × (h ≡ stirred setting k)
+Inv-loop setting longs h₀ k₀ h k = (k ≤ longs) × (longs ≡ length setting / 8) × (h ≡ stirred setting k)
 
 abbrev μ-loop : tie.MeasureT-loop
-μ-loop setting words h₀ k₀ h k = words - k
+μ-loop setting longs h₀ k₀ h k = longs - k
 
 loop-holds : tie.Need-loop-holds Inv-loop μ-loop
 unfolding stirred
@@ -22,7 +22,7 @@ loop-holds c = (omega arith, refl, refl)
 loop-again : tie.Need-loop-again Inv-loop μ-loop
 loop-again c =
     let l = c .before .before .before .loop in
-    (omega arith, refl, stir-next _ (l .k) (l .h) (c .before .word-at .result) _ (l .inv .2) (c .before .word-at .ensures) (c .stir .ensures))
+    (omega arith, refl, stir-next _ (l .k) (l .h) (c .before .long-at .result) _ (l .inv .2) (c .before .long-at .ensures) (c .stir .ensures))
 
 returns : tie.Need-returns Inv-loop μ-loop
 unfolding bucketOf
