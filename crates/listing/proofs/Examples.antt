@@ -4,6 +4,7 @@ use mathlib.Core.List.{List, [], _∷_, _++_, map}
 use Prim.Native.Nat.{ℕ}
 use Prim.Native.String.{String}
 use lib.Ieee.{ofBits}
+use Rattle.numbers.specs.Word.{word}
 use Rattle.counting.specs.Sum.{sum, most}
 use Rattle.counting.specs.Count.{ind, δ}
 use Rattle.counting.specs.Matrix.{row, col}
@@ -18,7 +19,7 @@ use Rattle.rules.specs.Search.{put, pick, free, complete, firstSetting}
 use Rattle.rules.specs.Peel.{peel}
 use Rattle.rules.specs.Exact.{tab, least, recordOf, peels, exactFrom, exactPlan}
 use Rattle.wish.specs.Wish.{wishBits, wishOf, finite, worth, ceil}
-use Rattle.wishes.specs.Record.{word, recordAt, wellFormed, samePair}
+use Rattle.wishes.specs.Record.{recordAt, wellFormed, samePair}
 use Rattle.wishes.specs.Fault.{named, faultOf, faultAt, firstFault}
 use Rattle.wishes.specs.Wishes.{demandOf, outcome}
 use Rattle.wishes.specs.Wishes as wishes

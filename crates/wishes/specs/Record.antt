@@ -4,11 +4,8 @@ use mathlib.Core.Bool.{Bool, _&&_}
 use mathlib.Core.List.{List}
 use lib.Dec.{ltb, eqb}
 use lib.ListN.{getD}
+use Rattle.numbers.specs.Word.{word}
 use Rattle.wishes.specs.declared.WishRecord.{WishRecord}
-
--- four bytes from `at` on as a number, low byte first
-unfoldable pub word : (s : List ℕ) (at : ℕ) → ℕ
-word s at = getD s at 0 + 256 * getD s (at + 1) 0 + 65536 * getD s (at + 2) 0 + 16777216 * getD s (at + 3) 0
 
 -- record k of the list s, counted from 0
 unfoldable pub recordAt : (s : List ℕ) (k : ℕ) → WishRecord

@@ -4,6 +4,7 @@
 // What one wish is worth is the crate `wish`'s matter, and whether the lines are too long is for whoever plans the demand.
 use labels::put_row;
 use labels::row_of;
+pub use numbers::word_at;
 use switch::Counts;
 use switch::InputPort;
 use switch::Outcome;
@@ -16,7 +17,7 @@ ghost use Prim.Native.Nat.{_+_, _*_, _≤_, _<_};
 ghost use lib.ListN.{length, replicate};
 ghost use Rattle.switch.specs.Editions.{firstEdition, secondEdition};
 ghost use Rattle.switch.specs.Result.{Gives};
-ghost use Rattle.wishes.specs.Record.{recordAt, word, wellFormed};
+ghost use Rattle.wishes.specs.Record.{recordAt, wellFormed};
 ghost use Rattle.wishes.specs.Fault.{wishFault, faultOf, firstFault};
 ghost use Rattle.wishes.specs.Seen.{Room, Empty, Marks, seenPair};
 ghost use Rattle.wishes.specs.Wishes.{put, demandOf, outcome, cellsAfter, wishing};
@@ -138,24 +139,6 @@ fn record_at(list: &[u8], k: usize) -> WishRecord
         spare1: list[at + SPARE1],
         bits: word_at(list, at + VALUE),
     }
-}
-
-// The 32 bits from `at` on, low byte first.
-pub fn word_at(list: &[u8], at: usize) -> u32
-    requires { ⌜ at + 4 ≤ length (now list) ⌝ }
-    ensures { λ r. ⌜ r ≡ word (now (list .entry)) at ⌝ }
-{
-    wide(list[at])
-        + 256 * wide(list[at + 1])
-        + 65536 * wide(list[at + 2])
-        + 16777216 * wide(list[at + 3])
-}
-
-// A byte as a word.
-fn wide(x: u8) -> u32
-    ensures { λ r. ⌜ (r ≡ x) × (r < 256) ⌝ }
-{
-    x as u32
 }
 
 // The fault of record k, the first of 11, 12, 6, 7, 8 that it has.
