@@ -4,5 +4,5 @@ use Prim.Native.Nat.{ℕ, _+_, _*_}
 use lib.ListN.{getD}
 
 -- four bytes from `at` on as a number, low byte first
-unfoldable pub word : List ℕ → ℕ → ℕ
+unfoldable pub word : (s : List ℕ) (at : ℕ) → ℕ
 word s at = getD s at 0 + 256 * getD s (at + 1) 0 + 65536 * getD s (at + 2) 0 + 16777216 * getD s (at + 3) 0

@@ -42,7 +42,7 @@ abbrev pub buckets : ℕ
 buckets = 8192
 
 -- eight outputs of a setting from `at` on as a number, the first lowest
-unfoldable pub long : List ℕ → ℕ → ℕ
+unfoldable pub long : (o : List ℕ) (at : ℕ) → ℕ
 long o at = word o at + 4294967296 * word o (at + 4)
 
 -- the lower 32 bits of a number of 64 are spread over all of them, and the upper go below
