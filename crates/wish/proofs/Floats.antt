@@ -1,6 +1,6 @@
 -- Over whole numbers each comparison that `classify` makes is one of the rules of §4, so each way out has the answer that is asked for.
 use Prim.Native.Nat.{ℕ, _*_}
-use native.Mathlib.Nat.{mul-one, zero-mul, add-zero}
+use native.Mathlib.Nat.{le-trans, mul-one, zero-mul, add-zero, mul-le-mul-right}
 use native.Mathlib.Omega.{arith}
 use mathlib.Core.Path.{_≡_, refl, sym, _∙_, subst}
 use mathlib.Core.Bool.{Bool, true, false, not, _&&_, true≢false}
@@ -9,10 +9,11 @@ use lib.Dec.{T, ltb}
 use lib.IntN.{ℤ, pos}
 use lib.Ieee.{Float, nan, inf, fin, up, down, lt, eq, ne, isNan}
 use lib.Ieee.Compare.{differs-from-itself}
-use Rattle.wish.specs.Wish.{mostSlots, worth, ceilOf, wishOf, InRange}
-use Rattle.wish.specs.Meaning.{below-zero, above-most}
+use Rattle.wish.specs.Wish.{mostSlots, worth, ceilOf, wishOf, InRange, codeOf}
+use Rattle.wish.specs.Meaning.{Answers, a-nan, an-infinity, below-zero, above-most, its-slots}
+use Rattle.wish.specs.declared.Wish.{Wish}
 use Rattle.wish.specs.declared.Wish.the-variants.{Slots, NotFinite, BelowZero, AboveMost}
-use Rattle.wish.proofs.Answer.{only, slots-said}
+use Rattle.wish.proofs.Answer.{only, said, slots-said}
 
 -- ---- no number, or an infinity
 
@@ -93,3 +94,21 @@ unfolding ceilOf
 at-slots nan r = absurd r
 at-slots (inf s) r = absurd r
 at-slots (fin s m e) r = only (slots-said s m e (r .0) (r .1))
+
+-- ---- an x that is not refused
+
+taken-range : {x : Float} {w : Wish} → Answers x w → codeOf w ≡ 0 → InRange x
+taken-range a-nan q = absurd (omega arith)
+taken-range an-infinity q = absurd (omega arith)
+taken-range (below-zero h) q = absurd (omega arith)
+taken-range (above-most h) q = absurd (omega arith)
+taken-range (its-slots {s} {m} {e} {k} z l h) q = (z, le-trans (l .enough) (mul-le-mul-right (down e) h))
+
+pub range-of : (x : Float) → codeOf (wishOf x) ≡ 0 → InRange x
+range-of x q = taken-range (said x) q
+
+pub no-nan : (x : Float) → InRange x → isNan x ≡ false
+unfolding isNan
+no-nan nan r = absurd r
+no-nan (inf s) r = absurd r
+no-nan (fin s m e) r = refl

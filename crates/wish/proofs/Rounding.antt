@@ -1,62 +1,54 @@
--- Without its fraction x is the whole number t with t ≤ x < t + 1, and t as a float is exact; so comparing the two says which of t and t + 1 is the ceiling.
-use Prim.Native.Nat.{ℕ, _+_, _*_, _/_, _^_, _<_, _≤_}
-use native.Mathlib.Nat.{le-antisymm, le-of-lt, mul-one, one-mul, zero-mul, mul-right-comm, mul-lt-mul-of-pos-right, mul-le-mul-right, div-lt-iff-lt-mul, div-mul-le-self, lt-div-mul-add}
+-- The whole number w that is nearest to x is above x - 1 and below x + 1, and as a float it is exact; so comparing the two says which of w and w + 1 is the ceiling.
+use Prim.Native.Nat.{ℕ, _+_, _*_, _^_, _<_, _≤_}
+use native.Mathlib.Nat.{mul-one, mul-right-comm, suc-mul, mul-lt-mul-of-pos-right, mul-le-mul-right}
+use native.Mathlib.Numerals.{add-one}
 use native.Mathlib.Omega.{arith}
 use mathlib.Core.Path.{_≡_, refl, sym, _∙_}
 use mathlib.Core.Bool.{Bool, true, false, not, _&&_, true≢false}
 use borrow.Author.Tests.{ltb-true, ltb-false, lt-ltb, le-ltb}
-use lib.Dec.{T, ltb, lt→ltb, le→leb}
+use lib.Dec.{T, ltb, le→leb}
 use lib.IntN.{ℤ, pos}
-use lib.Ieee.{Float, nan, inf, fin, binary32, up, down, lt, ofInt, toUnsigned, inFloat}
+use lib.Ieee.{Float, nan, inf, fin, binary32, up, down, lt, add, sub, ofInt, toUnsigned, inFloat, inUnsigned}
 use lib.Ieee.Exact.{HasValue}
 use lib.Ieee.Fits.{down-pos}
-use lib.Ieee.Back.{round-whole}
-use Rattle.wish.specs.Wish.{mostSlots, ceilOf, InRange}
-use Rattle.wish.proofs.Ceiling.{ceil-same, ceil-next}
+use lib.Ieee.Back.{round-whole, unsigned-back}
+use Rattle.wish.specs.Wish.{mostSlots, ceil, ceilOf, InRange}
+use Rattle.wish.specs.Meaning.{LeastNotBelow}
+use Rattle.wish.proofs.Ceiling.{least-unique, ceil-least, ceil-next}
+use Rattle.wish.proofs.Nearest.{big, near, near-le, near-ge, near-small, left-near}
 
--- ---- x cut to a whole number
+-- ---- the whole number nearest to num / den, and the ceiling
 
--- what `truncating_f32_to_u64` requires of x: above -1 and below 2 ^ 64
-abbrev pub Cuttable : Float → Type 0
-Cuttable x = T (lt (fin true 1 (pos 0)) x) × T (lt x (fin false 1 (pos 64)))
+module _ (num den : ℕ) (p : 0 < den) (h : num ≤ mostSlots * den) where
+  near-next : near num den * den < num → near num den + 1 ≡ ceil num den
+  near-next l = ceil-next num den (near num den) p l (omega (arith, more))
+    where
+      more : near num den * den + den ≤ num → ⊥
+      more g = omega (arith, near-ge num den p h (near num den + 1) (rw (add-one, suc-mul) g))
 
-pub cuttable : (x : Float) → InRange x → Cuttable x
-unfolding lt
-cuttable nan r = absurd r
-cuttable (inf s) r = absurd r
-cuttable (fin true m e) r = (
-  lt→ltb (m * up e * 1) (1 * down e) (rw (r .0 refl, one-mul) (down-pos e)),
-  lt→ltb 0 (m * up e * 1 + 2 ^ 64 * down e) (omega (arith, down-pos e)),
-)
-cuttable (fin false m e) r = (
-  lt→ltb 0 (1 * down e + m * up e * 1) (omega (arith, down-pos e)),
-  lt→ltb (m * up e * 1) (2 ^ 64 * down e) (rw mul-one (omega (arith, r .1, down-pos e))),
-)
+  near-same : num ≤ near num den * den → near num den ≡ ceil num den
+  near-same l = least-unique num den (near num den) (ceil num den) (record { enough = l; least = below }) (ceil-least num den p)
+    where
+      below : (j : ℕ) → j < near num den → j * den < num
+      below j g = omega (arith, not-yet)
+        where
+          not-yet : num ≤ j * den → ⊥
+          not-yet e = omega (arith, near-le num den p h j e)
 
-part-le : (num den : ℕ) → 0 < den → num ≤ mostSlots * den → num / den ≤ mostSlots
-part-le num den d h = omega (arith, div-lt-iff-lt-mul {k = den} {x = num} {y = mostSlots + 1} d .1 (omega arith))
+-- ---- as floats
 
-pub whole-le : (x : Float) → InRange x → toUnsigned 64 x ≤ mostSlots
-unfolding toUnsigned
-whole-le nan r = absurd r
-whole-le (inf s) r = absurd r
-whole-le (fin true m e) r = omega arith
-whole-le (fin false m e) r = omega (arith, part-le (m * up e) (down e) (down-pos e) (r .1))
-
-whole-is : (m : ℕ) (e : ℤ) → m * up e ≤ mostSlots * down e → toUnsigned 64 (fin false m e) ≡ m * up e / down e
-unfolding toUnsigned
-whole-is m e h = omega (arith, part-le (m * up e) (down e) (down-pos e) h)
+-- what is left of x with 2 ^ 23 added and taken off
+abbrev pub leftOf : Float → Float
+leftOf x = sub binary32 (add binary32 x big) big
 
 -- every whole number up to the most slots is an f32
-pub held : (t : ℕ) → t ≤ mostSlots → T (inFloat binary32 (pos t))
+held : (t : ℕ) → t ≤ mostSlots → T (inFloat binary32 (pos t))
 unfolding inFloat
 held t h = le→leb t (2 ^ 24) (omega arith)
 
 whole-value : (t : ℕ) → t ≤ mostSlots → HasValue (ofInt binary32 (pos t)) false t 1
 unfolding ofInt
 whole-value t h = round-whole binary32 false t (omega arith)
-
--- ---- the whole number t below x, as a test
 
 ltb-scale : (a b c : ℕ) → 0 < c → ltb (a * c) (b * c) ≡ ltb a b
 ltb-scale a b c p = go (ltb a b) refl
@@ -75,33 +67,44 @@ lt-value (fin false n d) t false m e p =
     let same : n * up d ≡ t * down d = sym (mul-one (n * up d)) ∙ p .1 in
     rw (same, mul-right-comm t (down d) (down e)) (ltb-scale (t * down e) (m * up e) (down d) (down-pos d))
 
--- the test of `rounded_up`, where x is in range
-abbrev test : Float → Bool
-test x = lt (ofInt binary32 (pos (toUnsigned 64 x))) x
+module _ (s : Bool) (m : ℕ) (e : ℤ) (r : InRange (fin s m e)) where
+  small : near (m * up e) (down e) ≤ mostSlots
+  small = near-small (m * up e) (down e) (down-pos e) (r .1)
 
-test-is : (s : Bool) (m : ℕ) (e : ℤ) → InRange (fin s m e) → test (fin s m e) ≡ (not s && ltb (toUnsigned 64 (fin s m e) * down e) (m * up e))
-test-is s m e r = let t = toUnsigned 64 (fin s m e) in lt-value (ofInt binary32 (pos t)) t s m e (whole-value t (whole-le (fin s m e) r))
+  -- what is left casts to the nearest whole number
+  cast : T (inUnsigned binary32 32 (leftOf (fin s m e))) × (toUnsigned 32 (leftOf (fin s m e)) ≡ near (m * up e) (down e))
+  cast = rw (left-near s m e r) (unsigned-back binary32 32 (near (m * up e) (down e)) (held _ small) (omega (arith, small)))
 
--- and where x is not below zero: the quotient is x without its fraction
-test-plus : (m : ℕ) (e : ℤ) → InRange (fin false m e) → test (fin false m e) ≡ ltb (m * up e / down e * down e) (m * up e)
-test-plus m e r = test-is false m e r ∙ rw (whole-is m e (r .1))
+  -- and is below x where that number is
+  test-is : lt (leftOf (fin s m e)) (fin s m e) ≡ (not s && ltb (near (m * up e) (down e) * down e) (m * up e))
+  test-is = rw (left-near s m e r) (lt-value _ (near (m * up e) (down e)) s m e (whole-value _ small))
 
--- ---- the ceiling
+-- ---- what `rounded_up` does with an x in range
 
-pub rounded-next : (x : Float) → InRange x → test x ≡ true → toUnsigned 64 x + 1 ≡ ceilOf x
+pub castable : (x : Float) → InRange x → T (inUnsigned binary32 32 (leftOf x))
+castable nan r = absurd r
+castable (inf s) r = absurd r
+castable (fin s m e) r = cast s m e r .0
+
+pub cast-small : (x : Float) → InRange x → toUnsigned 32 (leftOf x) ≤ mostSlots
+cast-small nan r = absurd r
+cast-small (inf s) r = absurd r
+cast-small (fin s m e) r = rw (cast s m e r .1) (small s m e r)
+
+pub rounded-next : (x : Float) → InRange x → lt (leftOf x) x ≡ true → toUnsigned 32 (leftOf x) + 1 ≡ ceilOf x
 unfolding ceilOf
 rounded-next nan r h = absurd r
 rounded-next (inf s) r h = absurd r
 rounded-next (fin true m e) r h = absurd (true≢false (sym h ∙ test-is true m e r))
 rounded-next (fin false m e) r h =
-    let more = ltb-true (m * up e / down e * down e) (m * up e) (sym (test-plus m e r) ∙ h) in
-    rw (whole-is m e (r .1)) (ceil-next (m * up e) (down e) (m * up e / down e) (down-pos e) more (le-of-lt (lt-div-mul-add (down-pos e))))
+    rw (cast false m e r .1)
+    (near-next (m * up e) (down e) (down-pos e) (r .1) (ltb-true _ _ (sym (test-is false m e r) ∙ h)))
 
-pub rounded-same : (x : Float) → InRange x → test x ≡ false → toUnsigned 64 x ≡ ceilOf x
+pub rounded-same : (x : Float) → InRange x → lt (leftOf x) x ≡ false → toUnsigned 32 (leftOf x) ≡ ceilOf x
 unfolding ceilOf
 rounded-same nan r h = absurd r
 rounded-same (inf s) r h = absurd r
-rounded-same (fin true m e) r h = unfold toUnsigned in ceil-same (m * up e) (down e) 0 (down-pos e) (rw (r .0 refl, zero-mul))
+rounded-same (fin true m e) r h = rw (cast true m e r .1) (near-same (m * up e) (down e) (down-pos e) (r .1) (omega (arith, r .0 refl)))
 rounded-same (fin false m e) r h =
-    let no-more = ltb-false (m * up e / down e * down e) (m * up e) (sym (test-plus m e r) ∙ h) in
-    rw (whole-is m e (r .1)) (ceil-same (m * up e) (down e) (m * up e / down e) (down-pos e) (le-antisymm (div-mul-le-self (m * up e) (down e)) no-more))
+    rw (cast false m e r .1)
+    (near-same (m * up e) (down e) (down-pos e) (r .1) (ltb-false _ _ (sym (test-is false m e r) ∙ h)))

@@ -12,6 +12,9 @@ const INFINITE: u32 = 0x7f80_0000;
 
 const UNSIGNED: u32 = 0x8000_0000;
 
+// 2^23, from which on a binary32 has no digit for a fraction: added to a wish and taken off again, it leaves the nearest whole number.
+const NO_FRACTION: f32 = 8388608.0;
+
 // What a wish comes to.
 pub enum Wish {
     // The slots that it is given.
@@ -57,6 +60,14 @@ pub fn classify(x: f32) -> Wish
     Wish::Slots(worth_of(rounded_up(x)))
 }
 
+// The slots of 32 bits whose wish is not refused: a caller who has judged them need not have them judged again.
+pub fn slots_given(bits: u32) -> u32
+    requires { ⌜ codeOf (wishBits bits) ≡ 0 ⌝ }
+    ensures { λ r. ⌜ r ≡ slotsOf (wishBits bits) ⌝ }
+{
+    worth_of(rounded_up(f32::from_bits(bits)))
+}
+
 // The code of a wish, 0 where nothing is refused.
 pub fn code_of(wish: Wish) -> u8
     ensures { λ r. ⌜ r ≡ codeOf wish ⌝ }
@@ -81,13 +92,14 @@ pub fn slots_of(wish: Wish) -> u32
     }
 }
 
-// The least whole number not below x: x without its fraction, or the next where that is below x.
+// The least whole number not below x: the nearest one, or the next where that is below x.
 fn rounded_up(x: f32) -> u32
     requires { ⌜ InRange x ⌝ }
     ensures { λ r. ⌜ r ≡ ceilOf x ⌝ }
 {
-    let whole = std::num::truncating_f32_to_u64(x) as u32;
-    if (whole as f32) < x {
+    let near = (x + NO_FRACTION) - NO_FRACTION;
+    let whole = near as u32;
+    if near < x {
         return whole + 1;
     }
     whole
