@@ -1,13 +1,13 @@
 -- From 2 ^ 23 to 2 ^ 24 a binary32 is a whole number. So where 2 ^ 23 is added to x and taken off again, the whole number nearest to x is left, as a float.
 use Prim.Native.Nat.{ℕ, _+_, _-_, _*_, _/_, _^_, _<_, _≤_}
-use native.Mathlib.Nat.{le-trans, le-of-eq, lt-of-not-le, not-le-of-lt, lt-of-lt-of-le, lt-of-le-of-lt, zero-lt-suc, add-comm, zero-add, sub-zero, add-sub-cancel-left, mul-one, one-mul, zero-mul, mul-assoc, mul-right-comm, add-mul, mul-le-mul-right, mul-lt-mul-of-pos-right, eq-of-mul-eq-mul-right, div-one, mod-one, le-div-iff-mul-le, div-lt-iff-lt-mul, mul-pos}
+use native.Mathlib.Nat.{lt-of-not-le, not-le-of-lt, lt-of-lt-of-le, lt-of-le-of-lt, zero-add, sub-zero, add-sub-cancel-left, mul-one, mul-assoc, mul-right-comm, add-mul, mul-le-mul-right, mul-lt-mul-of-pos-right, eq-of-mul-eq-mul-right, div-one, mod-one, le-div-iff-mul-le, div-lt-iff-lt-mul, mul-pos}
 use native.Mathlib.Omega.{arith}
 use mathlib.Core.Path.{_≡_, refl, sym, ap, _∙_, subst}
-use mathlib.Core.Bool.{Bool, true, false, _&&_, true≢false}
+use mathlib.Core.Bool.{Bool, true, false, true≢false}
 use borrow.Author.Tests.{lt-ltb, le-ltb}
-use lib.Dec.{ltb, lit<}
+use lib.Dec.{lit<}
 use lib.IntN.{ℤ, pos}
-use lib.Pow.{pow-pos, pow-mono, pow-lt}
+use lib.Pow.{pow-pos, pow-mono}
 use lib.Ieee.{Float, nan, inf, fin, binary32, up, down, size, round, sum, add, sub, neg, ofInt}
 use lib.Ieee.Digits.{size-lt, size-le}
 use lib.Ieee.Exact.{HasValue}

@@ -13,7 +13,6 @@ use lib.Ieee.Exact.{HasValue}
 use lib.Ieee.Fits.{down-pos}
 use lib.Ieee.Back.{round-whole, unsigned-back}
 use Rattle.wish.specs.Wish.{mostSlots, ceil, ceilOf, InRange}
-use Rattle.wish.specs.Meaning.{LeastNotBelow}
 use Rattle.wish.proofs.Ceiling.{least-unique, ceil-least, ceil-next}
 use Rattle.wish.proofs.Nearest.{big, near, near-le, near-ge, near-small, left-near}
 

@@ -11,7 +11,9 @@ use lib.Dec.{ltb}
 use borrow.Author.Tests.{ltb-true}
 use Rattle.switch.specs.declared.Refusal.{Refusal}
 use Rattle.switch.specs.declared.Refusal.the-variants.{Malformed, Named}
-use Rattle.wish.specs.Wish.{wishBits}
+use Rattle.wish.specs.declared.Wish.{Wish}
+use Rattle.wish.specs.declared.Wish.the-variants as Wish
+use Rattle.wish.specs.Wish.{wishBits, codeOf}
 use Rattle.wishes.specs.declared.WishRecord.{WishRecord}
 use Rattle.wishes.specs.declared.Fault.{Fault}
 use Rattle.wishes.specs.declared.Fault.the-variants.{At, Nothing}
@@ -42,10 +44,18 @@ fault-agree N k a b r h = go (wellFormed N r) refl
     go true e = ap (λ x. faultOf N k x r) (h e)
     go false e = malformed N k a r e ∙ sym (malformed N k b r e)
 
+-- a wish without a fault is not refused
+no-wish-fault : (k : ℕ) (w : Wish) → wishFault k w ≡ Nothing → codeOf w ≡ 0
+no-wish-fault k (Wish.Slots n) h = refl
+no-wish-fault k Wish.NotFinite h = absurd (let z : _≡_ {A = ℕ} 0 1 = cc in omega arith)
+no-wish-fault k Wish.BelowZero h = absurd (let z : _≡_ {A = ℕ} 0 1 = cc in omega arith)
+no-wish-fault k Wish.AboveMost h = absurd (let z : _≡_ {A = ℕ} 0 1 = cc in omega arith)
+
 -- what a record without a fault is
 pub record Sound (N : ℕ) (before : Bool) (r : WishRecord) : Type 0 where
   pub formed : wellFormed N r ≡ true
   pub fresh : before ≡ false
+  pub given : codeOf (wishBits (r .bits)) ≡ 0
 
 pub sound : (N k : ℕ) (before : Bool) (r : WishRecord) → faultOf N k before r ≡ Nothing → Sound N before r
 sound N k before r h = go (wellFormed N r) before refl refl
@@ -53,7 +63,7 @@ sound N k before r h = go (wellFormed N r) before refl refl
     go : (w b : Bool) → wellFormed N r ≡ w → before ≡ b → Sound N before r
     go false b e f = absurd (let z : _≡_ {A = ℕ} 0 1 = cc (malformed N k before r e) in omega arith)
     go true true e f = absurd (let z : _≡_ {A = ℕ} 0 1 = cc (twice N k before r e f) in omega arith)
-    go true false e f = record { formed = e; fresh = f }
+    go true false e f = record { formed = e; fresh = f; given = no-wish-fault k (wishBits (r .bits)) (sym (its-wish N k before r e f) ∙ h) }
 
 -- a well formed record's ports are below N
 pub record Inside (N : ℕ) (r : WishRecord) : Type 0 where

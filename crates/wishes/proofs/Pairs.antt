@@ -1,29 +1,30 @@
--- The sets hold just the pairs that the records passed name: a mark puts one output into the set of one input, and a record names one pair.
-use Prim.Native.Nat.{ℕ, zero, suc, _+_, _≤_}
-use native.Mathlib.Nat.{le-of-suc-le-suc, eq-or-lt-of-le, le-refl, le-trans, lt-of-lt-of-le}
+-- Just the pairs that the records passed name are marked: a mark goes to the cell of one pair, and a record names one pair.
+use Prim.Native.Nat.{ℕ, zero, suc, _+_, _*_, _/_, _%_, _<_, _≤_}
+use native.Mathlib.Nat.{le-of-suc-le-suc, eq-or-lt-of-le, le-trans, mul-le-mul, div-lt-iff-lt-mul, div-add-mod'}
 use native.Mathlib.Numerals.{add-one}
-use native.Mathlib.Decide.{ℕ-discrete}
+use native.Mathlib.Decide.{ℕ-discrete, decLt}
 use native.Mathlib.Omega.{arith}
 use mathlib.Core.Path.{_≡_, refl, sym, ap, _∙_}
 use mathlib.Core.Bool.{Bool, true, false, _&&_, _||_, or-true, true≢false}
 use mathlib.Core.List.{List}
 use mathlib.Core.Logic.{inl, inr}
+use lib.Arith.{digits-lt}
 use lib.Dec.{eqb}
-use lib.ListN.{replicate, length-replicate, getD-replicate}
+use lib.ListN.{length, getD, set, replicate, length-set, length-replicate, getD-replicate, List·getD-eq-default}
+use lib.Seq.{getD-set-same, getD-set-other}
 use borrow.Author.Tests.{eqb-true, eqb-false, eq-eqb, ne-eqb}
 use Rattle.sets.specs.Label.{digit, isIn, Marked}
-use Rattle.sets.specs.Wide.{two}
-use Rattle.labels.specs.Rows.{rowOf, RowPut}
 use Rattle.sets.proofs.Digits.{none-digit}
+use Rattle.switch.proofs.Demand.{index-inj}
 use Rattle.wishes.specs.declared.WishRecord.{WishRecord}
 use Rattle.wishes.specs.Record.{recordAt, samePair, names}
 use Rattle.wishes.specs.Fault.{named, NamedBy, faultOf, faultAt}
-use Rattle.wishes.specs.Seen.{seenPair, Seen, Empty, Marks}
-use Rattle.wishes.proofs.Faults.{fault-agree, inside}
+use Rattle.wishes.specs.Seen.{bitAt, seenPair, Seen, Empty, Marks}
+use Rattle.wishes.proofs.Faults.{Inside, fault-agree, inside}
 
 -- ---- marking
 
--- in the set after a mark: the output marked, and what was in it before
+-- in a word after a mark: the number marked, and what was in it before
 has-marked : (l j r b : ℕ) → Marked l j r → isIn r b ≡ (eqb j b || isIn l b)
 has-marked l j r b m = go (eqb j b) (isIn l b) refl refl
   where
@@ -35,46 +36,61 @@ has-marked l j r b m = go (eqb j b) (isIn l b) refl refl
       | inr x ↦ eqb-false j b p (sym x)
     ])
 
-pub marks : (i j l r : ℕ) (lows highs lows' highs' : List ℕ) → l ≡ rowOf lows highs i → Marked l j r → RowPut i r lows highs lows' highs' → Marks i j lows highs lows' highs'
-marks i j l r lows highs lows' highs' e m p = record { low = p .low; high = p .high; pairs = λ a b. at a b (ℕ-discrete a i) }
+-- the word of a place of which there is room
+pub word-inside : (N i j size : ℕ) → i < N → j < N → N * N ≤ 64 * size → (i * N + j) / 64 < size
+word-inside N i j size li lj room = div-lt-iff-lt-mul {k = 64} (omega arith) .1 (omega (arith, digits-lt li lj))
+
+-- a mark in the word of a place is that place's alone
+pub marks-of : (at : ℕ) (marks : List ℕ) (r : ℕ) → at / 64 < length marks → Marked (getD marks (at / 64) 0) (at % 64) r → Marks at marks (set marks (at / 64) r)
+marks-of at marks r l m = record { size = length-set marks (at / 64) r; bits = λ p. bit p (ℕ-discrete (at / 64) (p / 64)) }
   where
-    at : (a b : ℕ) → Dec (a ≡ i) → seenPair lows' highs' a b ≡ (samePair i j a b || seenPair lows highs a b)
-    at a b (yes z) = unfold seenPair samePair in
-        rw (z, eq-eqb i i refl) (ap (λ (x : ℕ). isIn x b) (p .here) ∙ has-marked l j r b m ∙ ap (λ (x : ℕ). eqb j b || isIn x b) e)
-    at a b (no z) = unfold seenPair samePair in
-        rw (ne-eqb i a (λ q. z (sym q))) (ap (λ (x : ℕ). isIn x b) (p .other a z))
+    bit : (p : ℕ) → Dec (at / 64 ≡ p / 64) → bitAt (set marks (at / 64) r) p ≡ (eqb at p || bitAt marks p)
+    bit p (no z) = unfold bitAt in
+        rw (ne-eqb at p (λ e. z (ap (λ (x : ℕ). x / 64) e)), getD-set-other marks (at / 64) (p / 64) r 0 (λ e. z (sym e)))
+    bit p (yes z) = unfold bitAt in
+        rw (← z, getD-set-same marks (at / 64) r 0 l) (has-marked _ (at % 64) r (p % 64) m ∙ ap (λ (x : Bool). x || isIn (getD marks (at / 64) 0) (p % 64)) (go (eqb at p) refl))
+      where
+        go : (e : Bool) → eqb at p ≡ e → eqb (at % 64) (p % 64) ≡ e
+        go true q = eq-eqb _ _ (ap (λ (x : ℕ). x % 64) (eqb-true at p q))
+        go false q = ne-eqb (at % 64) (p % 64) (λ e. eqb-false at p q (omega (arith, div-add-mod' at 64, div-add-mod' p 64)))
 
--- ---- what the sets hold
+-- a place is its pair's alone
+pair-place : (N i j a b : ℕ) → j < N → b < N → eqb (i * N + j) (a * N + b) ≡ samePair i j a b
+unfolding samePair
+pair-place N i j a b lj lb = go (eqb i a) (eqb j b) refl refl
+  where
+    go : (p q : Bool) → eqb i a ≡ p → eqb j b ≡ q → eqb (i * N + j) (a * N + b) ≡ (p && q)
+    go true true p q = eq-eqb (i * N + j) (a * N + b) (rw (eqb-true i a p, eqb-true j b q))
+    go true false p q = ne-eqb _ _ (λ e. eqb-false j b q (index-inj N i j a b lj lb e .1))
+    go false q p r = ne-eqb _ _ (λ e. eqb-false i a p (index-inj N i j a b lj lb e .0))
 
--- zeros are empty sets
-pub zeros-empty : (N : ℕ) → Empty N (replicate N 0) (replicate N 0)
-zeros-empty N = record {
-  room = record { low = rw length-replicate (le-refl N); high = rw length-replicate (le-refl N) };
-  low = λ i a. getD-replicate N i 0 0 a;
-  high = λ i a. getD-replicate N i 0 0 a;
-}
+-- ---- which pairs are marked
 
--- sets that are empty for many inputs are empty for fewer
-pub empty-less : (N most : ℕ) (lows highs : List ℕ) → N ≤ most → Empty most lows highs → Empty N lows highs
-empty-less N most lows highs l e = record {
-  room = record { low = le-trans l (e .room .low); high = le-trans l (e .room .high) };
-  low = λ i a. e .low i (lt-of-lt-of-le a l);
-  high = λ i a. e .high i (lt-of-lt-of-le a l);
-}
+-- zeros are no mark
+pub zeros-empty : (N words : ℕ) → N * N ≤ 64 * words → Empty N (replicate words 0)
+zeros-empty N words l = record { room = rw length-replicate l; zero = λ k. go k (decLt k words) }
+  where
+    go : (k : ℕ) → Dec (k < words) → _≡_ {A = ℕ} (getD (replicate words 0) k 0) 0
+    go k (yes a) = getD-replicate words k 0 0 a
+    go k (no b) = List·getD-eq-default (replicate words 0) 0 (rw length-replicate (omega (arith, b)))
+
+-- room for many ports is room for fewer
+pub empty-less : (N most : ℕ) (marks : List ℕ) → N ≤ most → Empty most marks → Empty N marks
+empty-less N most marks l e = record { room = le-trans (mul-le-mul l l) (e .room); zero = e .zero }
 
 -- nothing, to begin with
-pub seen-none : (N : ℕ) (s lows highs : List ℕ) → Empty N lows highs → Seen N s 0 lows highs
-unfolding named seenPair two
-seen-none N s lows highs e i j a b = rw (e .low i a, e .high i a) (ne-eqb (digit 0 j) 1 (λ x. omega (arith, none-digit j)))
+pub seen-none : (N : ℕ) (s marks : List ℕ) → Empty N marks → Seen N s 0 marks
+unfolding named bitAt
+seen-none N s marks e i j a b = rw (e .zero ((i * N + j) / 64)) (ne-eqb (digit 0 ((i * N + j) % 64)) 1 (λ x. omega (arith, none-digit ((i * N + j) % 64))))
 
-module _ (N : ℕ) (s : List ℕ) (k : ℕ) (r : WishRecord) (is : r ≡ recordAt s k) (lows highs : List ℕ) (h : Seen N s k lows highs) where
+module _ (N : ℕ) (s : List ℕ) (k : ℕ) (r : WishRecord) (is : r ≡ recordAt s k) (marks : List ℕ) (h : Seen N s k marks) where
   -- and record k's pair more with its mark
-  pub seen-more : (lows' highs' : List ℕ) → Marks (r .input .0) (r .output .0) lows highs lows' highs' → Seen N s (k + 1) lows' highs'
+  pub seen-more : (marks' : List ℕ) → Inside N r → Marks (r .input .0 * N + r .output .0) marks marks' → Seen N s (k + 1) marks'
   unfolding named
-  seen-more lows' highs' m i j a b = m .pairs i j ∙ rw (h i j a b, is, add-one)
+  seen-more marks' l m i j a b = m .bits (i * N + j) ∙ rw (h i j a b, pair-place N (r .input .0) (r .output .0) i j (l .output) b, is, add-one)
 
-  -- so what the sets say of record k's pair is whether it was named before
-  pub judged : faultOf N k (seenPair lows highs (r .input .0) (r .output .0)) r ≡ faultAt N s k
+  -- so what is marked says of record k's pair whether it was named before
+  pub judged : faultOf N k (seenPair N marks (r .input .0) (r .output .0)) r ≡ faultAt N s k
   unfolding faultAt
   judged = rw is (fault-agree N k _ _ (recordAt s k) (λ w. let i = inside N (recordAt s k) w in h _ _ (i .input) (i .output)))
 

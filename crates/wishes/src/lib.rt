@@ -2,9 +2,8 @@
 // Each call answers for every list, of any length and any bytes: codes 1, 2 and 9, then the first faulty record's 11, 12, 6, 7 or 8.
 // A refusal changes no cell; a success makes the cell of each named pair its wish's slots, and every other 0.
 // What one wish is worth is the crate `wish`'s matter, and whether the lines are too long is for whoever plans the demand.
-use labels::put_row;
-use labels::row_of;
 pub use numbers::word_at;
+use sets::Label;
 use switch::Counts;
 use switch::InputPort;
 use switch::Outcome;
@@ -19,7 +18,8 @@ ghost use Rattle.switch.specs.Editions.{firstEdition, secondEdition};
 ghost use Rattle.switch.specs.Result.{Gives};
 ghost use Rattle.wishes.specs.Record.{recordAt, wellFormed};
 ghost use Rattle.wishes.specs.Fault.{wishFault, faultOf, firstFault};
-ghost use Rattle.wishes.specs.Seen.{Room, Empty, Marks, seenPair};
+ghost use Rattle.wish.specs.Wish.{wishBits, codeOf};
+ghost use Rattle.wishes.specs.Seen.{Empty, Marks, seenPair};
 ghost use Rattle.wishes.specs.Wishes.{put, demandOf, outcome, cellsAfter, wishing};
 
 // A wish record and where its parts stand (§4.5).
@@ -32,6 +32,13 @@ const SPARE0: usize = 2;
 const SPARE1: usize = 3;
 
 const VALUE: usize = 4;
+
+// A bit for each pair of the largest switch, in words of 64, and of that of the second edition.
+const WORD: usize = 64;
+
+const WORDS: usize = 64;
+
+const WIDE_WORDS: usize = 256;
 
 // One record of a list, as its bytes say it.
 pub struct WishRecord {
@@ -52,30 +59,27 @@ pub enum Fault {
 pub fn wishes(n: usize, list: &[u8], cells: &mut [u32]) -> Outcome
     ensures { λ r. ⌜ Gives (wishing firstEdition n (now (list .entry)) (now (cells .entry))) r (now (cells .exit)) ⌝ }
 {
-    let mut lows = [0u64; switch::PORTS];
-    let mut highs = [0u64; switch::PORTS];
-    list_to_demand(n, switch::PORTS, list, cells, &mut lows, &mut highs)
+    let mut marks = [0u64; WORDS];
+    list_to_demand(n, switch::PORTS, list, cells, &mut marks)
 }
 
 // The same in the second edition.
 pub fn wishes_second(n: usize, list: &[u8], cells: &mut [u32]) -> Outcome
     ensures { λ r. ⌜ Gives (wishing secondEdition n (now (list .entry)) (now (cells .entry))) r (now (cells .exit)) ⌝ }
 {
-    let mut lows = [0u64; switch::WIDE_PORTS];
-    let mut highs = [0u64; switch::WIDE_PORTS];
-    list_to_demand(n, switch::WIDE_PORTS, list, cells, &mut lows, &mut highs)
+    let mut marks = [0u64; WIDE_WORDS];
+    list_to_demand(n, switch::WIDE_PORTS, list, cells, &mut marks)
 }
 
-// The same for a switch of up to `most` ports; `lows` and `highs` are room for a set of outputs for each input.
+// The same for a switch of up to `most` ports; `marks` is room for a bit for each pair.
 fn list_to_demand(
     n: usize,
     most: usize,
     list: &[u8],
     cells: &mut [u32],
-    lows: &mut [u64],
-    highs: &mut [u64],
+    marks: &mut [u64],
 ) -> Outcome
-    requires { ⌜ (most ≤ 128) × Empty most (now lows) (now highs) ⌝ }
+    requires { ⌜ (most ≤ 128) × Empty most (now marks) ⌝ }
     ensures { λ r. ⌜ (r ≡ outcome most n (now (list .entry)) (length (now (cells .entry)))) × (now (cells .exit) ≡ cellsAfter most n (now (list .entry)) (now (cells .entry))) ⌝ }
 {
     if n == 0 {
@@ -92,7 +96,7 @@ fn list_to_demand(
     if list.len() % RECORD != 0 {
         return Outcome::Refused(Refusal::Torn(count));
     }
-    let fault = first_fault(n, list, count, lows, highs);
+    let fault = first_fault(n, list, count, marks);
     match fault {
         Fault::At(refusal) => Outcome::Refused(refusal),
         Fault::Nothing => {
@@ -108,19 +112,19 @@ fn list_to_demand(
     }
 }
 
-// The fault of the first faulty record of the first `count`. Each record is looked at once: the pairs seen so far are kept as bits.
-fn first_fault(n: usize, list: &[u8], count: usize, lows: &mut [u64], highs: &mut [u64]) -> Fault
-    requires { ⌜ (8 * count ≤ length (now list)) × (n ≤ 128) × Empty n (now lows) (now highs) ⌝ }
+// The fault of the first faulty record of the first `count`. Each record is looked at once: the pairs named so far are marked.
+fn first_fault(n: usize, list: &[u8], count: usize, marks: &mut [u64]) -> Fault
+    requires { ⌜ (8 * count ≤ length (now list)) × (n ≤ 128) × Empty n (now marks) ⌝ }
     ensures { λ r. ⌜ r ≡ firstFault n (now (list .entry)) count ⌝ }
 {
     let mut k: usize = 0;
     while k < count {
         let wanted = record_at(list, k);
-        let fault = fault_of(n, wanted, k, lows, highs);
+        let fault = fault_of(n, wanted, k, marks);
         if let Fault::At(refusal) = fault {
             return Fault::At(refusal);
         }
-        mark(wanted.input, wanted.output, lows, highs);
+        mark(n, wanted.input, wanted.output, marks);
         k += 1;
     }
     Fault::Nothing
@@ -142,14 +146,14 @@ fn record_at(list: &[u8], k: usize) -> WishRecord
 }
 
 // The fault of record k, the first of 11, 12, 6, 7, 8 that it has.
-fn fault_of(n: usize, wanted: WishRecord, k: usize, lows: &[u64], highs: &[u64]) -> Fault
-    requires { ⌜ (n ≤ 128) × Room n (now lows) (now highs) ⌝ }
-    ensures { λ r. ⌜ r ≡ faultOf n k (seenPair (now (lows .entry)) (now (highs .entry)) (wanted .input .0) (wanted .output .0)) wanted ⌝ }
+fn fault_of(n: usize, wanted: WishRecord, k: usize, marks: &[u64]) -> Fault
+    requires { ⌜ (n ≤ 128) × (n * n ≤ 64 * length (now marks)) ⌝ }
+    ensures { λ r. ⌜ r ≡ faultOf n k (seenPair n (now (marks .entry)) (wanted .input .0) (wanted .output .0)) wanted ⌝ }
 {
     if !well_formed(n, wanted) {
         return Fault::At(Refusal::Malformed(k));
     }
-    if seen(wanted.input, wanted.output, lows, highs) {
+    if seen(n, wanted.input, wanted.output, marks) {
         return Fault::At(Refusal::Named(k));
     }
     wish_fault(wish::of_bits(wanted.bits), k)
@@ -172,21 +176,24 @@ fn well_formed(n: usize, wanted: WishRecord) -> bool
 }
 
 // Was the pair marked?
-fn seen(i: InputPort, j: OutputPort, lows: &[u64], highs: &[u64]) -> bool
-    requires { ⌜ (j .0 < 128) × (i .0 < length (now lows)) × (i .0 < length (now highs)) ⌝ }
-    ensures { λ r. ⌜ r ≡ seenPair (now (lows .entry)) (now (highs .entry)) (i .0) (j .0) ⌝ }
+fn seen(n: usize, i: InputPort, j: OutputPort, marks: &[u64]) -> bool
+    requires { ⌜ (n ≤ 128) × (i .0 < n) × (j .0 < n) × (n * n ≤ 64 * length (now marks)) ⌝ }
+    ensures { λ r. ⌜ r ≡ seenPair n (now (marks .entry)) (i .0) (j .0) ⌝ }
 {
-    let outputs = row_of(lows, highs, i);
-    outputs.has(j)
+    let at = demand::cell_at(n, i, j);
+    let word = Label(marks[at / WORD]);
+    word.has(at % WORD)
 }
 
 // Marks the pair.
-fn mark(i: InputPort, j: OutputPort, lows: &mut [u64], highs: &mut [u64])
-    requires { ⌜ (j .0 < 128) × (i .0 < length (now lows)) × (i .0 < length (now highs)) ⌝ }
-    ensures { λ _. ⌜ Marks (i .0) (j .0) (now (lows .entry)) (now (highs .entry)) (now (lows .exit)) (now (highs .exit)) ⌝ }
+fn mark(n: usize, i: InputPort, j: OutputPort, marks: &mut [u64])
+    requires { ⌜ (n ≤ 128) × (i .0 < n) × (j .0 < n) × (n * n ≤ 64 * length (now marks)) ⌝ }
+    ensures { λ _. ⌜ Marks (i .0 * n + j .0) (now (marks .entry)) (now (marks .exit)) ⌝ }
 {
-    let outputs = row_of(lows, highs, i);
-    put_row(lows, highs, i, outputs.mark(j));
+    let at = demand::cell_at(n, i, j);
+    let word = Label(marks[at / WORD]);
+    let marked = word.mark(at % WORD);
+    marks[at / WORD] = marked.0;
 }
 
 // Codes 6, 7 and 8, for the wish of record k.
@@ -225,11 +232,11 @@ fn clear(cells: &mut [u32])
     }
 }
 
-// Puts the slots of one record into its cell.
+// Puts the slots of one record, which was judged, into its cell.
 fn put(n: usize, wanted: WishRecord, cells: &mut [u32])
-    requires { ⌜ (n ≤ 128) × (n * n ≤ length (now cells)) × (wellFormed n wanted ≡ true) ⌝ }
+    requires { ⌜ (n ≤ 128) × (n * n ≤ length (now cells)) × (wellFormed n wanted ≡ true) × (codeOf (wishBits (wanted .bits)) ≡ 0) ⌝ }
     ensures { λ _. ⌜ now (cells .exit) ≡ put n wanted (now (cells .entry)) ⌝ }
 {
     let at = demand::cell_at(n, wanted.input, wanted.output);
-    cells[at] = wish::slots_of(wish::of_bits(wanted.bits));
+    cells[at] = wish::slots_given(wanted.bits);
 }

@@ -1,5 +1,4 @@
 -- Each return is the first of the faults of §4.7 that the record has, in their order.
-use native.Mathlib.Nat.{lt-of-lt-of-le}
 use mathlib.Core.Path.{sym, ap, _∙_}
 use borrow.Author.Tests.{not-true, not-false}
 use Rattle.wishes.specs.Fault.{wishFault}
@@ -13,9 +12,9 @@ returns c = sym (malformed _ _ _ _ (sym (c .before .well-formed .ensures) ∙ no
 
 seen-requires : tie.Need-seen-requires
 seen-requires c κs =
-    let p = c .before .before .before .before .pre in
+    let p = c .before .before .before .pre in
     let i = inside _ _ (sym (c .before .well-formed .ensures) ∙ not-false _ (c .if1 .left)) in
-    (lt-of-lt-of-le (i .output) (p .0), lt-of-lt-of-le (i .input) (p .1 .low), lt-of-lt-of-le (i .input) (p .1 .high))
+    (p .0, i .input, i .output, p .1)
 
 returns-2 : tie.Need-returns-2
 returns-2 c = sym (twice _ _ _ _ (sym (c .before .before .before .well-formed .ensures) ∙ not-false _ (c .before .before .if1 .left)) (sym (c .before .seen .ensures) ∙ c .if2 .taken))

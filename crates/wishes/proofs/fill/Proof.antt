@@ -26,8 +26,8 @@ put-requires : tie.Need-put-requires Inv-loop μ-loop
 put-requires c κs =
     let l = c .before .before .before in
     let start = l .before .before .before .before .before .before .before in
-    let formed = all-sound _ _ _ _ (start .pre .3) (c .before .before .loop-test .taken) .formed in
-    (start .pre .1, rw (l .loop .inv .1, demand-length) (le-refl _), rw (c .before .record-at .ensures) formed)
+    let sound = all-sound _ _ _ _ (start .pre .3) (c .before .before .loop-test .taken) in
+    (start .pre .1, rw (l .loop .inv .1, demand-length) (le-refl _), rw (c .before .record-at .ensures) (sound .formed), rw (c .before .record-at .ensures) (sound .given))
 
 loop-again : tie.Need-loop-again Inv-loop μ-loop
 loop-again c =
