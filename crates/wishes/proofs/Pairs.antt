@@ -80,13 +80,13 @@ empty-less N most marks l e = record { room = le-trans (mul-le-mul l l) (e .room
 
 -- nothing, to begin with
 pub seen-none : (N : ℕ) (s marks : List ℕ) → Empty N marks → Seen N s 0 marks
-unfolding named bitAt
+unfolding named seenPair bitAt
 seen-none N s marks e i j a b = rw (e .zero ((i * N + j) / 64)) (ne-eqb (digit 0 ((i * N + j) % 64)) 1 (λ x. omega (arith, none-digit ((i * N + j) % 64))))
 
 module _ (N : ℕ) (s : List ℕ) (k : ℕ) (r : WishRecord) (is : r ≡ recordAt s k) (marks : List ℕ) (h : Seen N s k marks) where
   -- and record k's pair more with its mark
   pub seen-more : (marks' : List ℕ) → Inside N r → Marks (r .input .0 * N + r .output .0) marks marks' → Seen N s (k + 1) marks'
-  unfolding named
+  unfolding named seenPair
   seen-more marks' l m i j a b = m .bits (i * N + j) ∙ rw (h i j a b, pair-place N (r .input .0) (r .output .0) i j (l .output) b, is, add-one)
 
   -- so what is marked says of record k's pair whether it was named before

@@ -13,7 +13,7 @@ unfoldable pub bitAt : List ℕ → ℕ → Bool
 bitAt marks p = isIn (getD marks (p / 64) 0) (p % 64)
 
 -- the bit of input i and output j
-abbrev pub seenPair : ℕ → List ℕ → ℕ → ℕ → Bool
+unfoldable pub seenPair : ℕ → List ℕ → ℕ → ℕ → Bool
 seenPair N marks i j = bitAt marks (i * N + j)
 
 -- the pairs that the first m records name are marked, and no other

@@ -3,7 +3,7 @@ use native.Mathlib.Nat.{mod-lt}
 use native.Mathlib.Omega.{arith}
 use mathlib.Core.Path.{_∙_}
 use Rattle.switch.proofs.Demand.{index-small}
-use Rattle.wishes.specs.Seen.{bitAt}
+use Rattle.wishes.specs.Seen.{bitAt, seenPair}
 use Rattle.wishes.proofs.Pairs.{word-inside}
 use borrow.Author.Needs.{needs}
 use Rattle.wishes.proofs.seen.Statement.{statement}
@@ -19,7 +19,7 @@ has-requires : tie.Need-has-requires
 has-requires c κs = mod-lt _ (omega arith)
 
 returns : tie.Need-returns
-unfolding bitAt
+unfolding seenPair bitAt
 returns c = c .has .ensures ∙ rw (c .before .before .cell-at .ensures)
 
 pub seen-spec : {M : Type 1} → statement M
