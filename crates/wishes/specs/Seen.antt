@@ -9,15 +9,15 @@ use Rattle.sets.specs.Label.{isIn}
 use Rattle.wishes.specs.Fault.{named}
 
 -- bit p of the words, each of which has 64
-unfoldable pub bitAt : List ℕ → ℕ → Bool
+unfoldable pub bitAt : (marks : List ℕ) (p : ℕ) → Bool
 bitAt marks p = isIn (getD marks (p / 64) 0) (p % 64)
 
 -- the bit of input i and output j
-unfoldable pub seenPair : ℕ → List ℕ → ℕ → ℕ → Bool
+unfoldable pub seenPair : (N : ℕ) (marks : List ℕ) (i j : ℕ) → Bool
 seenPair N marks i j = bitAt marks (i * N + j)
 
 -- the pairs that the first m records name are marked, and no other
-abbrev pub Seen : ℕ → List ℕ → ℕ → List ℕ → Type 0
+abbrev pub Seen : (N : ℕ) (s : List ℕ) (m : ℕ) (marks : List ℕ) → Type 0
 Seen N s m marks = (i j : ℕ) → i < N → j < N → seenPair N marks i j ≡ named s m i j
 
 -- room for the pairs of N ports, and no mark
