@@ -4,7 +4,7 @@ import random
 import plan_vectors as plans
 import reference as ref
 import tape
-from record_vectors import changed, join, sound
+from record_vectors import called, changed, join, sound
 
 METHODS = [
     ("exact", ref.exact_list),
@@ -14,26 +14,28 @@ METHODS = [
 ]
 
 
-def check_case(name, n, cells, parts):
-    title = f"check {name}:"
-    answer = ref.check_plan(n, cells, join(parts))
-    steps = tape.lay_cells(cells) + tape.lay(*parts) + tape.step("k", 0, n, len(cells), title.encode())
+def check_case(name, n, cells, parts, edition=ref.FIRST):
+    letter, word = called("k", "check", edition)
+    title = f"{word} {name}:"
+    answer = ref.check_plan(n, cells, join(parts), edition)
+    steps = tape.lay_cells(cells) + tape.lay(*parts) + tape.step(letter, 0, n, len(cells), title.encode())
     return steps, f"{title}{tape.answer_text(answer)}\n"
 
 
-def length_case(name, n, parts, d):
-    title = f"length {name}, d = {d}:"
-    answer = ref.plan_length(n, join(parts), d)
-    return tape.lay(*parts) + tape.step("l", 0, n, d, title.encode()), f"{title}{tape.answer_text(answer)}\n"
+def length_case(name, n, parts, d, edition=ref.FIRST):
+    letter, word = called("l", "length", edition)
+    title = f"{word} {name}, d = {d}:"
+    answer = ref.plan_length(n, join(parts), d, edition)
+    return tape.lay(*parts) + tape.step(letter, 0, n, d, title.encode()), f"{title}{tape.answer_text(answer)}\n"
 
 
-def rotations(n, hold, count=None):
+def rotations(n, hold, count=None, edition=ref.FIRST):
     """Settings that join every pair once, or the first so many of them."""
-    return [(ref.record_bytes(hold, n, [(i + k) % n for i in range(n)]), 1) for k in range(n if count is None else count)]
+    return [(ref.record_bytes(hold, n, [(i + k) % n for i in range(n)], edition), 1) for k in range(n if count is None else count)]
 
 
-def planned(method, n, cells):
-    return [(ref.record_bytes(hold, n, outputs), 1) for hold, outputs in method(n, cells)]
+def planned(method, n, cells, edition=ref.FIRST):
+    return [(ref.record_bytes(hold, n, outputs, edition), 1) for hold, outputs in method(n, cells)]
 
 
 def passing():

@@ -4,23 +4,26 @@ import random
 import reference as ref
 import tape
 from plan_vectors import lines
-from record_vectors import changed, join, sound
+from record_vectors import called, changed, join, sound
 
 IDLE = ref.IDLE
+ROOM = 278_783  # all the room that the program can lend
 
 
-def join_case(name, n, parts, records=None, more=0):
+def join_case(name, n, parts, records=None, more=0, edition=ref.FIRST):
     """Joins a plan into room for so many records, by default as many as were read, and some bytes."""
-    title = f"join {name}:"
+    letter, word = called("j", "join", edition)
+    title = f"{word} {name}:"
     plan = join(parts)
-    room = len(plan) // ref.RECORD if records is None else records
-    answer, buffer = ref.join_plan(n, plan, bytes([tape.BLANK] * (room * ref.RECORD + more)))
-    return tape.lay(*parts) + tape.step("j", more, n, room, title.encode()), lines(title, n, answer, buffer)
+    room = len(plan) // edition.record if records is None else records
+    assert room * edition.record + more <= ROOM
+    answer, buffer = ref.join_plan(n, plan, bytes([tape.BLANK] * (room * edition.record + more)), edition)
+    return tape.lay(*parts) + tape.step(letter, more, n, room, title.encode()), lines(title, n, answer, buffer, edition)
 
 
-def held(n, *records):
+def held(n, *records, edition=ref.FIRST):
     """Records given as (hold, outputs), or (hold, outputs, times)."""
-    return [(ref.record_bytes(record[0], n, record[1]), record[2] if len(record) > 2 else 1) for record in records]
+    return [(ref.record_bytes(record[0], n, record[1], edition), record[2] if len(record) > 2 else 1) for record in records]
 
 
 def joins():

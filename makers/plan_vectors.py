@@ -38,10 +38,10 @@ def written(letter, title, n, cells, room, more, answer, buffer):
     return steps, lines(title, n, answer, buffer)
 
 
-def lines(title, n, answer, buffer):
-    """What is printed of a call that writes a plan: its answer, a checksum of the lent buffer, and the plan's records where they are few."""
+def lines(title, n, answer, buffer, edition=ref.FIRST):
+    """What is printed of a call that writes a plan: its answer, a checksum of the lent buffer, and where they are few the first edition's records."""
     text = f"{title}{tape.answer_text(answer)} sum {tape.checksum(buffer)}\n"
-    if answer.records <= SHORT and not answer.code:
+    if answer.records <= SHORT and not answer.code and edition == ref.FIRST:
         text += "".join(ref.record_line(hold, outputs[:n]) + "\n" for hold, outputs in ref.read_plan(n, buffer[: answer.records * ref.RECORD])[1])
     return text
 

@@ -11,10 +11,16 @@ def join(parts):
     return b"".join(data * times for data, times in parts)
 
 
-def read_case(name, n, parts, steps=None):
+def called(letter, word, edition):
+    """A call's letter and its word in a case's name: the second edition's letters are capitals."""
+    return (letter.upper(), f"second {word}") if edition == ref.SECOND else (letter, word)
+
+
+def read_case(name, n, parts, steps=None, edition=ref.FIRST):
     """Opens a plan and makes steps, by default up to the last record and then some more."""
-    title = f"read {name}:"
-    answer, reader = ref.open_plan(n, join(parts))
+    letter, word = called("r", "read", edition)
+    title = f"{word} {name}:"
+    answer, reader = ref.open_plan(n, join(parts), edition)
     text = f"{title}{tape.answer_text(answer)}\n"
     made, stuck = 0, 0
     while made != steps and stuck != STICKY:
@@ -22,36 +28,38 @@ def read_case(name, n, parts, steps=None):
         stuck += given.kind != "record"
         made += 1
         text += f"{step_words(given)} hold {given.hold} sum {tape.checksum(given.outputs)}\n"
-    return tape.lay(*parts) + tape.step("r", 0, n, made, title.encode()), text
+    return tape.lay(*parts) + tape.step(letter, 0, n, made, title.encode()), text
 
 
 def step_words(given):
     return f"malformed {given.place}" if given.kind == "malformed" else given.kind
 
 
-def write_case(name, n, hold, outputs, room=ref.RECORD):
+def write_case(name, n, hold, outputs, room, edition=ref.FIRST):
     """Writes one record into a lent buffer of so many bytes."""
-    title = f"write {name}:"
-    answer, buffer = ref.write_record(n, hold, outputs, bytes([tape.BLANK] * room))
+    letter, word = called("w", "write", edition)
+    title = f"{word} {name}:"
+    answer, buffer = ref.write_record(n, hold, outputs, bytes([tape.BLANK] * room), edition)
     text = f"{title}{tape.answer_text(answer)} sum {tape.checksum(buffer)}\n"
-    return tape.lay((bytes(outputs), 1)) + tape.step("w", room, n, hold, title.encode()), text
+    return tape.lay((bytes(outputs), 1)) + tape.step(letter, room, n, hold, title.encode()), text
 
 
 # ---- Sound records, and ways to damage one
 
 
-def sound(n, k=0):
+def sound(n, k=0, edition=ref.FIRST):
     """A well-formed record: a rotation, with every third input idle."""
     outputs = [IDLE if i % 3 == 2 and n > 1 else (i + k) % n for i in range(n)]
-    return ref.record_bytes(257 * k + 1, n, outputs)
+    return ref.record_bytes(257 * k + 1, n, outputs, edition)
 
 
 def changed(record, at, *values):
     return record[:at] + bytes(values) + record[at + len(values) :]
 
 
-def damages(n):
-    """(name, change) of each way in which a record of N ports, N from 3 to 63, is not well formed."""
+def damages(n, edition=ref.FIRST):
+    """(name, change) of each way in which a record of N ports, N at least 3 and below the edition's most, is not well formed."""
+    last = edition.record - 1
     yield "hold 0", lambda r: changed(r, 0, 0, 0)
     yield "N one more", lambda r: changed(r, 2, n + 1)
     yield "N one less", lambda r: changed(r, 2, n - 1)
@@ -64,8 +72,8 @@ def damages(n):
     yield "output twice", lambda r: changed(r, 4, 0, 0)
     yield "first output again last", lambda r: changed(changed(r, 4, 1), 3 + n, 1)
     yield "later output 0", lambda r: changed(r, 4 + n, 0)
-    yield "last byte not idle", lambda r: changed(r, 67, 63)
-    yield "last byte 254", lambda r: changed(r, 67, 254)
+    yield "last byte not idle", lambda r: changed(r, last, edition.width - 1)
+    yield "last byte 254", lambda r: changed(r, last, 254)
 
 
 def harmless(n):

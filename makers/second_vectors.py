@@ -1,7 +1,7 @@
 """The stored vectors of the second edition's planners: the edges of N, demands of each shape, refusals, and buffers a byte short."""
 import reference as ref
 import tape
-from plan_vectors import diagonal, one_cell, one_line
+from plan_vectors import diagonal, lines, one_cell, one_line
 
 PLANNERS = {
     "X": ("exact", ref.exact_plan),
@@ -23,7 +23,7 @@ def case(letter, name, n, cells, room, more=0):
 def written(letter, word, name, n, cells, room, more, answer, buffer):
     title = f"second {word} {name}:"
     steps = tape.lay_cells(cells) + tape.step(letter, more, n, room, title.encode())
-    return steps, f"{title}{tape.answer_text(answer)} sum {tape.checksum(buffer)}\n"
+    return steps, lines(title, n, answer, buffer, ref.SECOND)
 
 
 def fitting(letter, name, n, cells, more):

@@ -11,9 +11,11 @@ import sys
 
 import check_vectors
 import console_vectors
+import edition_vectors
 import grating_vectors
 import join_vectors
 import lister_vectors
+import move_vectors
 import plan_vectors
 import quiet_vectors
 import record_vectors
@@ -25,7 +27,7 @@ import shop_vectors
 import wish_list
 import wish_vectors
 
-MAKERS = [record_vectors, check_vectors, join_vectors, plan_vectors, grating_vectors, quiet_vectors, wish_vectors, lister_vectors, room_vectors, console_vectors, second_vectors, shop_vectors, rescue_vectors]
+MAKERS = [record_vectors, check_vectors, join_vectors, plan_vectors, grating_vectors, quiet_vectors, wish_vectors, lister_vectors, room_vectors, console_vectors, second_vectors, edition_vectors, move_vectors, shop_vectors, rescue_vectors]
 
 
 def files():

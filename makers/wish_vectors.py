@@ -5,8 +5,10 @@ from fractions import Fraction
 
 import reference as ref
 import tape
+from record_vectors import called
 
 BEFORE = 7  # what a lent cell holds before the call
+FEW = 4_096  # so many cells are printed, and of more a checksum
 
 
 # ---- one wish
@@ -94,11 +96,11 @@ def pattern_case():
     return tape.lay((words, 1)) + tape.step("b"), "".join("%08x %d %d\n" % (bits, *ref.wish_slots(bits)) for bits in marks)
 
 
-def list_case(n, lent, data):
+def list_case(n, lent, data, edition=ref.FIRST, title=""):
     """One list, and every lent cell after it."""
-    answer, cells = ref.read_wishes(n, data, [BEFORE] * lent)
-    text = f"{tape.answer_text(answer)}\n" + "".join(f" {cell}" for cell in cells) + "\n"
-    return tape.lay((data, 1)) + tape.step("s", 0, n, lent), text
+    answer, cells = ref.read_wishes(n, data, [BEFORE] * lent, edition)
+    after = "".join(f" {cell}" for cell in cells) if lent <= FEW else f" sum {tape.checksum(cells)}"
+    return tape.lay((data, 1)) + tape.step(called("s", "", edition)[0], 0, n, lent, title.encode()), f"{title}{tape.answer_text(answer)}\n{after}\n"
 
 
 def cases():

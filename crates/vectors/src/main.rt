@@ -4,9 +4,11 @@
 // It promises that every case of any tape is run safely; that the answers are right is for the comparison.
 mod check;
 mod console;
+mod editions;
 mod fabric;
 mod join;
 mod list;
+mod moved;
 mod plan;
 mod record;
 mod rooms;
@@ -14,7 +16,6 @@ mod saved;
 mod schedule;
 mod show;
 mod tape;
-mod wide;
 mod wished;
 
 use libc::STDIN_FILENO;
@@ -22,11 +23,11 @@ use tape::Step;
 ghost use Prim.Native.Nat.{_≤_, _<_};
 ghost use lib.ListN.{length};
 
-// The most bytes of a tape.
-const TAPE: usize = 2097152;
+// The most bytes of a tape. With what is laid and lent for a call they must fit a stack of 8 MiB.
+const TAPE: usize = 1572864;
 
-// The most bytes laid for one call: 65 × 65 cells, or 64 × 64 and a plan of a record more than may be read.
-const LAID: usize = 573600;
+// The most bytes laid for one call: the cells of 129 ports, and a plan of a record and a byte more than may be read in the second edition.
+const LAID: usize = 4392073;
 
 fn main() {
     let mut tape = [0u8; TAPE];
@@ -48,7 +49,23 @@ fn run_next(tape: &[u8], at: usize) -> usize
     ensures { λ r. ⌜ (at < r) × (r ≤ length (now (tape .entry))) ⌝ }
 {
     let mut bytes = [0u8; LAID];
-    let call = tape::next_call(tape, at, &mut bytes);
+    run_with(tape, at, &mut bytes)
+}
+
+// The same with an array to lay bytes in: its length is known by its type, and nobody has to count so many bytes.
+fn run_with(tape: &[u8], at: usize, bytes: &mut [u8; LAID]) -> usize
+    requires { ⌜ at < length (now tape) ⌝ }
+    ensures { λ r. ⌜ (at < r) × (r ≤ length (now (tape .entry))) ⌝ }
+{
+    run_call(tape, at, bytes)
+}
+
+// The same with any bytes to lay in.
+fn run_call(tape: &[u8], at: usize, bytes: &mut [u8]) -> usize
+    requires { ⌜ at < length (now tape) ⌝ }
+    ensures { λ r. ⌜ (at < r) × (r ≤ length (now (tape .entry))) ⌝ }
+{
+    let call = tape::next_call(tape, at, bytes);
     let name = call.name;
     let next = call.next;
     let laid = call.laid;
@@ -63,18 +80,18 @@ fn run(step: Step, laid: &[u8])
 {
     let letter = step.letter;
     match letter {
-        b'x' | b'd' | b'e' | b'q' | b'g' => plan::plan(step, laid),
+        b'x' | b'd' | b'e' | b'q' | b'g' | b'X' | b'D' | b'E' | b'Q' => plan::plan(step, laid),
         b'u' => plan::plan_limited(step, laid),
         b'y' => fabric::least(step.first, laid),
-        b'X' | b'D' | b'E' | b'Q' => wide::plan(step, laid),
-        b'k' => check::check(step.first, laid, step.second),
-        b'l' => check::length(step.first, laid, step.second as u16),
-        b'j' => join::join(step, laid),
+        b'k' | b'K' => check::check(step, laid),
+        b'l' | b'L' => check::length(step, laid),
+        b'j' | b'J' => join::join(step, laid),
+        b'1' | b'2' => moved::move_plan(step, laid),
         b'f' => fabric::report(step.first, laid, step.second),
-        b'r' => record::read(step.first, laid, step.second),
-        b'w' => record::write(step, laid),
+        b'r' | b'R' => record::read(step, laid),
+        b'w' | b'W' => record::write(step, laid),
         b'b' => wished::patterns(laid),
-        b's' => wished::read(step.first, laid, step.second),
+        b's' | b'S' => wished::read(step, laid),
         b't' => list::list(laid),
         b'i' => console::in_force(step, laid),
         b'c' => console::carry_over(step, laid),

@@ -1,4 +1,5 @@
-// The planners: a demand into lent bytes. A plan for the grating fabric is reported too.
+// The planners of both editions: a demand into lent bytes. A plan for the grating fabric is reported too.
+use crate::editions;
 use crate::show;
 use crate::tape;
 use crate::tape::Step;
@@ -10,9 +11,9 @@ ghost use lib.ListN.{length};
 pub const LIMIT: usize = 8;
 
 // The most cells that are lent.
-const CELLS: usize = 4225;
+const CELLS: usize = 16641;
 
-// The most bytes that are lent for a plan: 4,096 records, and 255 bytes.
+// The most bytes that are lent for a plan: 4,096 records of the first edition, and 255 bytes.
 const ROOM: usize = 278783;
 
 // Plans the cells that are laid, into as many records and bytes as the step says.
@@ -36,7 +37,7 @@ fn plan_cells(step: Step, limit: u64, laid: &[u8])
 {
     let mut cells = [0u32; CELLS];
     let count = tape::load_cells(laid, &mut cells);
-    let size = step.second * records::RECORD + step.small;
+    let size = editions::room_of(step);
     plan_within(step.letter, step.first, limit, &cells[..count], size);
 }
 
@@ -54,7 +55,7 @@ fn plan_into(letter: u8, n: usize, limit: u64, cells: &[u32], lent: &mut [u8])
     tape::blank(lent);
     let outcome = planned(letter, n, limit, cells, lent);
     show::written(outcome, lent);
-    show::plan(n, outcome, lent);
+    editions::show_plan(letter, n, outcome, lent);
     if grates(letter) {
         crate::fabric::report_written(n, outcome, lent);
     }
@@ -76,6 +77,10 @@ fn planned(letter: u8, n: usize, limit: u64, cells: &[u32], lent: &mut [u8]) -> 
         b'e' => doubled::doubled_plan_every_rotation(n, cells, lent),
         b'g' => grating::grating_doubled(n, cells, lent),
         b'u' => quiet::quiet_plan(n, cells, limit, lent),
+        b'X' => exact::exact_plan_second(n, cells, lent),
+        b'D' => doubled::doubled_plan_second(n, cells, lent),
+        b'E' => doubled::doubled_plan_every_rotation_second(n, cells, lent),
+        b'Q' => quick::quick_plan_second(n, cells, lent),
         _ => quick::quick_plan(n, cells, lent),
     }
 }

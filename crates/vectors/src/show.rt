@@ -2,7 +2,7 @@
 // How numbers become digits is left to `io`.
 use switch::Counts;
 use switch::Outcome;
-ghost use Prim.Native.Nat.{_+_, _≤_};
+ghost use Prim.Native.Nat.{_+_, _≤_, _<_};
 ghost use lib.ListN.{length};
 
 // The most records of a plan that are printed; of a longer one the checksum tells enough.
@@ -66,15 +66,32 @@ pub fn sum(bytes: &[u8]) {
     field(b" sum ", checksum(bytes));
 }
 
-// A number made of bytes that changes where one byte, or their number, does: each counts one more than it is, so that zeros count too.
+// A number made of bytes that changes where one byte, or their number, does.
 fn checksum(bytes: &[u8]) -> u64 {
     let mut sum = 1;
     let mut k = 0;
     while k < bytes.len() {
-        sum = (sum * 257 + wide(bytes[k]) + 1) % PRIME;
+        sum = summed(sum, wide(bytes[k]));
         k += 1;
     }
     sum
+}
+
+// The same made of cells.
+pub fn cells_sum(slots: &[u32]) {
+    let mut sum = 1;
+    for k in 0..slots.len() {
+        sum = summed(sum, wide_slots(slots[k]));
+    }
+    field(b" sum ", sum);
+}
+
+// A checksum with one number more, which counts one more than it is, so that zeros count too.
+fn summed(sum: u64, number: u64) -> u64
+    requires { ⌜ (sum < 4294967291) × (number ≤ 4294967295) ⌝ }
+    ensures { λ r. ⌜ r < 4294967291 ⌝ }
+{
+    (sum * 257 + number + 1) % PRIME
 }
 
 // The records of a plan that was written, if they are few: a line each, hold, then the outputs of the first n inputs.
@@ -129,7 +146,7 @@ pub fn cells(slots: &[u32]) {
 }
 
 fn cell(slots: u32) {
-    field(b" ", slots as u64);
+    field(b" ", wide_slots(slots));
 }
 
 // A word and a number.
@@ -153,4 +170,11 @@ pub fn wide(byte: u8) -> u64
     ensures { λ r. ⌜ r ≤ 255 ⌝ }
 {
     byte as u64
+}
+
+// A cell as a number that is printed.
+fn wide_slots(slots: u32) -> u64
+    ensures { λ r. ⌜ r ≤ 4294967295 ⌝ }
+{
+    slots as u64
 }

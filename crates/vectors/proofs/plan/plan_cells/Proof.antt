@@ -3,39 +3,14 @@ use borrow.Author.Needs.{needs}
 use Rattle.vectors.proofs.plan.plan_cells.Statement.{statement}
 use Rattle.vectors.proofs.plan.plan_cells.Tie as tie
 
-slice-aggregate-load-cells : tie.Need-slice-aggregate-load-cells
-slice-aggregate-load-cells c = search needs
-
-load-cells-requires : tie.Need-load-cells-requires
-load-cells-requires c κs = tt
-
-mul-size : tie.Need-mul-size
-mul-size c = search needs
-
-add-size : tie.Need-add-size
-add-size c = search needs
-
-array-share-prefix-cells : tie.Need-array-share-prefix-cells
-array-share-prefix-cells c = search needs
-
-slice-aggregate-plan-within : tie.Need-slice-aggregate-plan-within
-slice-aggregate-plan-within c = search needs
-
-plan-within-requires : tie.Need-plan-within-requires
-plan-within-requires c κs = tt
-
-returns : tie.Need-returns
-returns c = tt
-
 pub plan-cells-spec : {M : Type 1} → statement M
 plan-cells-spec =
     tie.close
     (tie.spec
-    slice-aggregate-load-cells
-    load-cells-requires
-    mul-size
-    add-size
-    array-share-prefix-cells
-    slice-aggregate-plan-within
-    plan-within-requires
-    returns)
+    (λ c. search needs)
+    (λ c κs. tt)
+    (λ c κs. search needs)
+    (λ c. search needs)
+    (λ c. search needs)
+    (λ c κs. tt)
+    (λ c. tt))
