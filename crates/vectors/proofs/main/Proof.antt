@@ -24,12 +24,4 @@ returns : tie.Need-returns
 returns c = tt
 
 pub main-spec : {M : Type 1} → statement M
-main-spec =
-    tie.close
-    (tie.spec
-    slice-aggregate-read-full
-    read-full-requires
-    array-share-prefix-tape
-    slice-aggregate-run-all
-    run-all-requires
-    returns)
+main-spec = tie.close (tie.spec slice-aggregate-read-full read-full-requires array-share-prefix-tape slice-aggregate-run-all run-all-requires returns)

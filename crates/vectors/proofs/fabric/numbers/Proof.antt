@@ -55,18 +55,5 @@ pub numbers-spec : {M : Type 1} → statement M
 numbers-spec =
     tie.close
     (tie.spec
-    Inv-loop
-    μ-loop
-    numbers-of-requires
-    returns
-    within-requires
-    loop-holds
-    slice-aggregate-field
-    shared-slice-read-wide
-    wide-requires
-    field-requires
-    add-k
-    loop-less
-    loop-again
-    end-requires
-    returns-2)
+    Inv-loop μ-loop numbers-of-requires returns within-requires loop-holds slice-aggregate-field shared-slice-read-wide wide-requires field-requires
+    add-k loop-less loop-again end-requires returns-2)

@@ -25,9 +25,4 @@ pub report-spec : {M : Type 1} → statement M
 report-spec =
     tie.close
     (tie.spec
-    slice-aggregate-within
-    within-requires
-    array-borrow-prefix-bytes
-    slice-aggregate-report-into
-    report-into-requires
-    returns)
+    slice-aggregate-within within-requires array-borrow-prefix-bytes slice-aggregate-report-into report-into-requires returns)

@@ -22,12 +22,4 @@ returns : tie.Need-returns
 returns c = tt
 
 pub report-into-spec : {M : Type 1} → statement M
-report-into-spec =
-    tie.close
-    (tie.spec
-    blank-requires
-    grating-report-requires
-    written-requires
-    numbers-requires
-    same-length
-    returns)
+report-into-spec = tie.close (tie.spec blank-requires grating-report-requires written-requires numbers-requires same-length returns)

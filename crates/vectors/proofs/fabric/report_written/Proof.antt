@@ -35,12 +35,4 @@ pub report-written-spec : {M : Type 1} → statement M
 report-written-spec =
     tie.close
     (tie.spec
-    numbers-of-requires
-    within-requires
-    mul-within
-    within-requires-2
-    slice-aggregate-text
-    text-requires
-    slice-aggregate-report
-    report-requires
-    returns)
+    numbers-of-requires within-requires mul-within within-requires-2 slice-aggregate-text text-requires slice-aggregate-report report-requires returns)

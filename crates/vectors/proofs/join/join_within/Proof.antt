@@ -27,9 +27,4 @@ pub join-within-spec : {M : Type 1} → statement M
 join-within-spec =
     tie.close
     (tie.spec
-    slice-aggregate-within
-    within-requires
-    array-borrow-prefix-bytes
-    slice-aggregate-join-into
-    join-into-requires
-    returns)
+    slice-aggregate-within within-requires array-borrow-prefix-bytes slice-aggregate-join-into join-into-requires returns)

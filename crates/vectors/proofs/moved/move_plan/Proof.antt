@@ -15,10 +15,5 @@ pub move-plan-spec : {M : Type 1} → statement M
 move-plan-spec =
     tie.close
     (tie.spec
-    (λ c κs. search needs)
-    (λ c. sym (length-replicate {A = ℕ} 1081599 0))
-    (λ c κs. tt)
-    (λ c. c .within .ensures .0)
-    (λ c. c .before .within .ensures .1)
-    there-and-back-requires
-    (λ c. tt))
+    (λ c κs. search needs) (λ c. sym (length-replicate {A = ℕ} 1081599 0)) (λ c κs. tt) (λ c. c .within .ensures .0)
+    (λ c. c .before .within .ensures .1) there-and-back-requires (λ c. tt))

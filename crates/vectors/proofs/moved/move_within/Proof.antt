@@ -9,9 +9,5 @@ pub move-within-spec : {M : Type 1} → statement M
 move-within-spec =
     tie.close
     (tie.spec
-    (λ c. sym (length-replicate {A = ℕ} 139264 0))
-    (λ c κs. tt)
-    (λ c. c .within .ensures .0)
-    (λ c. c .before .within .ensures .1)
-    (λ c κs. tt)
+    (λ c. sym (length-replicate {A = ℕ} 139264 0)) (λ c κs. tt) (λ c. c .within .ensures .0) (λ c. c .before .within .ensures .1) (λ c κs. tt)
     (λ c. tt))

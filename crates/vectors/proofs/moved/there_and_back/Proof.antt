@@ -8,16 +8,5 @@ pub there-and-back-spec : {M : Type 1} → statement M
 there-and-back-spec =
     tie.close
     (tie.spec
-    (λ c κs. tt)
-    (λ c κs. tt)
-    (λ c κs. tt)
-    (λ c κs. search needs)
-    (λ c κs. tt)
-    (λ c. refl)
-    (λ c κs. tt)
-    (λ c κs. tt)
-    (λ c. search needs)
-    (λ c. search needs)
-    (λ c κs. tt)
-    (λ c. search needs)
-    (λ c. tt))
+    (λ c κs. tt) (λ c κs. tt) (λ c κs. tt) (λ c κs. search needs) (λ c κs. tt) (λ c. refl) (λ c κs. tt) (λ c κs. tt) (λ c. search needs)
+    (λ c. search needs) (λ c κs. tt) (λ c. search needs) (λ c. tt))

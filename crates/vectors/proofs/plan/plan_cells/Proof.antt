@@ -7,10 +7,4 @@ pub plan-cells-spec : {M : Type 1} → statement M
 plan-cells-spec =
     tie.close
     (tie.spec
-    (λ c. search needs)
-    (λ c κs. tt)
-    (λ c κs. search needs)
-    (λ c. search needs)
-    (λ c. search needs)
-    (λ c κs. tt)
-    (λ c. tt))
+    (λ c. search needs) (λ c κs. tt) (λ c κs. search needs) (λ c. search needs) (λ c. search needs) (λ c κs. tt) (λ c. tt))

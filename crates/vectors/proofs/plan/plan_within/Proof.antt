@@ -29,9 +29,4 @@ pub plan-within-spec : {M : Type 1} → statement M
 plan-within-spec =
     tie.close
     (tie.spec
-    slice-aggregate-within
-    within-requires
-    array-borrow-prefix-bytes
-    slice-aggregate-plan-into
-    plan-into-requires
-    returns)
+    slice-aggregate-within within-requires array-borrow-prefix-bytes slice-aggregate-plan-into plan-into-requires returns)

@@ -8,17 +8,5 @@ pub show-step-spec : {M : Type 1} → statement M
 show-step-spec =
     tie.close
     (tie.spec
-    (λ c. search needs)
-    (λ c. refl)
-    (λ c κs. tt)
-    (λ c. search needs)
-    (λ c. refl)
-    (λ c κs. tt)
-    (λ c. search needs)
-    (λ c. refl)
-    (λ c κs. tt)
-    (λ c. refl)
-    (λ c κs. tt)
-    (λ c κs. tt)
-    (λ c κs. tt)
-    (λ c. tt))
+    (λ c. search needs) (λ c. refl) (λ c κs. tt) (λ c. search needs) (λ c. refl) (λ c κs. tt) (λ c. search needs) (λ c. refl) (λ c κs. tt) (λ c. refl)
+    (λ c κs. tt) (λ c κs. tt) (λ c κs. tt) (λ c. tt))

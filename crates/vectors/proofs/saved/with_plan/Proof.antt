@@ -9,9 +9,5 @@ pub with-plan-spec : {M : Type 1} → statement M
 with-plan-spec =
     tie.close
     (tie.spec
-    (λ c. sym (length-replicate {A = ℕ} 557379 0))
-    (λ c κs. tt)
-    (λ c. c .within .ensures .0)
-    (λ c. c .before .within .ensures .1)
-    (λ c κs. tt)
+    (λ c. sym (length-replicate {A = ℕ} 557379 0)) (λ c κs. tt) (λ c. c .within .ensures .0) (λ c. c .before .within .ensures .1) (λ c κs. tt)
     (λ c. tt))

@@ -36,16 +36,4 @@ returns : tie.Need-returns Inv-loop μ-loop
 returns c = tt
 
 pub cells-spec : {M : Type 1} → statement M
-cells-spec =
-    tie.close
-    (tie.spec
-    Inv-loop
-    μ-loop
-    loop-holds
-    mul-cell
-    shared-slice-read-cell
-    cell-requires
-    add-k
-    loop-less
-    loop-again
-    returns)
+cells-spec = tie.close (tie.spec Inv-loop μ-loop loop-holds mul-cell shared-slice-read-cell cell-requires add-k loop-less loop-again returns)

@@ -62,21 +62,5 @@ pub plan-spec : {M : Type 1} → statement M
 plan-spec =
     tie.close
     (tie.spec
-    Inv-loop
-    μ-loop
-    numbers-of-requires
-    returns
-    mul-if2
-    returns-2
-    returns-3
-    loop-holds
-    mul-from
-    add-to
-    sub-record
-    part-record-start
-    part-record-end
-    record-requires
-    add-k
-    loop-less
-    loop-again
-    returns-4)
+    Inv-loop μ-loop numbers-of-requires returns mul-if2 returns-2 returns-3 loop-holds mul-from add-to sub-record part-record-start part-record-end
+    record-requires add-k loop-less loop-again returns-4)

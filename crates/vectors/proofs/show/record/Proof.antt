@@ -62,21 +62,5 @@ pub record-spec : {M : Type 1} → statement M
 record-spec =
     tie.close
     (tie.spec
-    Inv-loop
-    μ-loop
-    shared-slice-read-wide
-    wide-requires
-    shared-slice-read-wide-2
-    wide-requires-2
-    mul-print-decimal
-    add-print-decimal
-    print-decimal-requires
-    loop-holds
-    add-output
-    shared-slice-read-output
-    output-requires
-    add-i
-    loop-less
-    loop-again
-    end-requires
-    returns)
+    Inv-loop μ-loop shared-slice-read-wide wide-requires shared-slice-read-wide-2 wide-requires-2 mul-print-decimal add-print-decimal
+    print-decimal-requires loop-holds add-output shared-slice-read-output output-requires add-i loop-less loop-again end-requires returns)

@@ -34,15 +34,4 @@ returns : tie.Need-returns Inv-loop μ-loop
 returns c = search needs
 
 pub blank-spec : {M : Type 1} → statement M
-blank-spec =
-    tie.close
-    (tie.spec
-    Inv-loop
-    μ-loop
-    loop-holds
-    slice-write-bytes
-    add-k
-    loop-less
-    loop-again
-    same-length
-    returns)
+blank-spec = tie.close (tie.spec Inv-loop μ-loop loop-holds slice-write-bytes add-k loop-less loop-again same-length returns)

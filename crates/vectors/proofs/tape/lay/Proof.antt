@@ -61,19 +61,5 @@ pub lay-spec : {M : Type 1} → statement M
 lay-spec =
     tie.close
     (tie.spec
-    Inv-loop
-    μ-loop
-    mul-least
-    sub-least
-    least-requires
-    add-end
-    loop-holds
-    add-byte-at
-    byte-at-requires
-    slice-write-bytes
-    add-to
-    around-requires
-    loop-less
-    loop-again
-    same-length
-    returns)
+    Inv-loop μ-loop mul-least sub-least least-requires add-end loop-holds add-byte-at byte-at-requires slice-write-bytes add-to around-requires
+    loop-less loop-again same-length returns)

@@ -51,16 +51,4 @@ pub load-cells-spec : {M : Type 1} → statement M
 load-cells-spec =
     tie.close
     (tie.spec
-    Inv-loop
-    μ-loop
-    least-requires
-    loop-holds
-    mul-word-at
-    word-at-requires
-    mul-cells
-    slice-write-cells
-    add-k
-    loop-less
-    loop-again
-    same-length
-    returns)
+    Inv-loop μ-loop least-requires loop-holds mul-word-at word-at-requires mul-cells slice-write-cells add-k loop-less loop-again same-length returns)

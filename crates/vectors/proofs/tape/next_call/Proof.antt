@@ -53,17 +53,5 @@ pub next-call-spec : {M : Type 1} → statement M
 next-call-spec =
     tie.close
     (tie.spec
-    Inv-loop
-    μ-loop
-    step-at-requires
-    loop-holds
-    forward-requires
-    lay-requires
-    forward-requires-2
-    step-at-requires-2
-    loop-less
-    loop-again
-    forward-requires-3
-    forward-requires-4
-    same-length
-    returns)
+    Inv-loop μ-loop step-at-requires loop-holds forward-requires lay-requires forward-requires-2 step-at-requires-2 loop-less loop-again
+    forward-requires-3 forward-requires-4 same-length returns)

@@ -38,16 +38,4 @@ returns : tie.Need-returns Inv-loop μ-loop
 returns c = tt
 
 pub patterns-spec : {M : Type 1} → statement M
-patterns-spec =
-    tie.close
-    (tie.spec
-    Inv-loop
-    μ-loop
-    loop-holds
-    mul-word-at
-    word-at-requires
-    pattern-requires
-    add-k
-    loop-less
-    loop-again
-    returns)
+patterns-spec = tie.close (tie.spec Inv-loop μ-loop loop-holds mul-word-at word-at-requires pattern-requires add-k loop-less loop-again returns)
