@@ -21,29 +21,14 @@ returns c = tt
 within-requires : tie.Need-within-requires Inv-loop μ-loop
 within-requires c κs = tt
 
-loop-holds : tie.Need-loop-holds Inv-loop μ-loop
-loop-holds c = search needs
-
 slice-aggregate-field : tie.Need-slice-aggregate-field Inv-loop μ-loop
 slice-aggregate-field c = refl
-
-shared-slice-read-wide : tie.Need-shared-slice-read-wide Inv-loop μ-loop
-shared-slice-read-wide c = search needs
 
 wide-requires : tie.Need-wide-requires Inv-loop μ-loop
 wide-requires c κs = tt
 
 field-requires : tie.Need-field-requires Inv-loop μ-loop
 field-requires c κs = tt
-
-add-k : tie.Need-add-k Inv-loop μ-loop
-add-k c = search needs
-
-loop-less : tie.Need-loop-less Inv-loop μ-loop
-loop-less c = search needs
-
-loop-again : tie.Need-loop-again Inv-loop μ-loop
-loop-again c = search needs
 
 end-requires : tie.Need-end-requires Inv-loop μ-loop
 end-requires c κs = tt
@@ -55,5 +40,5 @@ pub numbers-spec : {M : Type 1} → statement M
 numbers-spec =
     tie.close
     (tie.spec
-    Inv-loop μ-loop numbers-of-requires returns within-requires loop-holds slice-aggregate-field shared-slice-read-wide wide-requires field-requires
-    add-k loop-less loop-again end-requires returns-2)
+    Inv-loop μ-loop numbers-of-requires returns within-requires (λ c. search needs) slice-aggregate-field (λ c. search needs) wide-requires
+    field-requires (λ c. search needs) (λ c. search needs) (λ c. search needs) end-requires returns-2)

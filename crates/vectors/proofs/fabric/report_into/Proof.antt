@@ -15,11 +15,8 @@ written-requires c κs = tt
 numbers-requires : tie.Need-numbers-requires
 numbers-requires c κs = tt
 
-same-length : tie.Need-same-length
-same-length c = search needs
-
 returns : tie.Need-returns
 returns c = tt
 
 pub report-into-spec : {M : Type 1} → statement M
-report-into-spec = tie.close (tie.spec blank-requires grating-report-requires written-requires numbers-requires same-length returns)
+report-into-spec = tie.close (tie.spec blank-requires grating-report-requires written-requires numbers-requires (λ c. search needs) returns)

@@ -10,9 +10,6 @@ numbers-of-requires c κs = tt
 within-requires : tie.Need-within-requires
 within-requires c κs = tt
 
-mul-within : tie.Need-mul-within
-mul-within c = search needs
-
 within-requires-2 : tie.Need-within-requires-2
 within-requires-2 c κs = tt
 
@@ -21,9 +18,6 @@ slice-aggregate-text c = refl
 
 text-requires : tie.Need-text-requires
 text-requires c κs = tt
-
-slice-aggregate-report : tie.Need-slice-aggregate-report
-slice-aggregate-report c = search needs
 
 report-requires : tie.Need-report-requires
 report-requires c κs = tt
@@ -35,4 +29,5 @@ pub report-written-spec : {M : Type 1} → statement M
 report-written-spec =
     tie.close
     (tie.spec
-    numbers-of-requires within-requires mul-within within-requires-2 slice-aggregate-text text-requires slice-aggregate-report report-requires returns)
+    numbers-of-requires within-requires (λ c. search needs) within-requires-2 slice-aggregate-text text-requires (λ c. search needs) report-requires
+    returns)

@@ -16,26 +16,11 @@ abbrev μ-loop : tie.MeasureT-loop
 loop-holds : tie.Need-loop-holds Inv-loop μ-loop
 loop-holds c = (omega arith, mul-div-le _ 4)
 
-mul-word-at : tie.Need-mul-word-at Inv-loop μ-loop
-mul-word-at c = search needs
-
-word-at-requires : tie.Need-word-at-requires Inv-loop μ-loop
-word-at-requires c κs = search needs
-
 pattern-requires : tie.Need-pattern-requires Inv-loop μ-loop
 pattern-requires c κs = tt
-
-add-k : tie.Need-add-k Inv-loop μ-loop
-add-k c = search needs
-
-loop-less : tie.Need-loop-less Inv-loop μ-loop
-loop-less c = search needs
-
-loop-again : tie.Need-loop-again Inv-loop μ-loop
-loop-again c = search needs
 
 returns : tie.Need-returns Inv-loop μ-loop
 returns c = tt
 
 pub patterns-spec : {M : Type 1} → statement M
-patterns-spec = tie.close (tie.spec Inv-loop μ-loop loop-holds mul-word-at word-at-requires pattern-requires add-k loop-less loop-again returns)
+patterns-spec = tie.close (tie.spec Inv-loop μ-loop loop-holds (λ c. search needs) (λ c κs. search needs) pattern-requires (λ c. search needs) (λ c. search needs) (λ c. search needs) returns)
