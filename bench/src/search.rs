@@ -52,12 +52,14 @@ fn put(plan: &mut [u8], at: usize, hold: u32, n: usize, outputs: &[u8; MOST_PORT
 /// Fills the cells up to T and peels them; each hold is multiplied.
 fn peel(n: usize, cells: &[u32], longest: u32, unit: u32, plan: &mut [u8]) -> usize {
     let mut search = Search::new(n, cells, longest);
-    let (mut records, mut kept, mut left) = (0, 0, longest);
+    let (mut records, mut left) = (0, longest);
+    let (mut waiting, mut held): (Label, Label) = (!0 >> (Label::BITS as usize - n), 0);
     while left > 0 {
-        search.next_setting(kept);
+        search.next_setting(held, waiting);
         let hold = search.smallest();
         put(plan, records, hold * unit, n, &search.out);
-        kept = search.take_off(hold);
+        waiting = search.take_off(hold);
+        held = search.release(waiting);
         left -= hold;
         records += 1;
     }
@@ -104,52 +106,95 @@ impl Search {
         (0..self.n).map(|i| self.cells[i * self.n + usize::from(self.out[i])]).min().unwrap_or(0)
     }
 
-    /// Answers the first input whose pair is empty now.
-    fn take_off(&mut self, hold: u32) -> usize {
-        let mut kept = self.n;
-        for i in (0..self.n).rev() {
+    /// Answers the inputs whose pairs are empty now.
+    fn take_off(&mut self, hold: u32) -> Label {
+        let mut emptied = 0;
+        for i in 0..self.n {
             let j = usize::from(self.out[i]);
             let cell = &mut self.cells[i * self.n + j];
             *cell -= hold;
             if *cell == 0 {
                 self.rows[i] &= !(1 << j);
-                self.by[j] = 0;
-                kept = i;
+                emptied |= 1 << i;
             }
         }
-        kept
+        emptied
     }
 
-    fn next_setting(&mut self, kept: usize) {
-        let mut firm = kept;
-        let mut held = (0..self.n).fold(!0, |held, j| held & !(Label::from(self.by[j] == 0) << j));
+    /// Answers every output but those that are given up.
+    fn release(&mut self, mut inputs: Label) -> Label {
+        let mut held = !0;
+        while inputs != 0 {
+            let output = self.out[inputs.trailing_zeros() as usize];
+            self.by[usize::from(output)] = 0;
+            held &= !(1 << output);
+            inputs &= inputs - 1;
+        }
+        held
+    }
+
+    fn next_setting(&mut self, mut held: Label, mut waiting: Label) {
+        let before = self.out;
+        let last = (Label::BITS - waiting.leading_zeros()) as usize;
+        let mut firm = waiting.trailing_zeros() as usize;
         loop {
             let fixed = self.out[..firm].iter().fold(0, |fixed, &j| fixed | 1 << j);
-            match self.complete(fixed, &mut held, kept) {
-                Ok(()) => return self.settle_from(fixed, firm),
-                Err(seen) => firm = (0..firm).rev().find(|&i| seen >> self.out[i] & 1 == 1).unwrap_or(0),
+            match self.complete(fixed, &mut held, &mut waiting) {
+                Ok(()) => return self.settle_from(fixed, firm, &before, last),
+                Err(met) => firm = self.give_way(held, fixed, firm, met),
             }
         }
     }
 
-    /// The error is what the input that is stuck has tried.
-    fn complete(&mut self, fixed: Label, held: &mut Label, from: usize) -> Result<(), Label> {
-        for i in from..self.n {
-            let told = self.out[i];
-            if told != IDLE && usize::from(self.by[usize::from(told)]) == i + 1 {
-                continue;
-            }
-            let (output, spent) = self.ask_inputs(*held, fixed, self.rows[i])?;
+    /// The error is what the input may take that is stuck.
+    fn complete(&mut self, fixed: Label, held: &mut Label, waiting: &mut Label) -> Result<(), Label> {
+        while *waiting != 0 {
+            let i = waiting.trailing_zeros() as usize;
+            let (output, spent) = self.ask_inputs(*held, fixed, self.rows[i]).map_err(|_| self.rows[i])?;
             self.join(i, output);
             *held |= 1 << spent;
+            *waiting &= *waiting - 1;
         }
         Ok(())
     }
 
-    fn settle_from(&mut self, fixed: Label, from: usize) {
-        let (mut fixed, mut dead, mut alone) = (fixed, fixed, true);
+    /// As many inputs in front as leave a way from these outputs to one that is free.
+    fn give_way(&self, held: Label, fixed: Label, from: usize, mut met: Label) -> usize {
+        let mut firm = from - 1;
+        let mut seen = fixed & !(1 << self.out[firm]);
+        loop {
+            let wave = met & !seen;
+            if wave != 0 {
+                let further = self.leads_to(wave);
+                if further & !held != 0 {
+                    return firm;
+                }
+                seen |= wave;
+                met |= further;
+            } else if firm == 0 {
+                return firm;
+            } else {
+                firm -= 1;
+                seen &= !(1 << self.out[firm]);
+            }
+        }
+    }
+
+    /// Where none is left that waited and those before have the outputs of before among them, the
+    /// others have theirs of before.
+    fn settle_from(&mut self, fixed: Label, from: usize, before: &[u8; MOST_PORTS], last: usize) {
+        let (mut fixed, mut dead, mut alone, mut was) = (fixed, fixed, true, fixed);
         for i in from..self.n {
+            if last <= i && fixed == was {
+                for (k, &output) in before.iter().enumerate().take(self.n).skip(i) {
+                    self.join(k, usize::from(output));
+                }
+                return;
+            }
             (fixed, dead, alone) = self.settle(fixed, dead, alone, i);
+            if before[i] != IDLE {
+                was |= 1 << before[i];
+            }
         }
     }
 
@@ -192,13 +237,19 @@ impl Search {
     }
 
     fn ask_outputs(&mut self, held: Label, tried: Label, wave: Label) -> Result<(usize, usize), Label> {
-        let (mut rest, mut further) = (wave, 0);
-        while rest != 0 {
-            further |= self.rows[usize::from(self.by[rest.trailing_zeros() as usize]) - 1];
-            rest &= rest - 1;
-        }
+        let further = self.leads_to(wave);
         let (wanted, spent) = self.ask_inputs(held, tried | wave, further)?;
         Ok((self.hand_on(wave, wanted), spent))
+    }
+
+    /// What the holders of these outputs may take.
+    fn leads_to(&self, mut wave: Label) -> Label {
+        let mut further = 0;
+        while wave != 0 {
+            further |= self.rows[usize::from(self.by[wave.trailing_zeros() as usize]) - 1];
+            wave &= wave - 1;
+        }
+        further
     }
 
     /// The holder of one of these outputs takes the wanted one; answers the output it gives up.

@@ -1,5 +1,6 @@
 -- The labels of the rows: marked cell by cell, and after a cell falls only its own row's label can change.
-use mathlib.Core.Path.{_≡_, sym, ap, subst, _∙_}
+use mathlib.Core.Path.{_≡_, refl, sym, ap, subst, _∙_}
+use mathlib.Core.Bool.{true, false}
 use mathlib.Core.Logic.{_≢_, _⊎_, inl, inr}
 use mathlib.Core.List.{List}
 use Prim.Native.Nat.{ℕ, _+_, _-_, _*_, _<_, _≤_}
@@ -7,14 +8,14 @@ use native.Mathlib.Decide.{ℕ-discrete}
 use native.Mathlib.Omega.{arith}
 use lib.Dec.{eqb}
 use lib.ListN.{length, getD, set}
-use borrow.Author.Tests.{eq-eqb, ne-eqb}
+use borrow.Author.Tests.{eq-eqb, ne-eqb, eqb-true, eqb-false}
 use lib.Seq.{getD-set-same, getD-set-other}
 use Rattle.switch.specs.Demand.{cell}
 use Rattle.switch.proofs.Demand.{index-inj}
 use Rattle.sets.specs.Label.{In, Marked, Cleared, ClearedIf}
 use Rattle.labels.specs.Rows.{rowOf, RowPut}
-use Rattle.board.specs.Level.{Sized}
-use Rattle.board.specs.Labelled.{RowOf, Labelled, TakePre, TakePost}
+use Rattle.board.specs.Level.{Sized, Uses, outOf}
+use Rattle.board.specs.Labelled.{RowOf, Labelled, TakePre, TakePost, Emptied}
 use Rattle.board.proofs.Cells.{index-in}
 
 -- ---- one label, marked cell by cell
@@ -161,3 +162,62 @@ taken N w lows highs i j hold p q e l r lows' highs' f c put = record {
   taken = ap (λ (x : ℕ). set w x (getD w x 0 - hold)) e;
   labels = rw e (labels-taken N w lows highs i j (getD w (i * N + j) 0 - hold) (p .sized) (p .input) (p .output) (omega arith) (p .labels) l r lows' highs' f (rw e at c) put);
 }
+
+-- the same where the label is looked at only if nothing is left
+module _ (N : ℕ) (w lows highs : List ℕ) (i j hold : ℕ) (p : TakePre N w lows highs i j hold) (q : ℕ) (e : q ≡ i * N + j) where
+  left-is : getD w q 0 - hold ≡ cell N w i j - hold
+  unfolding cell
+  left-is = ap (λ (x : ℕ). getD w x 0 - hold) e
+
+  pub taken-some : getD w q 0 - hold ≢ 0 → TakePost N w i j hold (set w q (getD w q 0 - hold)) lows highs × (false ≡ eqb (cell N w i j - hold) 0)
+  taken-some f = (
+    taken N w lows highs i j hold p q e (rowOf lows highs i) (rowOf lows highs i) lows highs refl (record { cleared = λ b. absurd (f (eqb-true _ _ b)); same = λ _. refl })
+        (record { low = refl; high = refl; here = refl; other = λ k _. refl }),
+    sym (ne-eqb _ _ (λ z. f (left-is ∙ z))),
+  )
+
+  pub taken-all : getD w q 0 - hold ≡ 0 → (l r : ℕ) (lows' highs' : List ℕ) → l ≡ rowOf lows highs i → Cleared l j r → RowPut i r lows highs lows' highs'
+      → TakePost N w i j hold (set w q (getD w q 0 - hold)) lows' highs' × (true ≡ eqb (cell N w i j - hold) 0)
+  taken-all z l r lows' highs' f c put = (
+    taken N w lows highs i j hold p q e l r lows' highs' f (record { cleared = λ _. c; same = λ b. absurd (eqb-false _ _ b z) }) put,
+    sym (eq-eqb _ _ (sym left-is ∙ z)),
+  )
+
+-- ---- the inputs whose own cell is empty, as the setting is taken off input by input
+
+pub emptied-start : (N : ℕ) (w out : List ℕ) (l : ℕ) → ((k : ℕ) → In l k → ⊥) → Emptied N w out l 0
+emptied-start N w out l e = record { few = λ i x. absurd (e i x); none = λ i x. absurd (e i x); some = λ i h _. absurd (omega arith) }
+
+module _ (N : ℕ) (w out : List ℕ) (i v l : ℕ) (u : Uses N w out) (li : i < N) (p : Emptied N w out l i) where
+  abbrev less : List ℕ
+  less = set w (i * N + outOf out i) v
+
+  own : cell N less i (outOf out i) ≡ v
+  unfolding cell
+  own = getD-set-same w (i * N + outOf out i) v 0 (index-in N i (outOf out i) w (u .sized) li (u .inside i li) .0)
+
+  before : (k : ℕ) → k < i → cell N less k (outOf out k) ≡ cell N w k (outOf out k)
+  unfolding cell
+  before k h = getD-set-other w (i * N + outOf out i) (k * N + outOf out k) v 0 (λ e. let z = index-inj N k (outOf out k) i (outOf out i) (u .inside k (omega arith)) (u .inside i li) e .0 in omega arith)
+
+  pub emptied-not : 0 < v → Emptied N less out l (i + 1)
+  emptied-not s = record { few = λ k x. omega (arith, p .few k x); none = λ k x. before k (p .few k x) ∙ p .none k x; some = λ k h f. go k h f (ℕ-discrete k i) }
+    where
+      go : (k : ℕ) → k < i + 1 → (In l k → ⊥) → Dec (k ≡ i) → 0 < cell N less k (outOf out k)
+      go k h f (yes e) = rw (e, own) s
+      go k h f (no e) = rw (before k (omega arith)) (p .some k (omega arith) f)
+
+  pub emptied-more : (r : ℕ) → v ≡ 0 → Marked l i r → Emptied N less out r (i + 1)
+  emptied-more r z m = record { few = λ k x. few k (m .only k x); none = λ k x. none k (m .only k x); some = λ k h f. go k h f (ℕ-discrete k i) }
+    where
+      few : (k : ℕ) → In l k ⊎ (k ≡ i) → k < i + 1
+      few k (inl x) = omega (arith, p .few k x)
+      few k (inr e) = omega arith
+
+      none : (k : ℕ) → In l k ⊎ (k ≡ i) → cell N less k (outOf out k) ≡ 0
+      none k (inl x) = before k (p .few k x) ∙ p .none k x
+      none k (inr e) = rw e (own ∙ z)
+
+      go : (k : ℕ) → k < i + 1 → (In r k → ⊥) → Dec (k ≡ i) → 0 < cell N less k (outOf out k)
+      go k h f (yes e) = absurd (f (subst (In r) (sym e) (m .put)))
+      go k h f (no e) = rw (before k (omega arith)) (p .some k (omega arith) (λ x. f (m .more k x)))

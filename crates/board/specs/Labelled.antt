@@ -43,3 +43,9 @@ pub record SubtractPre (N : ℕ) (w lows highs out : List ℕ) (hold : ℕ) : Ty
 pub record SubtractPost (N : ℕ) (w out : List ℕ) (hold : ℕ) (w' lows' highs' : List ℕ) : Type 0 where
   pub taken : w' ≡ peelTo N hold (outOf out) w N
   pub labels : Labelled N w' lows' highs'
+
+-- of the inputs below k, those are in l whose own cell has nothing left, and no input from k on is
+pub record Emptied (N : ℕ) (w out : List ℕ) (l k : ℕ) : Type 0 where
+  pub few : (i : ℕ) → In l i → i < k
+  pub none : (i : ℕ) → In l i → cell N w i (outOf out i) ≡ 0
+  pub some : (i : ℕ) → i < k → (In l i → ⊥) → 0 < cell N w i (outOf out i)

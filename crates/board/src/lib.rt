@@ -4,6 +4,7 @@
 // they are written, is left to the crates above.
 use demand::cell_at;
 use demand::line_sum;
+use labels::Inputs;
 use labels::Outputs;
 use labels::put_row;
 use labels::row_of;
@@ -15,11 +16,12 @@ ghost use mathlib.Core.Path.{_≡_};
 ghost use Prim.Native.Nat.{_+_, _-_, _*_, _<_, _≤_};
 ghost use lib.ListN.{length, set};
 ghost use Rattle.switch.specs.Demand.{cell};
-ghost use Rattle.labels.specs.Ports.{outputsOf};
+ghost use lib.Dec.{eqb};
+ghost use Rattle.labels.specs.Ports.{outputsOf, inputsOf};
 ghost use Rattle.rules.specs.Fill.{fill};
 ghost use Rattle.rules.specs.Exact.{least};
 ghost use Rattle.board.specs.Level.{Sized, Within, Lacking, both, lessBoth, FillPre, Uses, outOf};
-ghost use Rattle.board.specs.Labelled.{RowOf, Labelled, TakePre, TakePost, SubtractPre, SubtractPost};
+ghost use Rattle.board.specs.Labelled.{RowOf, Labelled, TakePre, TakePost, SubtractPre, SubtractPost, Emptied};
 
 // The lines of the largest switch.
 const LINES: usize = 256;
@@ -117,7 +119,7 @@ fn used(n: usize, out: &[u8], i: InputPort) -> usize
     cell_at(n, i, OutputPort(out[k] as usize))
 }
 
-// The cells that a setting uses are less by the hold.
+// The cells that a setting uses are less by the hold. The answer has every input whose cell that emptied.
 pub fn subtract(
     cells: &mut [u32],
     n: usize,
@@ -125,14 +127,43 @@ pub fn subtract(
     highs: &mut [u64],
     out: &[u8],
     hold: u32,
-)
+) -> Inputs
     requires { ⌜ SubtractPre n (now cells) (now lows) (now highs) (now out) hold ⌝ }
-    ensures { λ _. ⌜ SubtractPost n (now (cells .entry)) (now (out .entry)) hold (now (cells .exit)) (now (lows .exit)) (now (highs .exit)) ⌝ }
+    ensures { λ r. ⌜ SubtractPost n (now (cells .entry)) (now (out .entry)) hold (now (cells .exit)) (now (lows .exit)) (now (highs .exit)) × Emptied n (now (cells .exit)) (now (out .entry)) (inputsOf r) n ⌝ }
 {
+    let mut emptied = Inputs::none();
     for i in 0..n {
         let j = out[i] as usize;
-        take(cells, n, lows, highs, InputPort(i), OutputPort(j), hold);
+        if empties(cells, n, lows, highs, InputPort(i), OutputPort(j), hold) {
+            emptied = emptied.mark(InputPort(i));
+        }
     }
+    emptied
+}
+
+// The cell of a pair is less by the hold: is nothing left? Few cells are emptied by a hold, so that the label is touched only where
+// one is.
+fn empties(
+    cells: &mut [u32],
+    n: usize,
+    lows: &mut [u64],
+    highs: &mut [u64],
+    i: InputPort,
+    j: OutputPort,
+    hold: u32,
+) -> bool
+    requires { ⌜ TakePre n (now cells) (now lows) (now highs) (i .0) (j .0) hold ⌝ }
+    ensures { λ r. ⌜ TakePost n (now (cells .entry)) (i .0) (j .0) hold (now (cells .exit)) (now (lows .exit)) (now (highs .exit)) × (r ≡ eqb (cell n (now (cells .entry)) (i .0) (j .0) - hold) 0) ⌝ }
+{
+    let at = cell_at(n, i, j);
+    let left = cells[at] - hold;
+    cells[at] = left;
+    if left != 0 {
+        return false;
+    }
+    let row = row_of(lows, highs, i);
+    put_row(lows, highs, i, row.without(j));
+    true
 }
 
 // The cell of a pair is less by the hold, and its output leaves the label where nothing is left. Nobody can foresee whether that is so,

@@ -5,6 +5,7 @@
 use demand::Checked;
 use demand::check_demand;
 use demand::empty_slots;
+use peel::nobody;
 use peel::start;
 use peel::take_off;
 use records::HEAD;
@@ -201,12 +202,12 @@ fn peel_off(
     start(work, n, job.longest, lows, highs);
     let width = job.width;
     let mut records: usize = 0;
-    let mut kept: usize = 0;
+    let mut seats = nobody(n);
     let mut remains = job.longest;
     let mut next = job.at;
     while 0 < remains {
-        let s = take_off(work, n, lows, highs, by, out, kept);
-        kept = s.kept;
+        let s = take_off(work, n, lows, highs, by, out, seats);
+        seats = s.seats;
         remains -= s.hold as u64;
         let hold = (s.hold * job.unit) as u16;
         next = put_if(job.writes, plan, next, job.edition, hold, n, &out[..width]);

@@ -145,6 +145,13 @@ impl Outputs {
 }
 
 impl Inputs {
+    // No input.
+    pub fn none() -> Inputs
+        ensures { λ r. ⌜ ((k : ℕ) → In (inputsOf r) k → ⊥) ⌝ }
+    {
+        Inputs(Wide::none())
+    }
+
     // The first n inputs.
     pub fn first(n: usize) -> Inputs
         requires { ⌜ n ≤ 128 ⌝ }
@@ -155,6 +162,15 @@ impl Inputs {
             return Inputs(every);
         }
         Inputs(every.below(n))
+    }
+
+    // The set and input i besides.
+    pub fn mark(self, i: InputPort) -> Inputs
+        requires { ⌜ i .0 < 128 ⌝ }
+        ensures { λ r. ⌜ Marked (inputsOf self) (i .0) (inputsOf r) ⌝ }
+    {
+        let s = self.0;
+        Inputs(s.mark(i.0))
     }
 
     // The set without input i.

@@ -1,7 +1,8 @@
 pub mod Closed
 pub mod Completing
-pub mod Giving
+pub mod Waiting
 pub mod Settling
+pub mod Behind
 pub mod Firm
 pub mod Kept
 pub mod Unique

@@ -7,15 +7,15 @@ use native.Mathlib.Decide.{decLt}
 use native.Mathlib.Omega.{arith}
 use lib.ListN.{length, getD, set}
 use lib.Seq.{getD-set-same, set-getD}
-use Rattle.sets.specs.Label.{In, Sub, Marked, Cleared, Below, absent}
+use Rattle.sets.specs.Label.{In, Sub, Marked, Cleared, But, Below, absent}
 use Rattle.sets.proofs.Digits.{same-or, absent-less}
 use Rattle.rules.specs.First.{Agree}
 use Rattle.search.specs.declared.Asked.the-variants.{Freed, Stuck}
 use Rattle.search.specs.declared.Given.{Given}
 use Rattle.search.specs.declared.Tried.{Tried}
 use Rattle.search.specs.Tables.{triedOf, Held, Holds, joined, Matching}
-use Rattle.search.specs.Search.{Stays, Closed, AskPre, Gained, Moved, Unmoved}
-use Rattle.matching.specs.Chosen.{Best, Settled, SettledPost, Dead, Lowering, Lowered}
+use Rattle.search.specs.Search.{Stays, Closed, AskPre, Wave, Gained, Moved, Unmoved}
+use Rattle.matching.specs.Chosen.{Best, Settled, SettledPost, SettledAll, Dead, Lowering, Lowered}
 use Rattle.search.proofs.Tables.{held-in, one-holder, freed-back, freed-other, set-back, place, freed-good, freed-idle, taken-good}
 use Rattle.search.proofs.Search.{closed-through, take-gains}
 use Rattle.matching.proofs.Closed.{not-there}
@@ -46,6 +46,17 @@ module _ (w n : ℕ) (E : ℕ → ℕ → Type 0) (by out : List ℕ) (dead lowe
       spare : (k : ℕ) → k < w → (In held k → ⊥) → (k ≡ own) ⊎ (k ≡ own → ⊥) → (getD freed k 0 ≡ 0) × (In dead k → ⊥)
       spare k l h (inl e) = (ap (λ (q : ℕ). getD freed q 0) e ∙ free, λ x. p .loose (subst (In dead) e x))
       spare k l h (inr d) = absurd (h (c .kept k (f k l) d))
+
+  -- they are a wave: none is dead, and all are held but its own
+  pub lower-wave : (every held : ℕ) → ((k : ℕ) → k < w → In every k) → Cleared every own held → Wave w held dead lower
+  lower-wave every held f c = record {
+    some = let s = p .some in (s .0, small (s .0) (s .1), s .1);
+    new = p .new;
+    known = λ k x. c .kept k (f k (small k x)) (λ e. let l = p .below k x in omega arith);
+  }
+    where
+      small : (k : ℕ) → In lower k → k < w
+      small k x = omega (arith, p .below k x, own-place)
 
   module _ (given : List ℕ) (gi : given ≡ freed) where
     pub given-up : Matching w n E given out
@@ -109,12 +120,15 @@ module _ (w n : ℕ) (E : ℕ → ℕ → Type 0) (by out : List ℕ) (fixed i o
 
   module _ (dead : ℕ) (d : Dead E by fixed dead) (loose : In dead own → ⊥) where
     -- it may ask for a lower one
-    pub may-lower : (some : ℕ) → ((k : ℕ) → In some k → E i k) → Lowering w n E by out dead some own i
-    may-lower some may = record {
+    pub may-lower : (some j : ℕ) → In some j → ((k : ℕ) → In some k → E i k) → ((k : ℕ) → In some k → k < own) → ((k : ℕ) → In some k → In dead k → ⊥) → Lowering w n E by out dead some own i
+    may-lower some j has may below new = record {
       good = s .good;
       here = here;
       held = own-held;
       edge = may;
+      below = below;
+      some = (j, has);
+      new = new;
       loose = loose;
       all = λ k x. ⊎-elim (λ y. let h = fixed-held k y in (h .0, h .2)) (λ (y : Stays E by dead k). (y .0, y .1)) (d .closed k x);
     }
@@ -220,6 +234,9 @@ settled-start w n E by out f i s = record { settled = s; beyond = λ m l. refl }
 pub settled-more : (w n : ℕ) (E : ℕ → ℕ → Type 0) (out₀ by out by' out' : List ℕ) (f i f' i' : ℕ) → SettledPost w n E out₀ by out f i → SettledPost w n E out by' out' f' i' → SettledPost w n E out₀ by' out' f' i'
 settled-more w n E out₀ by out by' out' f i f' i' a b = record { settled = b .settled; beyond = λ m l. b .beyond m l ∙ a .beyond m l }
 
+pub settled-all : (w n : ℕ) (E : ℕ → ℕ → Type 0) (out₀ by out : List ℕ) (f : ℕ) → SettledPost w n E out₀ by out f n → SettledAll w n E out₀ by out
+settled-all w n E out₀ by out f s = record { good = s .settled .good; all = s .settled .all; best = s .settled .best; beyond = s .beyond }
+
 -- ---- the turns of its loop
 
 -- what holds while input i asks for lower outputs: the inputs before it are settled, and its own is not dead
@@ -240,8 +257,9 @@ module _ (w n : ℕ) (E : ℕ → ℕ → Type 0) (out₀ by out : List ℕ) (fi
   lower-own = own-in w n E by out fixed i own (l .post .settled) here (l .is)
 
   module _ (row lower : ℕ) (b : Below row own lower) where
-    pub lower-may : (some : ℕ) → Sub some lower → ((k : ℕ) → In row k → E i k) → Lowering w n E by out dead some own i
-    lower-may some sub may = may-lower w n E by out fixed i own (l .post .settled) here (l .is) dead (l .dead-is) (l .loose) some (λ k x. may k (b .less k (sub k x)))
+    pub lower-may : (some fresh j : ℕ) → But lower dead fresh → Sub some fresh → In some j → ((k : ℕ) → In row k → E i k) → Lowering w n E by out dead some own i
+    lower-may some fresh j f sub has may =
+        may-lower w n E by out fixed i own (l .post .settled) here (l .is) dead (l .dead-is) (l .loose) some j has (λ k x. may k (b .less k (f .less k (sub k x)))) (λ k x. b .small k (f .less k (sub k x))) (λ k x. f .gone k (sub k x))
 
     -- it has a lower one, and what was dead is
     pub lower-again : (some : ℕ) (by' out' : List ℕ) (g : Given) (u : Tried) → Sub some lower → Lowered w n E by out dead some own i by' out' (Freed g u) → Lower w n E out₀ by' out' fixed dead (g .output .0) i × (g .output .0 < own)

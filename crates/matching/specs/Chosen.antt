@@ -4,13 +4,17 @@ use mathlib.Core.Bool.{Bool, true, false}
 use mathlib.Core.Logic.{_⊎_}
 use mathlib.Core.List.{List}
 use Prim.Native.Nat.{ℕ, _<_, _≤_}
-use lib.ListN.{set}
+use lib.ListN.{length, getD, set}
 use Rattle.sets.specs.Label.{In, Sub}
+use Rattle.labels.specs.Ports.{outputsOf}
+use Rattle.switch.specs.Plan.{Full}
 use Rattle.rules.specs.First.{Fits, Agree, First}
 use Rattle.search.specs.Tables.{triedOf, Held, Holds, joined, Matching}
 use Rattle.search.specs.declared.Asked.{Asked}
 use Rattle.search.specs.declared.Asked.the-variants.{Freed, Stuck}
 use Rattle.search.specs.Search.{Around, Closed, Free, Gained, Unmoved}
+use Rattle.matching.specs.declared.Placed.{Placed}
+use Rattle.matching.specs.declared.Placed.the-variants.{Taken, Refused}
 
 -- the outputs of the inputs below i, and no others, are fixed
 pub record Fixed (out : List ℕ) (i fixed : ℕ) : Type 0 where
@@ -29,38 +33,37 @@ Keeps by fixed o = (k m : ℕ) → In fixed k → Held by k m → o m ≡ k
 abbrev pub Best : (n : ℕ) (E : ℕ → ℕ → Type 0) (out : List ℕ) (m : ℕ) → Type 0
 Best n E out m = (o : ℕ → ℕ) → Fits n E o → Agree m o (joined out) → joined out m ≤ o m
 
--- what completing may start from: it is known which outputs can be had at once, the fixed ones are held, and so is one by each input below `from`
-pub record CompletePre (w n : ℕ) (E : ℕ → ℕ → Type 0) (by out : List ℕ) (known fixed from : ℕ) : Type 0 where
-  pub free : Free w by known
+-- the inputs of `waiting` hold nothing and every other holds an output; an output that is not among `known` is free
+pub record Seating (w n : ℕ) (E : ℕ → ℕ → Type 0) (by out : List ℕ) (known waiting : ℕ) : Type 0 where
   pub good : Matching w n E by out
+  pub free : Free w by known
+  pub begun : (m : ℕ) → m < n → (In waiting m → ⊥) → Holds by m
+  pub idle : (m : ℕ) → In waiting m → (m < n) × (Holds by m → ⊥)
+
+-- what input i may be seated from: it holds nothing, and the fixed outputs are held
+pub record SeatPre (w n : ℕ) (E : ℕ → ℕ → Type 0) (by out : List ℕ) (known fixed i : ℕ) : Type 0 where
+  pub good : Matching w n E by out
+  pub free : Free w by known
   pub held : AllHeld by fixed
-  pub short : from ≤ n
-  pub begun : (m : ℕ) → m < from → Holds by m
+  pub here : i < n
+  pub idle : Holds by i → ⊥
 
--- the answer to whether input i holds an output
-pub record HoldsPost (by out : List ℕ) (i : ℕ) (r : Bool) : Type 0 where
-  pub held : r ≡ true → Held by (joined out i) i
-  pub idle : r ≡ false → Held by (joined out i) i → ⊥
+-- no full setting keeps the fixed outputs
+abbrev pub NoneKeeps : (n : ℕ) (E : ℕ → ℕ → Type 0) (by : List ℕ) (fixed : ℕ) → Type 0
+NoneKeeps n E by fixed = (o : ℕ → ℕ) → Fits n E o → Keeps by fixed o → ⊥
 
--- what a stuck input met: all that it may take, and all that the holders may take of outputs that it tried beyond the fixed ones
-pub record Met (E : ℕ → ℕ → Type 0) (by : List ℕ) (i fixed seen met : ℕ) : Type 0 where
-  pub own : (k : ℕ) → E i k → In met k
-  pub asked : (j m k : ℕ) → In seen j → (In fixed j → ⊥) → Held by j m → E m k → In met k
-  pub only : (k : ℕ) → In met k → E i k ⊎ ((j m : ℕ) × In seen j × (In fixed j → ⊥) × Held by j m × E m k)
+-- it holds an output now; or nothing has moved, and no full setting keeps what is fixed
+abbrev pub SeatPost : ℕ → ℕ → (ℕ → ℕ → Type 0) → List ℕ → List ℕ → ℕ → ℕ → List ℕ → List ℕ → Placed → Type 0
+SeatPost w n E by out fixed i by' out' (Taken known) = Matching w n E by' out' × Free w by' (outputsOf known) × Gained n by out fixed i by' out'
+SeatPost w n E by out fixed i by' out' (Refused met) = (by' ≡ by) × (out' ≡ out) × NoneKeeps n E by fixed
 
--- of the inputs below `from`, r is the last whose output was met, or the first of all
-pub record Yields (out : List ℕ) (from met r : ℕ) : Type 0 where
-  pub less : r < from
-  pub clear : (m : ℕ) → r < m → m < from → In met (joined out m) → ⊥
-  pub way : In met (joined out r) ⊎ (r ≡ 0)
-
--- every input below `to` holds an output; or no full setting keeps the fixed ones. What was fixed is left alone
-pub record CompletePost (w n : ℕ) (E : ℕ → ℕ → Type 0) (by out : List ℕ) (fixed to : ℕ) (by' out' : List ℕ) (known : ℕ) (full : Bool) : Type 0 where
-  pub free : Free w by' known
-  pub good : Matching w n E by' out'
+-- nobody waits any more; or no full setting keeps what is fixed. What was fixed is left alone
+pub record CompletePost (w n : ℕ) (E : ℕ → ℕ → Type 0) (by out : List ℕ) (fixed waiting : ℕ) (by' out' : List ℕ) (known' waiting' : ℕ) (full : Bool) : Type 0 where
+  pub seating : Seating w n E by' out' known' waiting'
+  pub fewer : Sub waiting' waiting
   pub around : Around n by out fixed by' out'
-  pub all : full ≡ true → (m : ℕ) → m < to → Holds by' m
-  pub none : full ≡ false → (o : ℕ → ℕ) → Fits n E o → Keeps by fixed o → ⊥
+  pub all : full ≡ true → (m : ℕ) → In waiting' m → ⊥
+  pub none : full ≡ false → NoneKeeps n E by fixed
 
 -- every input holds an output; those of the inputs below i are fixed, and each is the best
 pub record Settled (w n : ℕ) (E : ℕ → ℕ → Type 0) (by out : List ℕ) (fixed i : ℕ) : Type 0 where
@@ -74,12 +77,15 @@ pub record Dead (E : ℕ → ℕ → Type 0) (by : List ℕ) (fixed dead : ℕ) 
   pub more : Sub fixed dead
   pub closed : Closed E by fixed dead
 
--- input i may ask for a lower output: it holds `own`, and what is dead is closed without it
+-- input i may ask for these lower outputs: it holds `own`, none of them is dead, and what is dead is closed without it
 pub record Lowering (w n : ℕ) (E : ℕ → ℕ → Type 0) (by out : List ℕ) (dead lower own i : ℕ) : Type 0 where
   pub good : Matching w n E by out
   pub here : i < n
   pub held : Held by own i
   pub edge : (k : ℕ) → In lower k → E i k
+  pub below : (k : ℕ) → In lower k → k < own
+  pub some : (k : ℕ) × In lower k
+  pub new : (k : ℕ) → In lower k → In dead k → ⊥
   pub loose : In dead own → ⊥
   pub all : (k : ℕ) → In dead k → (m : ℕ) × Held by k m
 
@@ -94,17 +100,39 @@ pub record SettledPost (w n : ℕ) (E : ℕ → ℕ → Type 0) (out by' out' : 
   pub beyond : (m : ℕ) → n ≤ m → joined out' m ≡ joined out m
 
 -- every input is settled
-abbrev pub SettledAll : (w n : ℕ) (E : ℕ → ℕ → Type 0) (out by' out' : List ℕ) → Type 0
-SettledAll w n E out by' out' = (fixed : ℕ) × SettledPost w n E out by' out' fixed n
+pub record SettledAll (w n : ℕ) (E : ℕ → ℕ → Type 0) (out by' out' : List ℕ) : Type 0 where
+  pub good : Matching w n E by' out'
+  pub all : (m : ℕ) → m < n → Holds by' m
+  pub best : (m : ℕ) → m < n → Best n E out' m
+  pub beyond : (m : ℕ) → n ≤ m → joined out' m ≡ joined out m
 
--- what the next setting may start from: the inputs below `kept` hold outputs that are the best so far, and there is a full setting
-pub record Ready (w n : ℕ) (E : ℕ → ℕ → Type 0) (by out : List ℕ) (kept : ℕ) : Type 0 where
-  pub good : Matching w n E by out
+-- the setting of before was full, and no full setting of pairs that are allowed now or that it had comes before it
+pub record Former (n : ℕ) (E : ℕ → ℕ → Type 0) (out : List ℕ) : Type 0 where
+  pub full : Full n (joined out)
+  pub best : (o : ℕ → ℕ) → Full n o → ((k : ℕ) → k < n → E k (o k) ⊎ (o k ≡ joined out k)) → (m : ℕ) → m < n → Agree m o (joined out) → joined out m ≤ o m
+
+-- what the inputs from `last` on may go back to: they had these outputs in the setting of before, and may have them still
+pub record Behind (w n : ℕ) (E : ℕ → ℕ → Type 0) (before : List ℕ) (last : ℕ) : Type 0 where
+  pub size : length before ≡ w
+  pub inside : (i j : ℕ) → i < n → E i j → j < n
+  pub former : (m : ℕ) → last ≤ m → m < n → Former n E before
+  pub used : (m : ℕ) → last ≤ m → m < n → E m (joined before m)
+
+-- the inputs from `from` on and below k have their outputs of before again, and nothing else has changed
+pub record Restored (before by out : List ℕ) (from : ℕ) (by' out' : List ℕ) (k : ℕ) : Type 0 where
+  pub holders : length by' ≡ length by
+  pub outputs : length out' ≡ length out
+  pub told : (m : ℕ) → from ≤ m → m < k → joined out' m ≡ joined before m
+  pub kept : (m : ℕ) → (m < from) ⊎ (k ≤ m) → joined out' m ≡ joined out m
+  pub taken : (m : ℕ) → from ≤ m → m < k → Held by' (joined before m) m
+  pub left : (j : ℕ) → ((m : ℕ) → from ≤ m → m < k → joined before m ≡ j → ⊥) → getD by' j 0 ≡ getD by j 0
+
+-- what the next setting may start from: who does not wait holds what it had in the setting of before, and there is a full setting
+pub record Ready (w n : ℕ) (E : ℕ → ℕ → Type 0) (by out : List ℕ) (known waiting : ℕ) : Type 0 where
+  pub seating : Seating w n E by out known waiting
   pub inside : (i j : ℕ) → i < n → E i j → j < n
   pub some : (o : ℕ → ℕ) × Fits n E o
-  pub short : kept ≤ n
-  pub held : (m : ℕ) → m < kept → Held by (joined out m) m
-  pub best : (m : ℕ) → m < kept → Best n E out m
+  pub former : (m : ℕ) → m < n → (In waiting m → ⊥) → Former n E out
 
 -- every input holds an output, by the setting that is first in dictionary order; ports past n are as they were
 pub record Chosen (w n : ℕ) (E : ℕ → ℕ → Type 0) (out by' out' : List ℕ) : Type 0 where

@@ -1,15 +1,16 @@
 // The first setting (§6.7): inputs that hold nothing ask for an output, and from the first on each is settled on the lowest that leaves
 // the others one. The crate takes a label of outputs for each input and the tables of a matching, and promises the full setting that is
-// first in dictionary order. The matching is kept from setting to setting: only inputs that hold nothing ask again, and only those from the
-// first of them on are settled anew where the others can stay. How an output is freed is `search`'s; which pairs are allowed, and what is
-// taken off them, is left to the planners.
+// first in dictionary order. The matching is kept from setting to setting: only inputs that wait ask again, only those from the first of
+// them on are settled anew where the others can stay, and only as far as the setting differs from the one before. How an output is freed is
+// `search`'s; which pairs are allowed, and what is taken off them, is left to the planners.
+use labels::FoundInput;
 use labels::FoundOutput;
+use labels::Inputs;
 use labels::Outputs;
 use labels::row_of;
 use search::Asked;
-use search::FREE;
 use search::Tried;
-use search::ask_inputs;
+use search::ask_outputs;
 use search::join;
 use search::leads_to;
 use search::release;
@@ -20,17 +21,27 @@ ghost use mathlib.Core.Path.{_≡_};
 ghost use mathlib.Core.Logic.{_⊎_};
 ghost use Prim.Native.Nat.{ℕ, _+_, _<_, _≤_};
 ghost use lib.ListN.{length};
-ghost use Rattle.sets.specs.Label.{In, Sub};
-ghost use Rattle.labels.specs.Ports.{outputsOf};
+ghost use mathlib.Core.Bool.{true};
+ghost use Rattle.sets.specs.Label.{In, Sub, Marked};
+ghost use Rattle.labels.specs.Ports.{outputsOf, inputsOf};
+ghost use Rattle.labels.specs.Rows.{rowOf};
+ghost use Rattle.switch.specs.Plan.{Full};
 ghost use Rattle.search.specs.Tables.{triedOf, Allowed, Rows, joined};
-ghost use Rattle.search.specs.Search.{Closed, Free, Ports};
-ghost use Rattle.matching.specs.Chosen.{Fixed, CompletePre, CompletePost, Lowering, Lowered, Dead, SettledPost, SettledAll, Settled, Ready, Chosen, HoldsPost, Met, Yields};
+ghost use Rattle.search.specs.Search.{Ports};
+ghost use Rattle.matching.specs.Chosen.{Fixed, AllHeld, Seating, SeatPre, SeatPost, CompletePost, Lowering, Lowered, Dead, SettledPost, SettledAll, Settled, Behind, Restored, Ready, Chosen};
 
-// Where joining inputs ended: whether all are joined, the outputs that are held, and those that the one that is stuck met.
+// Where seating inputs ended: whether all are seated, the outputs that are held, who waits still, and what the one that was refused may take.
 struct Seats {
     full: bool,
     held: Outputs,
+    waiting: Inputs,
     met: Outputs,
+}
+
+// An input was seated, and these outputs are held now; or it was refused, and these it may take.
+enum Placed {
+    Taken(Outputs),
+    Refused(Outputs),
 }
 
 // The outputs that are fixed, with them those that lead nowhere else, and whether the input before this one was well advised to ask
@@ -41,23 +52,76 @@ struct Prefix {
     alone: bool,
 }
 
-// The first setting in dictionary order. The inputs below `kept` keep their outputs, or as many of them from the front as the
-// others can be joined around.
-pub fn next_setting(lows: &[u64], highs: &[u64], by: &mut [u8], out: &mut [u8], kept: usize)
-    requires { ⌜ Rows 128 (now lows) (now highs) × Ready 128 (length (now lows)) (Allowed (now lows) (now highs)) (now by) (now out) kept ⌝ }
+// The first setting in dictionary order, where `out` has the one before it. Only the inputs that wait are seated anew; those before the
+// first of them keep their outputs, or as many of them from the front as the others can be seated around. `held` has every output but
+// those that can be had at once.
+pub fn next_setting(
+    lows: &[u64],
+    highs: &[u64],
+    by: &mut [u8],
+    out: &mut [u8],
+    held: Outputs,
+    waiting: Inputs,
+)
+    requires { ⌜ Rows 128 (now lows) (now highs) × Ready 128 (length (now lows)) (Allowed (now lows) (now highs)) (now by) (now out) (outputsOf held) (inputsOf waiting) ⌝ }
     ensures { λ _. ⌜ Chosen 128 (length (now (lows .entry))) (Allowed (now (lows .entry)) (now (highs .entry))) (now (out .entry)) (now (by .exit)) (now (out .exit)) ⌝ }
 {
-    let mut firm = kept;
-    let mut held = held_outputs(by, lows.len());
+    let mut before = [0u8; WIDE_PORTS];
+    keep(out, &mut before);
+    let last = past(waiting);
+    let mut firm = first_of(waiting, lows.len());
+    let mut s = Seats {
+        full: false,
+        held: held,
+        waiting: waiting,
+        met: held,
+    };
     loop {
         let fixed = fixed_below(out, firm);
-        let s = complete(lows, highs, by, out, held, fixed, kept);
+        s = complete(lows, highs, by, out, s.held, fixed, s.waiting);
         if s.full {
-            settle_from(lows, highs, by, out, fixed, firm);
+            settle_from(lows, highs, by, out, fixed, firm, &before, last);
             return;
         }
-        held = s.held;
-        firm = give_way(out, firm, s.met);
+        firm = give_way(lows, highs, by, out, s, fixed, firm);
+    }
+}
+
+// Copies the outputs by input.
+fn keep(out: &[u8], before: &mut [u8])
+    requires { ⌜ (length (now out) ≡ 128) × (length (now before) ≡ 128) ⌝ }
+    ensures { λ _. ⌜ now (before .exit) ≡ now (out .entry) ⌝ }
+{
+    for k in 0..out.len() {
+        before[k] = out[k];
+    }
+}
+
+// One past the last of these inputs.
+fn past(waiting: Inputs) -> usize
+    ensures { λ r. ⌜ ((m : ℕ) → In (inputsOf waiting) m → m < r) ⌝ }
+{
+    let mut rest = waiting;
+    let mut last = 0;
+    loop {
+        let f = rest.lowest();
+        let FoundInput::At(i) = f else {
+            return last;
+        };
+        last = i.0 + 1;
+        rest = rest.without_lowest();
+    }
+}
+
+// The first of these inputs, or n.
+fn first_of(waiting: Inputs, n: usize) -> usize
+    requires { ⌜ ((m : ℕ) → In (inputsOf waiting) m → m < n) ⌝ }
+    ensures { λ r. ⌜ (r ≤ n) × ((m : ℕ) → m < r → In (inputsOf waiting) m → ⊥) ⌝ }
+{
+    let f = waiting.lowest();
+    match f {
+        FoundInput::At(i) => i.0,
+        FoundInput::Nothing => n,
     }
 }
 
@@ -73,55 +137,51 @@ fn fixed_below(out: &[u8], kept: usize) -> Tried
     fixed
 }
 
-// As many inputs in front as keep their outputs next: those before the last of them whose output is in the way. With any more of them kept
-// the same input is stuck again.
-fn give_way(out: &[u8], from: usize, met: Outputs) -> usize
-    requires { ⌜ (0 < from) × (from ≤ length (now out)) × ((m : ℕ) → m < from → joined (now out) m < 128) ⌝ }
-    ensures { λ r. ⌜ Yields (now (out .entry)) from (outputsOf met) r ⌝ }
-{
-    let mut firm = from;
-    while 0 < firm {
-        firm -= 1;
-        if met.has(output_of(out, InputPort(firm))) {
-            return firm;
-        }
-    }
-    firm
-}
-
-// What a stuck input met: all that it may take, and all that the holders may take whom it asked in vain.
-fn met_by(
+// As many inputs in front as keep their outputs next. Whoever the refused input leads to is followed with fewer and fewer of them kept,
+// from the last on, until an output that can be had at once is met. That this is so no promise rests on; it saves asking in vain.
+fn give_way(
     lows: &[u64],
     highs: &[u64],
     by: &[u8],
-    i: InputPort,
-    seen: Tried,
+    out: &[u8],
+    s: Seats,
     fixed: Tried,
-) -> Outputs
-    requires { ⌜ Rows 128 (now lows) (now highs) × (i .0 < length (now lows)) × Ports 128 (length (now lows)) (now by) × Closed (Allowed (now lows) (now highs)) (now by) (triedOf fixed) (triedOf seen) ⌝ }
-    ensures { λ r. ⌜ Met (Allowed (now (lows .entry)) (now (highs .entry))) (now (by .entry)) (i .0) (triedOf fixed) (triedOf seen) (outputsOf r) ⌝ }
+    from: usize,
+) -> usize
+    requires { ⌜ Rows 128 (now lows) (now highs) × Ports 128 (length (now lows)) (now by) × (0 < from) × (from ≤ length (now out)) × ((m : ℕ) → m < from → joined (now out) m < 128) ⌝ }
+    ensures { λ r. ⌜ r < from ⌝ }
 {
-    let tried = seen.outputs;
-    let asked = leads_to(lows, highs, by, tried.but(fixed.outputs));
-    let row = row_of(lows, highs, i);
-    row.with(asked.outputs)
-}
-
-// Every output but those of the n that nobody holds, which can be had at once.
-fn held_outputs(by: &[u8], n: usize) -> Outputs
-    requires { ⌜ (length (now by) ≡ 128) × (n ≤ 128) ⌝ }
-    ensures { λ r. ⌜ Free 128 (now (by .entry)) (outputsOf r) ⌝ }
-{
-    let mut held = Outputs::every();
-    for k in 0..n {
-        if by[k] == FREE {
-            held = held.without(OutputPort(k));
+    let held = s.held;
+    let mut met = s.met;
+    let mut firm = from - 1;
+    let kept = fixed.outputs;
+    let mut seen = kept.without(output_of(out, InputPort(firm)));
+    loop {
+        let wave = met.but(seen);
+        let f = wave.lowest();
+        match f {
+            FoundOutput::Nothing => {
+                if firm == 0 {
+                    return firm;
+                }
+                firm -= 1;
+                seen = seen.without(output_of(out, InputPort(firm)));
+            }
+            FoundOutput::At(_) => {
+                seen = seen.with(wave);
+                let w = leads_to(lows, highs, by, wave);
+                let further = w.outputs;
+                let g = further.lowest_untried(held);
+                let FoundOutput::Nothing = g else {
+                    return firm;
+                };
+                met = met.with(further);
+            }
         }
     }
-    held
 }
 
-// Every input from `from` on that holds nothing asks; one that is stuck ends it.
+// Every input that waits is seated, from the first on; one that is refused ends it.
 fn complete(
     lows: &[u64],
     highs: &[u64],
@@ -129,26 +189,42 @@ fn complete(
     out: &mut [u8],
     held: Outputs,
     fixed: Tried,
-    from: usize,
+    waiting: Inputs,
 ) -> Seats
-    requires { ⌜ Rows 128 (now lows) (now highs) × CompletePre 128 (length (now lows)) (Allowed (now lows) (now highs)) (now by) (now out) (outputsOf held) (triedOf fixed) from ⌝ }
-    ensures { λ r. ⌜ CompletePost 128 (length (now (lows .entry))) (Allowed (now (lows .entry)) (now (highs .entry))) (now (by .entry)) (now (out .entry)) (triedOf fixed) (length (now (lows .entry))) (now (by .exit)) (now (out .exit)) (outputsOf (r .held)) (r .full) ⌝ }
+    requires { ⌜ Rows 128 (now lows) (now highs) × Seating 128 (length (now lows)) (Allowed (now lows) (now highs)) (now by) (now out) (outputsOf held) (inputsOf waiting) × AllHeld (now by) (triedOf fixed) ⌝ }
+    ensures { λ r. ⌜ CompletePost 128 (length (now (lows .entry))) (Allowed (now (lows .entry)) (now (highs .entry))) (now (by .entry)) (now (out .entry)) (triedOf fixed) (inputsOf waiting) (now (by .exit)) (now (out .exit)) (outputsOf (r .held)) (inputsOf (r .waiting)) (r .full) ⌝ }
 {
-    let mut s = Seats {
-        full: true,
-        held: held,
-        met: held,
-    };
-    for i in from..lows.len() {
-        s = seat(lows, highs, by, out, s.held, fixed, InputPort(i));
-        if !s.full {
-            return s;
+    let mut known = held;
+    let mut rest = waiting;
+    loop {
+        let f = rest.lowest();
+        let FoundInput::At(i) = f else {
+            return Seats {
+                full: true,
+                held: known,
+                waiting: rest,
+                met: known,
+            };
+        };
+        let s = seat(lows, highs, by, out, known, fixed, i);
+        match s {
+            Placed::Refused(met) => {
+                return Seats {
+                    full: false,
+                    held: known,
+                    waiting: rest,
+                    met: met,
+                };
+            }
+            Placed::Taken(now) => {
+                known = now;
+                rest = rest.without_lowest();
+            }
         }
     }
-    s
 }
 
-// Input i keeps its output, or asks for one.
+// Input i takes an output that can be had at once, or asks for one.
 fn seat(
     lows: &[u64],
     highs: &[u64],
@@ -157,50 +233,51 @@ fn seat(
     held: Outputs,
     fixed: Tried,
     i: InputPort,
-) -> Seats
-    requires { ⌜ Rows 128 (now lows) (now highs) × (i .0 < length (now lows)) × CompletePre 128 (length (now lows)) (Allowed (now lows) (now highs)) (now by) (now out) (outputsOf held) (triedOf fixed) (i .0) ⌝ }
-    ensures { λ r. ⌜ CompletePost 128 (length (now (lows .entry))) (Allowed (now (lows .entry)) (now (highs .entry))) (now (by .entry)) (now (out .entry)) (triedOf fixed) (i .0 + 1) (now (by .exit)) (now (out .exit)) (outputsOf (r .held)) (r .full) ⌝ }
+) -> Placed
+    requires { ⌜ Rows 128 (now lows) (now highs) × SeatPre 128 (length (now lows)) (Allowed (now lows) (now highs)) (now by) (now out) (outputsOf held) (triedOf fixed) (i .0) ⌝ }
+    ensures { λ r. ⌜ SeatPost 128 (length (now (lows .entry))) (Allowed (now (lows .entry)) (now (highs .entry))) (now (by .entry)) (now (out .entry)) (triedOf fixed) (i .0) (now (by .exit)) (now (out .exit)) r ⌝ }
 {
-    if holds(by, out, i) {
-        return Seats {
-            full: true,
-            held: held,
-            met: held,
-        };
-    }
-    let a = ask_inputs(lows, highs, by, out, held, fixed, row_of(lows, highs, i));
-    match a {
-        Asked::Stuck(seen) => Seats {
-            full: false,
-            held: held,
-            met: met_by(lows, highs, by, i, seen, fixed),
-        },
-        Asked::Freed(g, _) => {
-            join(by, out, i, g.output);
-            Seats {
-                full: true,
-                held: held.mark(g.spent),
-                met: held,
-            }
+    let row = row_of(lows, highs, i);
+    let s = row.lowest_untried(held);
+    match s {
+        FoundOutput::Nothing => seat_around(lows, highs, by, out, held, fixed, i),
+        FoundOutput::At(spare) => {
+            join(by, out, i, spare);
+            Placed::Taken(held.mark(spare))
         }
     }
 }
 
-// Does input i hold an output?
-fn holds(by: &[u8], out: &[u8], i: InputPort) -> bool
-    requires { ⌜ (i .0 < length (now out)) × (length (now by) ≡ 128) ⌝ }
-    ensures { λ r. ⌜ HoldsPost (now (by .entry)) (now (out .entry)) (i .0) r ⌝ }
+// Input i, that may take no output at once, asks the holders of those that are not fixed to move.
+fn seat_around(
+    lows: &[u64],
+    highs: &[u64],
+    by: &mut [u8],
+    out: &mut [u8],
+    held: Outputs,
+    fixed: Tried,
+    i: InputPort,
+) -> Placed
+    requires { ⌜ Rows 128 (now lows) (now highs) × SeatPre 128 (length (now lows)) (Allowed (now lows) (now highs)) (now by) (now out) (outputsOf held) (triedOf fixed) (i .0) × Sub (rowOf (now lows) (now highs) (i .0)) (outputsOf held) ⌝ }
+    ensures { λ r. ⌜ SeatPost 128 (length (now (lows .entry))) (Allowed (now (lows .entry)) (now (highs .entry))) (now (by .entry)) (now (out .entry)) (triedOf fixed) (i .0) (now (by .exit)) (now (out .exit)) r ⌝ }
 {
-    let k = i.0;
-    let told = output_of(out, i);
-    let j = told.0;
-    if WIDE_PORTS <= j {
-        return false;
+    let row = row_of(lows, highs, i);
+    let f = fixed.next(row);
+    let FoundOutput::At(_) = f else {
+        return Placed::Refused(row);
+    };
+    let a = ask_outputs(lows, highs, by, out, held, fixed, row.but(fixed.outputs));
+    match a {
+        Asked::Stuck(_) => Placed::Refused(row),
+        Asked::Freed(g, _) => {
+            join(by, out, i, g.output);
+            Placed::Taken(held.mark(g.spent))
+        }
     }
-    by[j] as usize == k + 1
 }
 
-// The inputs from `from` on are settled one after the other.
+// The inputs from `from` on are settled one after the other. Where none is left that waited, and those before have the same outputs among
+// them as in the setting of before, the others have theirs of before: fewer pairs are allowed now, so that nothing lower can be had.
 fn settle_from(
     lows: &[u64],
     highs: &[u64],
@@ -208,8 +285,10 @@ fn settle_from(
     out: &mut [u8],
     fixed: Tried,
     from: usize,
+    before: &[u8],
+    last: usize,
 )
-    requires { ⌜ Rows 128 (now lows) (now highs) × (from ≤ length (now lows)) × Settled 128 (length (now lows)) (Allowed (now lows) (now highs)) (now by) (now out) (triedOf fixed) from ⌝ }
+    requires { ⌜ Rows 128 (now lows) (now highs) × (from ≤ length (now lows)) × Settled 128 (length (now lows)) (Allowed (now lows) (now highs)) (now by) (now out) (triedOf fixed) from × Behind 128 (length (now lows)) (Allowed (now lows) (now highs)) (now before) last × Fixed (now before) from (triedOf fixed) ⌝ }
     ensures { λ _. ⌜ SettledAll 128 (length (now (lows .entry))) (Allowed (now (lows .entry)) (now (highs .entry))) (now (out .entry)) (now (by .exit)) (now (out .exit)) ⌝ }
 {
     let mut firm = Prefix {
@@ -217,8 +296,56 @@ fn settle_from(
         dead: fixed,
         alone: true,
     };
+    let mut was = fixed;
     for i in from..lows.len() {
+        if as_before(firm, was, last, i) {
+            restore(by, out, before, i, lows.len());
+            return;
+        }
         firm = settle(lows, highs, by, out, firm, InputPort(i));
+        was = was_too(was, before, InputPort(i));
+    }
+}
+
+// Is input i past the last that waited, and have the inputs before it the outputs that they had?
+fn as_before(firm: Prefix, was: Tried, last: usize, i: usize) -> bool
+    ensures { λ r. ⌜ (r ≡ true → (last ≤ i) × Sub (triedOf (firm .fixed)) (triedOf was) × Sub (triedOf was) (triedOf (firm .fixed))) ⌝ }
+{
+    if i < last {
+        return false;
+    }
+    let fixed = firm.fixed;
+    let f = was.next(fixed.outputs);
+    let FoundOutput::Nothing = f else {
+        return false;
+    };
+    let g = fixed.next(was.outputs);
+    let FoundOutput::Nothing = g else {
+        return false;
+    };
+    true
+}
+
+// The outputs that were had before input i, and its own besides. Before the first setting it has none.
+fn was_too(was: Tried, before: &[u8], i: InputPort) -> Tried
+    requires { ⌜ i .0 < length (now before) ⌝ }
+    ensures { λ r. ⌜ (joined (now (before .entry)) (i .0) < 128 → Marked (triedOf was) (joined (now (before .entry)) (i .0)) (triedOf r)) ⌝ }
+{
+    let own = output_of(before, i);
+    let j = own.0;
+    if WIDE_PORTS <= j {
+        return was;
+    }
+    was.mark(own)
+}
+
+// The inputs from `from` on have their outputs of before again.
+fn restore(by: &mut [u8], out: &mut [u8], before: &[u8], from: usize, n: usize)
+    requires { ⌜ (length (now by) ≡ 128) × (length (now out) ≡ 128) × (length (now before) ≡ 128) × (n ≤ 128) × (from ≤ n) × Full n (joined (now before)) ⌝ }
+    ensures { λ _. ⌜ Restored (now (before .entry)) (now (by .entry)) (now (out .entry)) from (now (by .exit)) (now (out .exit)) n ⌝ }
+{
+    for k in from..n {
+        join(by, out, InputPort(k), output_of(before, InputPort(k)));
     }
 }
 
@@ -250,7 +377,7 @@ fn settle(
                 alone: alone,
             };
         };
-        let some = lowest_or_all(lower, lowest, alone);
+        let some = lowest_or_all(lower.but(dead.outputs), lowest, alone);
         let a = ask_lower(lows, highs, by, out, dead, some, own, i);
         match a {
             Asked::Stuck(seen) => {
@@ -305,7 +432,7 @@ fn ask_lower(
 {
     release(by, own);
     let held = Outputs::every().without(own);
-    let a = ask_inputs(lows, highs, by, out, held, dead, lower);
+    let a = ask_outputs(lows, highs, by, out, held, dead, lower);
     match a {
         Asked::Stuck(seen) => {
             join(by, out, i, own);

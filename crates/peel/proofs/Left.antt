@@ -20,11 +20,14 @@ use Rattle.rules.proofs.Peels.{least-is}
 use Rattle.rules.proofs.ExactFrom.{exact-step}
 use Rattle.search.specs.Tables.{Allowed, Rows, joined}
 use Rattle.matching.specs.Chosen.{Ready, Chosen}
-use Rattle.matching.proofs.Kept.{first-best}
+use Rattle.matching.proofs.Kept.{first-former}
 use Rattle.board.specs.Level.{Level, Uses}
-use Rattle.board.specs.Labelled.{Labelled, SubtractPost}
+use Rattle.board.specs.Labelled.{Labelled, SubtractPost, Emptied}
 use Rattle.board.proofs.Cells.{peeled-sized}
-use Rattle.peel.specs.Standing.{left, rest, Standing, Seated, Released, Taken}
+use Rattle.labels.specs.Ports.{outputsOf, inputsOf}
+use Rattle.peel.specs.declared.Seats.{Seats}
+use Rattle.peel.specs.Standing.{left, rest, Standing, Giving, Released, Taken}
+use Rattle.peel.proofs.Release.{released}
 
 -- ---- what is allowed by the labels is what has a cell that is not zero
 
@@ -40,7 +43,7 @@ module _ (N : ℕ) (w lows highs : List ℕ) (l : Labelled N w lows highs) where
 
 -- ---- the next setting may be asked for
 
-module _ (N : ℕ) (w lows highs by out : List ℕ) (kept : ℕ) (s : Standing N w lows highs by out kept) (pos : 0 < left N w) where
+module _ (N : ℕ) (w lows highs by out : List ℕ) (seats : Seats) (s : Standing N w lows highs by out seats) (pos : 0 < left N w) where
   pub rows : Rows 128 lows highs
   rows = record { same = s .labels .high ∙ sym (s .labels .low); few = omega (arith, s .labels .low, s .level .sized .few) }
 
@@ -49,23 +52,16 @@ module _ (N : ℕ) (w lows highs by out : List ℕ) (kept : ℕ) (s : Standing N
       let f = fits-exists N (left N w) (cell N w) pos (s .level .rows) (s .level .cols) in
       (f .0, fits-cong N (NonZero (cell N w)) (Allowed lows highs) (to-allowed N w lows highs (s .labels)) (f .0) (f .1))
 
-  pub ready : Ready 128 (length lows) (Allowed lows highs) by out kept
-  ready = rw (s .labels .low) (record {
-    good = s .good;
-    inside = λ i j li h. s .labels .row i li .only j h .0;
-    some = there-is;
-    short = s .short;
-    held = s .held;
-    best = s .best;
-  })
+  pub ready : Ready 128 (length lows) (Allowed lows highs) by out (outputsOf (seats .held)) (inputsOf (seats .waiting))
+  ready = rw (s .labels .low) (record { seating = s .seating; inside = λ i j li h. s .labels .row i li .only j h .0; some = there-is; former = s .former })
 
 -- the table has outputs enough for a record
-pub record-long : {N : ℕ} {w lows highs by out : List ℕ} {kept : ℕ} (W : ℕ) → W ≤ 128 → Standing N w lows highs by out kept → length (take W out) ≡ W
-record-long {out = out} W l s = length-take-le W out (omega (arith, s .good .outputs))
+pub record-long : {N : ℕ} {w lows highs by out : List ℕ} {seats : Seats} (W : ℕ) → W ≤ 128 → Standing N w lows highs by out seats → length (take W out) ≡ W
+record-long {out = out} W l s = length-take-le W out (omega (arith, s .seating .good .outputs))
 
 -- ---- a setting is chosen, and its hold
 
-module _ (N : ℕ) (w lows highs by out : List ℕ) (kept : ℕ) (s : Standing N w lows highs by out kept) (by' out' : List ℕ)
+module _ (N : ℕ) (w lows highs by out : List ℕ) (seats : Seats) (s : Standing N w lows highs by out seats) (by' out' : List ℕ)
     (chosen : Chosen 128 (length lows) (Allowed lows highs) out by' out') where
   c : Chosen 128 N (Allowed lows highs) out by' out'
   c = rw (s .labels .low) at chosen
@@ -140,17 +136,12 @@ module _ (N : ℕ) (w lows highs by out : List ℕ) (kept : ℕ) (s : Standing N
           (subst (λ o. (i j : ℕ) → i < N → j < N → cell N w' i j ≡ peel h o (cell N w) i j) q cells)
 
       -- the emptied pairs are to be released
-      pub seated : Seated N lows' highs' by' out'
-      seated = record {
-        few = s .level .sized .few;
-        low = p .labels .low;
-        high = p .labels .high;
+      pub giving : (emptied : ℕ) → Emptied N w' out' emptied N → Giving emptied out' by'
+      giving emptied e = record {
         holders = c .good .holders;
         outputs = c .good .outputs;
-        port = c .good .port;
-        paired = c .good .paired;
-        held = c .held;
-        inside = uses .inside;
+        small = λ m x. omega (arith, e .few m x, s .level .sized .few);
+        held = λ m x. c .held m (e .few m x);
       }
 
       fewer : (i j : ℕ) → i < N → j < N → Allowed lows' highs' i j → Allowed lows highs i j
@@ -160,15 +151,15 @@ module _ (N : ℕ) (w lows highs by out : List ℕ) (kept : ℕ) (s : Standing N
           was : 0 < cell N w' i j → 0 < cell N w i j
           was q = unfold peel in omega (arith, q, cells i j li lj)
 
-      pub taken : (by'' : List ℕ) (kept' : ℕ) → Released N lows' highs' by'' out' kept' → Taken N w w' lows' highs' by'' out' h kept'
-      taken by'' kept' r = record {
+      pub taken : (seats' : Seats) (by'' : List ℕ) → Emptied N w' out' (inputsOf (seats' .waiting)) N → Released (inputsOf (seats' .waiting)) out' by' by'' (outputsOf (seats' .held))
+          → Taken N w w' lows' highs' by'' out' h seats'
+      taken seats' by'' e r = record {
         standing = record {
           level = level-next;
           labels = p .labels;
-          good = r .good;
-          short = r .short;
-          held = r .held;
-          best = λ m l. first-best N (Allowed lows highs) (Allowed lows' highs') out' fewer (c .first) m (omega (arith, r .short));
+          seating = released N (Allowed lows highs) (Allowed lows' highs') (inputsOf (seats' .waiting)) out' by' by'' (outputsOf (seats' .held)) (c .good) (c .held) (e .few)
+              (λ m l f. to-allowed N w' lows' highs' (p .labels) m (joined out' m) l (uses .inside m l) (e .some m l f)) r;
+          former = λ m l f. first-former N (Allowed lows highs) (Allowed lows' highs') out' fewer (c .first);
           idle = idle;
         };
         some = hold-some;

@@ -11,10 +11,14 @@ use Rattle.switch.proofs.Demand.{row-le-longest, col-le-longest}
 use Rattle.rules.specs.Fill.{fill}
 use Rattle.rules.specs.Exact.{exactFrom, exactPlan}
 use Rattle.search.specs.Tables.{Allowed, joined}
-use Rattle.matching.proofs.Kept.{fresh}
+use Rattle.search.proofs.Tables.{held-not-free}
+use Rattle.matching.proofs.Kept.{fresh, nobody-holds}
 use Rattle.board.specs.Level.{Sized, Within, Level}
 use Rattle.board.specs.Labelled.{Labelled}
 use Rattle.board.proofs.Filling.{level-fill}
+use Rattle.sets.specs.Label.{Upto}
+use Rattle.labels.specs.Ports.{inputsOf}
+use Rattle.peel.specs.declared.Seats.{Seats}
 use Rattle.peel.specs.Standing.{Cells, left, rest, Started, Standing}
 
 module _ (N T : ℕ) (w : List ℕ) (c : Cells N T w) where
@@ -58,17 +62,20 @@ table-length l v e = ap length e ∙ length-replicate 128 v
 pub table-part : (N v : ℕ) → N ≤ 128 → length (take N (replicate 128 v)) ≡ N
 table-part N v l = length-take-le N (replicate 128 v) (omega (arith, length-replicate 128 v))
 
-pub standing : (N T : ℕ) (w w' lows' highs' by out : List ℕ) → Started N T w w' lows' highs' → by ≡ replicate 128 0 → out ≡ replicate 128 255
-    → (T ≡ left N w') × Standing N w' lows' highs' by out 0
-standing N T w w' lows' highs' by out s free idle = (
+pub standing : (N T : ℕ) (w w' lows' highs' by out : List ℕ) (seats : Seats) → Started N T w w' lows' highs' → by ≡ replicate 128 0 → out ≡ replicate 128 255 → Upto N (inputsOf (seats .waiting))
+    → (T ≡ left N w') × Standing N w' lows' highs' by out seats
+standing N T w w' lows' highs' by out seats s free idle all = (
   sym e,
   rw (free, idle) (record {
     level = rw e (s .level);
     labels = s .labels;
-    good = fresh 128 N (Allowed lows' highs') (replicate 128 255) (length-replicate {A = ℕ} 128 255);
-    short = omega arith;
-    held = λ m l. absurd (omega arith);
-    best = λ m l. absurd (omega arith);
+    seating = record {
+      good = fresh 128 N (Allowed lows' highs') (replicate 128 255) (length-replicate {A = ℕ} 128 255);
+      free = λ k _ _. nobody-holds 128 k;
+      begun = λ m l f. absurd (f (all .all m l));
+      idle = λ m x. (all .only m x, λ h. held-not-free (replicate 128 0) (h .0) m (h .1) (nobody-holds 128 (h .0)));
+    };
+    former = λ m l f. absurd (f (all .all m l));
     idle = λ m l. idle-all m;
   }),
 )

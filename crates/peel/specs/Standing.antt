@@ -2,13 +2,16 @@
 use mathlib.Core.Path.{_≡_}
 use mathlib.Core.List.{List, _∷_}
 use Prim.Native.Nat.{ℕ, _+_, _*_, _≤_, _<_}
-use lib.ListN.{length, take, replicate}
+use lib.ListN.{length, getD, take, replicate}
 use Rattle.counting.specs.Matrix.{row}
 use Rattle.switch.specs.Demand.{cell, longest}
 use Rattle.switch.specs.Plan.{Record}
 use Rattle.rules.specs.Exact.{exactFrom, exactPlan}
-use Rattle.search.specs.Tables.{Allowed, Held, joined, Matching}
-use Rattle.matching.specs.Chosen.{Best}
+use Rattle.sets.specs.Label.{In}
+use Rattle.labels.specs.Ports.{outputsOf, inputsOf}
+use Rattle.search.specs.Tables.{Allowed, Held, joined}
+use Rattle.matching.specs.Chosen.{Seating, Former}
+use Rattle.peel.specs.declared.Seats.{Seats}
 use Rattle.board.specs.Level.{Level}
 use Rattle.board.specs.Labelled.{Labelled}
 
@@ -41,37 +44,32 @@ pub record Tables (N : ℕ) (lows highs by out : List ℕ) : Type 0 where
   pub free : by ≡ replicate 128 0
   pub idle : out ≡ replicate 128 255
 
--- the lines are level, the labels in step with the cells, and the tables a matching in which the inputs below `kept` hold the best outputs so far
-pub record Standing (N : ℕ) (w lows highs by out : List ℕ) (kept : ℕ) : Type 0 where
+-- the lines are level, the labels in step with the cells, and the tables those of the setting of before, in which who waits holds nothing
+pub record Standing (N : ℕ) (w lows highs by out : List ℕ) (seats : Seats) : Type 0 where
   pub level : Level N (left N w) w
   pub labels : Labelled N w lows highs
-  pub good : Matching 128 N (Allowed lows highs) by out
-  pub short : kept ≤ N
-  pub held : (m : ℕ) → m < kept → Held by (joined out m) m
-  pub best : (m : ℕ) → m < kept → Best N (Allowed lows highs) out m
+  pub seating : Seating 128 N (Allowed lows highs) by out (outputsOf (seats .held)) (inputsOf (seats .waiting))
+  pub former : (m : ℕ) → m < N → (In (inputsOf (seats .waiting)) m → ⊥) → Former N (Allowed lows highs) out
   pub idle : (m : ℕ) → N ≤ m → joined out m ≡ 255
 
--- tables in which every input holds its output, whatever is allowed by now
-pub record Seated (N : ℕ) (lows highs by out : List ℕ) : Type 0 where
-  pub few : N ≤ 128
-  pub low : length lows ≡ N
-  pub high : length highs ≡ N
+-- tables in which the inputs of `emptied` hold the outputs that `out` tells
+pub record Giving (emptied : ℕ) (out by : List ℕ) : Type 0 where
   pub holders : length by ≡ 128
   pub outputs : length out ≡ 128
-  pub port : (j i : ℕ) → Held by j i → i < N
-  pub paired : (j i : ℕ) → Held by j i → joined out i ≡ j
-  pub held : (m : ℕ) → m < N → Held by (joined out m) m
-  pub inside : (m : ℕ) → m < N → joined out m < N
+  pub small : (m : ℕ) → In emptied m → m < 128
+  pub held : (m : ℕ) → In emptied m → Held by (joined out m) m
 
--- who still holds may have its output, and the inputs below `kept` do hold
-pub record Released (N : ℕ) (lows highs by' out : List ℕ) (kept : ℕ) : Type 0 where
-  pub good : Matching 128 N (Allowed lows highs) by' out
-  pub short : kept ≤ N
-  pub held : (m : ℕ) → m < kept → Held by' (joined out m) m
+-- they gave them up: of the outputs below 128 `known` has every one but theirs, and nobody else's changed
+pub record Released (emptied : ℕ) (out by by' : List ℕ) (known : ℕ) : Type 0 where
+  pub size : length by' ≡ length by
+  pub back : (j m : ℕ) → Held by' j m → Held by j m
+  pub gone : (m : ℕ) → In emptied m → getD by' (joined out m) 0 ≡ 0
+  pub kept : (j m : ℕ) → Held by j m → (In emptied m → ⊥) → Held by' j m
+  pub free : (k : ℕ) → k < 128 → (In known k → ⊥) → (m : ℕ) × In emptied m × (joined out m ≡ k)
 
 -- the first record of what is left was taken off: `out` has its outputs, and every line is less by its hold
-pub record Taken (N : ℕ) (w w' lows' highs' by' out' : List ℕ) (hold kept : ℕ) : Type 0 where
-  pub standing : Standing N w' lows' highs' by' out' kept
+pub record Taken (N : ℕ) (w w' lows' highs' by' out' : List ℕ) (hold : ℕ) (seats : Seats) : Type 0 where
+  pub standing : Standing N w' lows' highs' by' out' seats
   pub some : 0 < hold
   pub falls : left N w' + hold ≡ left N w
   pub more : (W : ℕ) → N ≤ W → W ≤ 128 → rest W N w ≡ record { hold = hold; outputs = take W out' } ∷ rest W N w'

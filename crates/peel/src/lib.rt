@@ -1,20 +1,29 @@
 // Peeling a working copy: filled and labelled, then one full setting after the other taken off it, the first in dictionary order each time.
 // A step promises that what is left to plan is the record it took, held for the smallest cell, and then what is left afterwards.
 // The matching is kept from step to step: only emptied pairs are released. What becomes of the records is left to the planners.
-use labels::row_of;
+use labels::FoundInput;
+use labels::Inputs;
+use labels::Outputs;
 use matching::next_setting;
 use search::release;
-use switch::InputPort;
 use switch::OutputPort;
 ghost use mathlib.Core.Path.{_≡_};
-ghost use Prim.Native.Nat.{_<_};
+ghost use Prim.Native.Nat.{ℕ, _<_, _≤_};
 ghost use lib.ListN.{length};
-ghost use Rattle.peel.specs.Standing.{Cells, Started, left, Standing, Seated, Released, Taken};
+ghost use Rattle.sets.specs.Label.{In, Upto};
+ghost use Rattle.labels.specs.Ports.{outputsOf, inputsOf};
+ghost use Rattle.peel.specs.Standing.{Cells, Started, left, Standing, Giving, Released, Taken};
 
-// A setting that was taken off: how long it is held, and how many inputs from the first on keep their outputs for the next one.
+// A setting that was taken off: how long it is held, and who sits where for the next one.
 pub struct Step {
     pub hold: u32,
-    pub kept: usize,
+    pub seats: Seats,
+}
+
+// The inputs that wait for an output, and every output but those that nobody holds.
+pub struct Seats {
+    pub waiting: Inputs,
+    pub held: Outputs,
 }
 
 // The cells are filled to T, and each input gets its label.
@@ -26,6 +35,17 @@ pub fn start(work: &mut [u32], n: usize, longest: u64, lows: &mut [u64], highs: 
     board::label_rows(work, n, lows, highs);
 }
 
+// Before the first setting every input waits, and nobody holds an output.
+pub fn nobody(n: usize) -> Seats
+    requires { ⌜ n ≤ 128 ⌝ }
+    ensures { λ r. ⌜ Upto n (inputsOf (r .waiting)) × ((k : ℕ) → In (outputsOf (r .held)) k → ⊥) ⌝ }
+{
+    Seats {
+        waiting: Inputs::first(n),
+        held: Outputs::none(),
+    }
+}
+
 // Takes the first setting off the working copy, for as long as its smallest cell; `out` has its outputs.
 pub fn take_off(
     work: &mut [u32],
@@ -34,35 +54,40 @@ pub fn take_off(
     highs: &mut [u64],
     by: &mut [u8],
     out: &mut [u8],
-    kept: usize,
+    seats: Seats,
 ) -> Step
-    requires { ⌜ Standing n (now work) (now lows) (now highs) (now by) (now out) kept × (0 < left n (now work)) ⌝ }
-    ensures { λ r. ⌜ Taken n (now (work .entry)) (now (work .exit)) (now (lows .exit)) (now (highs .exit)) (now (by .exit)) (now (out .exit)) (r .hold) (r .kept) ⌝ }
+    requires { ⌜ Standing n (now work) (now lows) (now highs) (now by) (now out) seats × (0 < left n (now work)) ⌝ }
+    ensures { λ r. ⌜ Taken n (now (work .entry)) (now (work .exit)) (now (lows .exit)) (now (highs .exit)) (now (by .exit)) (now (out .exit)) (r .hold) (r .seats) ⌝ }
 {
-    next_setting(lows, highs, by, out, kept);
+    next_setting(lows, highs, by, out, seats.held, seats.waiting);
     let hold = board::smallest(work, n, out);
-    board::subtract(work, n, lows, highs, out, hold);
+    let emptied = board::subtract(work, n, lows, highs, out, hold);
+    let held = release_all(emptied, by, out);
     Step {
         hold: hold,
-        kept: release_emptied(n, lows, highs, by, out),
+        seats: Seats {
+            waiting: emptied,
+            held: held,
+        },
     }
 }
 
-// Every pair that is allowed no longer is released: from the last input to the first, so that the one noted last is the first of them.
-fn release_emptied(n: usize, lows: &[u64], highs: &[u64], by: &mut [u8], out: &[u8]) -> usize
-    requires { ⌜ Seated n (now lows) (now highs) (now by) (now out) ⌝ }
-    ensures { λ r. ⌜ Released n (now (lows .entry)) (now (highs .entry)) (now (by .exit)) (now (out .entry)) r ⌝ }
+// These inputs give their outputs up, which can be had at once; the answer has every other.
+fn release_all(emptied: Inputs, by: &mut [u8], out: &[u8]) -> Outputs
+    requires { ⌜ Giving (inputsOf emptied) (now out) (now by) ⌝ }
+    ensures { λ r. ⌜ Released (inputsOf emptied) (now (out .entry)) (now (by .entry)) (now (by .exit)) (outputsOf r) ⌝ }
 {
-    let mut kept = n;
-    let mut i = n;
-    while 0 < i {
-        i -= 1;
-        let j = OutputPort(out[i] as usize);
-        let row = row_of(lows, highs, InputPort(i));
-        if !row.has(j) {
-            release(by, j);
-            kept = i;
-        }
+    let mut rest = emptied;
+    let mut held = Outputs::every();
+    loop {
+        let f = rest.lowest();
+        let FoundInput::At(i) = f else {
+            return held;
+        };
+        let k = i.0;
+        let j = OutputPort(out[k] as usize);
+        release(by, j);
+        held = held.without(j);
+        rest = rest.without_lowest();
     }
-    kept
 }

@@ -18,7 +18,7 @@ ghost use Rattle.search.specs.Tables.{triedOf, Allowed, Rows};
 ghost use Rattle.search.specs.Search.{Ports, Reaches, Leads, AskPre, Wave, AskPost, Tries, seenIn, Movable, Mover, Handed};
 
 // What the holders have where nobody holds an output; input i stands there as i + 1.
-pub const FREE: u8 = 0;
+const FREE: u8 = 0;
 
 // The outputs tried so far. The search is handed the set and hands it back with more in it, or unchanged where nothing was left to try (§6.7).
 pub struct Tried {
@@ -83,48 +83,10 @@ impl Tried {
     }
 }
 
-// Inputs ask for one of these outputs: for one that can be had at once, else for those that are not tried yet.
-pub fn ask_inputs(
-    lows: &[u64],
-    highs: &[u64],
-    by: &mut [u8],
-    out: &mut [u8],
-    held: Outputs,
-    tried: Tried,
-    outputs: Outputs,
-) -> Asked
-    requires { ⌜ Rows 128 (now lows) (now highs) × AskPre 128 (length (now lows)) (Allowed (now lows) (now highs)) (now by) (now out) (outputsOf held) (triedOf tried) ⌝ }
-    ensures { λ r. ⌜ AskPost 128 (length (now (lows .entry))) (Allowed (now (lows .entry)) (now (highs .entry))) (now (by .entry)) (now (out .entry)) (triedOf tried) (outputsOf outputs) (now (by .exit)) (now (out .exit)) r × Tries 128 (triedOf tried) (outputsOf outputs) (seenIn r) ⌝ }
-{
-    let s = outputs.lowest_untried(held);
-    match s {
-        FoundOutput::At(spare) => Asked::Freed(
-            Given {
-                output: spare,
-                spent: spare,
-            },
-            tried.mark(spare),
-        ),
-        FoundOutput::Nothing => {
-            let f = tried.next(outputs);
-            match f {
-                FoundOutput::Nothing => Asked::Stuck(tried),
-                FoundOutput::At(_) => ask_outputs(
-                    lows,
-                    highs,
-                    by,
-                    out,
-                    held,
-                    tried,
-                    outputs.but(tried.outputs),
-                ),
-            }
-        }
-    }
-}
-
-// The outputs of a wave are marked as tried and ask their holders to move, all at once; one whose holder can is handed on.
-fn ask_outputs(
+// The outputs of a wave are marked as tried and ask their holders to move, all at once; one whose holder can is handed on. The search is
+// entered here, by who knows that none of its outputs can be had at once: inputs then ask in one place alone, and the compiler lays that
+// function into this one.
+pub fn ask_outputs(
     lows: &[u64],
     highs: &[u64],
     by: &mut [u8],
@@ -163,6 +125,46 @@ fn ask_outputs(
                         seen,
                     )
                 }
+            }
+        }
+    }
+}
+
+// Inputs that are to move ask for one of these outputs: for one that can be had at once, else for those that are not tried yet.
+fn ask_inputs(
+    lows: &[u64],
+    highs: &[u64],
+    by: &mut [u8],
+    out: &mut [u8],
+    held: Outputs,
+    tried: Tried,
+    outputs: Outputs,
+) -> Asked
+    requires { ⌜ Rows 128 (now lows) (now highs) × AskPre 128 (length (now lows)) (Allowed (now lows) (now highs)) (now by) (now out) (outputsOf held) (triedOf tried) ⌝ }
+    ensures { λ r. ⌜ AskPost 128 (length (now (lows .entry))) (Allowed (now (lows .entry)) (now (highs .entry))) (now (by .entry)) (now (out .entry)) (triedOf tried) (outputsOf outputs) (now (by .exit)) (now (out .exit)) r × Tries 128 (triedOf tried) (outputsOf outputs) (seenIn r) ⌝ }
+{
+    let s = outputs.lowest_untried(held);
+    match s {
+        FoundOutput::At(spare) => Asked::Freed(
+            Given {
+                output: spare,
+                spent: spare,
+            },
+            tried.mark(spare),
+        ),
+        FoundOutput::Nothing => {
+            let f = tried.next(outputs);
+            match f {
+                FoundOutput::Nothing => Asked::Stuck(tried),
+                FoundOutput::At(_) => ask_outputs(
+                    lows,
+                    highs,
+                    by,
+                    out,
+                    held,
+                    tried,
+                    outputs.but(tried.outputs),
+                ),
             }
         }
     }

@@ -7,7 +7,7 @@ use Rattle.labels.specs.Ports.{outputsOf}
 use Rattle.search.specs.Tables.{triedOf, Allowed}
 use Rattle.search.specs.Search.{AskPost}
 use Rattle.search.proofs.Search.{same-holders, same-outputs}
-use Rattle.matching.proofs.Settling.{own-place, given-up, lower-asks, lower-taken, lower-back}
+use Rattle.matching.proofs.Settling.{own-place, given-up, lower-asks, lower-wave, lower-taken, lower-back}
 use borrow.Author.Needs.{needs}
 use Rattle.matching.proofs.ask_lower.Statement.{statement}
 use Rattle.matching.proofs.ask_lower.Tie as tie
@@ -27,19 +27,24 @@ without-requires c κs =
     let a = s .args in
     own-place 128 (length (a .lows .now)) (Allowed (a .lows .now) (a .highs .now)) (a .by .now) (a .out .now) (triedOf (a .dead)) (outputsOf (a .lower)) (a .own .0) (a .i .0) (s .pre .1)
 
-ask-inputs-requires : tie.Need-ask-inputs-requires
-ask-inputs-requires c κs =
+ask-outputs-requires : tie.Need-ask-outputs-requires
+ask-outputs-requires c κs =
     let s = c .before .before .before .before .before .before .before .before .before .before .before .before in
     let a = s .args in
     let r = c .before .before .before .before .before .before .release in
-    (s .pre .0, rw (r .ensures) (lower-asks 128 (length (a .lows .now)) (Allowed (a .lows .now) (a .highs .now)) (a .by .now) (a .out .now) (triedOf (a .dead)) (outputsOf (a .lower)) (a .own .0) (a .i .0) (s .pre .1) (outputsOf (c .before .before .before .every .result)) (outputsOf (c .before .before .without .result)) (c .before .before .before .every .ensures) (c .before .before .without .ensures)))
+    let every = c .before .before .before .every in
+    let held = c .before .before .without in (
+      s .pre .0,
+      rw (r .ensures) (lower-asks 128 (length (a .lows .now)) (Allowed (a .lows .now) (a .highs .now)) (a .by .now) (a .out .now) (triedOf (a .dead)) (outputsOf (a .lower)) (a .own .0) (a .i .0) (s .pre .1) (outputsOf (every .result)) (outputsOf (held .result)) (every .ensures) (held .ensures)),
+      lower-wave 128 (length (a .lows .now)) (Allowed (a .lows .now) (a .highs .now)) (a .by .now) (a .out .now) (triedOf (a .dead)) (outputsOf (a .lower)) (a .own .0) (a .i .0) (s .pre .1) (outputsOf (every .result)) (outputsOf (held .result)) (every .ensures) (held .ensures),
+    )
 
 join-requires : tie.Need-join-requires
 join-requires c κs =
     let s = c .before .before .before .before .before .before .before .before .before .before .before .before .before .before .before .before .before .before .before .before .before .before in
     let a = s .args in
     let r = c .before .before .before .before .before .before .before .before .before .before .before .before .before .before .before .before .release in
-    let q = c .before .before .before .before .before .before .before .before .before .ask-inputs in
+    let q = c .before .before .before .before .before .before .before .before .before .ask-outputs in
     let g = given-up 128 (length (a .lows .now)) (Allowed (a .lows .now) (a .highs .now)) (a .by .now) (a .out .now) (triedOf (a .dead)) (outputsOf (a .lower)) (a .own .0) (a .i .0) (s .pre .1) (r .last .0) (r .ensures) in (
       same-holders 128 (length (a .lows .now)) (Allowed (a .lows .now) (a .highs .now)) (r .last .0) (a .out .now) (triedOf (a .dead)) (outputsOf (a .lower)) (q .last .1 .1 .0) (q .last .1 .1 .1 .0) g (q .result) (q .ensures .0) ∙ g .holders,
       same-outputs 128 (length (a .lows .now)) (Allowed (a .lows .now) (a .highs .now)) (r .last .0) (a .out .now) (triedOf (a .dead)) (outputsOf (a .lower)) (q .last .1 .1 .0) (q .last .1 .1 .1 .0) g (q .result) (q .ensures .0) ∙ g .outputs,
@@ -52,7 +57,7 @@ join-requires-2 c κs =
     let s = c .before .before .before .before .before .before .before .before .before .before .before .before .before .before .before .before .before .before .before .before .before .before in
     let a = s .args in
     let r = c .before .before .before .before .before .before .before .before .before .before .before .before .before .before .before .before .release in
-    let q = c .before .before .before .before .before .before .before .before .before .ask-inputs in
+    let q = c .before .before .before .before .before .before .before .before .before .ask-outputs in
     let x = c .before .before .before .a2 .given in
     let m = subst (AskPost 128 (length (a .lows .now)) (Allowed (a .lows .now) (a .highs .now)) (r .last .0) (a .out .now) (triedOf (a .dead)) (outputsOf (a .lower)) (q .last .1 .1 .0) (q .last .1 .1 .1 .0)) (x .1) (q .ensures .0) in
     (m .good .holders, m .good .outputs, lt-of-lt-of-le (s .pre .1 .here) (s .pre .0 .few), m .here)
@@ -62,7 +67,7 @@ same-length c =
     let s = c .before .before .before .before .before .before .before .before .before .before .before .before .before .before .before .before .before .before .before .before .before .before .before .before .before .before .before in
     let a = s .args in
     let r = c .before .before .before .before .before .before .before .before .before .before .before .before .before .before .before .before .before .before .before .before .before .release in
-    let q = c .before .before .before .before .before .before .before .before .before .before .before .before .before .before .ask-inputs in
+    let q = c .before .before .before .before .before .before .before .before .before .before .before .before .before .before .ask-outputs in
     let j = c .before .before .before .before .join in
     let g = given-up 128 (length (a .lows .now)) (Allowed (a .lows .now) (a .highs .now)) (a .by .now) (a .out .now) (triedOf (a .dead)) (outputsOf (a .lower)) (a .own .0) (a .i .0) (s .pre .1) (r .last .0) (r .ensures) in
     ap length (j .ensures .0) ∙ length-set (q .last .1 .1 .0) _ _ ∙ same-holders 128 (length (a .lows .now)) (Allowed (a .lows .now) (a .highs .now)) (r .last .0) (a .out .now) (triedOf (a .dead)) (outputsOf (a .lower)) (q .last .1 .1 .0) (q .last .1 .1 .1 .0) g (q .result) (q .ensures .0) ∙ g .holders ∙ sym (s .pre .1 .good .holders)
@@ -72,7 +77,7 @@ same-length-2 c =
     let s = c .before .before .before .before .before .before .before .before .before .before .before .before .before .before .before .before .before .before .before .before .before .before .before .before .before .before .before in
     let a = s .args in
     let r = c .before .before .before .before .before .before .before .before .before .before .before .before .before .before .before .before .before .before .before .before .before .release in
-    let q = c .before .before .before .before .before .before .before .before .before .before .before .before .before .before .ask-inputs in
+    let q = c .before .before .before .before .before .before .before .before .before .before .before .before .before .before .ask-outputs in
     let j = c .before .before .before .before .join in
     let g = given-up 128 (length (a .lows .now)) (Allowed (a .lows .now) (a .highs .now)) (a .by .now) (a .out .now) (triedOf (a .dead)) (outputsOf (a .lower)) (a .own .0) (a .i .0) (s .pre .1) (r .last .0) (r .ensures) in
     ap length (j .ensures .1) ∙ length-set (q .last .1 .1 .1 .0) _ _ ∙ same-outputs 128 (length (a .lows .now)) (Allowed (a .lows .now) (a .highs .now)) (r .last .0) (a .out .now) (triedOf (a .dead)) (outputsOf (a .lower)) (q .last .1 .1 .0) (q .last .1 .1 .1 .0) g (q .result) (q .ensures .0)
@@ -82,7 +87,7 @@ returns c =
     let s = c .before .before .before .before .before .before .before .before .before .before .before .before .before .before .before .before .before .before .before .before .before .before .before .before .before .before .before in
     let a = s .args in
     let r = c .before .before .before .before .before .before .before .before .before .before .before .before .before .before .before .before .before .before .before .before .before .release in
-    let q = c .before .before .before .before .before .before .before .before .before .before .before .before .before .before .ask-inputs in
+    let q = c .before .before .before .before .before .before .before .before .before .before .before .before .before .before .ask-outputs in
     let j = c .before .before .before .before .join in
     let x = c .before .before .before .before .before .before .before .before .a .given in
     let m = subst (AskPost 128 (length (a .lows .now)) (Allowed (a .lows .now) (a .highs .now)) (r .last .0) (a .out .now) (triedOf (a .dead)) (outputsOf (a .lower)) (q .last .1 .1 .0) (q .last .1 .1 .1 .0)) (x .1) (q .ensures .0) in
@@ -93,7 +98,7 @@ same-length-3 c =
     let s = c .before .before .before .before .before .before .before .before .before .before .before .before .before .before .before .before .before .before .before .before .before .before .before .before .before .before .before in
     let a = s .args in
     let r = c .before .before .before .before .before .before .before .before .before .before .before .before .before .before .before .before .before .before .before .before .before .release in
-    let q = c .before .before .before .before .before .before .before .before .before .before .before .before .before .before .ask-inputs in
+    let q = c .before .before .before .before .before .before .before .before .before .before .before .before .before .before .ask-outputs in
     let j = c .before .before .before .before .join2 in
     let g = given-up 128 (length (a .lows .now)) (Allowed (a .lows .now) (a .highs .now)) (a .by .now) (a .out .now) (triedOf (a .dead)) (outputsOf (a .lower)) (a .own .0) (a .i .0) (s .pre .1) (r .last .0) (r .ensures) in
     ap length (j .ensures .0) ∙ length-set (q .last .1 .1 .0) _ _ ∙ same-holders 128 (length (a .lows .now)) (Allowed (a .lows .now) (a .highs .now)) (r .last .0) (a .out .now) (triedOf (a .dead)) (outputsOf (a .lower)) (q .last .1 .1 .0) (q .last .1 .1 .1 .0) g (q .result) (q .ensures .0) ∙ g .holders ∙ sym (s .pre .1 .good .holders)
@@ -103,7 +108,7 @@ same-length-4 c =
     let s = c .before .before .before .before .before .before .before .before .before .before .before .before .before .before .before .before .before .before .before .before .before .before .before .before .before .before .before in
     let a = s .args in
     let r = c .before .before .before .before .before .before .before .before .before .before .before .before .before .before .before .before .before .before .before .before .before .release in
-    let q = c .before .before .before .before .before .before .before .before .before .before .before .before .before .before .ask-inputs in
+    let q = c .before .before .before .before .before .before .before .before .before .before .before .before .before .before .ask-outputs in
     let j = c .before .before .before .before .join2 in
     let g = given-up 128 (length (a .lows .now)) (Allowed (a .lows .now) (a .highs .now)) (a .by .now) (a .out .now) (triedOf (a .dead)) (outputsOf (a .lower)) (a .own .0) (a .i .0) (s .pre .1) (r .last .0) (r .ensures) in
     ap length (j .ensures .1) ∙ length-set (q .last .1 .1 .1 .0) _ _ ∙ same-outputs 128 (length (a .lows .now)) (Allowed (a .lows .now) (a .highs .now)) (r .last .0) (a .out .now) (triedOf (a .dead)) (outputsOf (a .lower)) (q .last .1 .1 .0) (q .last .1 .1 .1 .0) g (q .result) (q .ensures .0)
@@ -113,7 +118,7 @@ returns-2 c =
     let s = c .before .before .before .before .before .before .before .before .before .before .before .before .before .before .before .before .before .before .before .before .before .before .before .before .before .before .before in
     let a = s .args in
     let r = c .before .before .before .before .before .before .before .before .before .before .before .before .before .before .before .before .before .before .before .before .before .release in
-    let q = c .before .before .before .before .before .before .before .before .before .before .before .before .before .before .ask-inputs in
+    let q = c .before .before .before .before .before .before .before .before .before .before .before .before .before .before .ask-outputs in
     let j = c .before .before .before .before .join2 in
     let x = c .before .before .before .before .before .before .before .before .a2 .given in
     let m = subst (AskPost 128 (length (a .lows .now)) (Allowed (a .lows .now) (a .highs .now)) (r .last .0) (a .out .now) (triedOf (a .dead)) (outputsOf (a .lower)) (q .last .1 .1 .0) (q .last .1 .1 .1 .0)) (x .1) (q .ensures .0) in
@@ -123,5 +128,5 @@ pub ask-lower-spec : {M : Type 1} → statement M
 ask-lower-spec =
     tie.close
     (tie.spec
-    release-requires every-requires without-requires ask-inputs-requires (λ c. search needs) join-requires (λ c. search needs) join-requires-2
+    release-requires every-requires without-requires ask-outputs-requires (λ c. search needs) join-requires (λ c. search needs) join-requires-2
     same-length same-length-2 returns same-length-3 same-length-4 returns-2)

@@ -79,91 +79,84 @@ returns c =
 
 lowest-or-all-requires : tie.Need-lowest-or-all-requires Inv-loop μ-loop
 lowest-or-all-requires c κs =
-    let l = c .before .before .before .before .before .loop in
-    let b = c .before .before .before .before .below in
-    let q = c .before .before .before .next in
-    let x = c .before .f .given in
+    let l = c .before .before .before .before .before .before .loop in
+    let b = c .before .before .before .before .before .below in
+    let q = c .before .before .before .before .next in
+    let x = c .before .before .f .given in
     let low = lowest-at 128 (outputsOf (b .result)) (triedOf (l .dead)) (q .result) (x .0 .0) (q .ensures) (x .1) in
-    (low .small, low .here)
+    (low .small, c .but .ensures .kept _ (low .here) (low .new))
 
 ask-lower-requires : tie.Need-ask-lower-requires Inv-loop μ-loop
 ask-lower-requires c κs =
-    let s = c .before .before .before .before .before .before .before .before .before .before .before .before .before .before .before .before .before .before in
+    let s = c .before .before .before .before .before .before .before .before .before .before .before .before .before .before .before .before .before .before .before in
     let a = s .args in
-    let l = c .before .before .before .before .before .before .before .before .loop in
-    let r = c .before .before .before .before .before .before .before .before .before .before .before .before .before .row-of in
-    let b = c .before .before .before .before .before .before .before .below in
+    let l = c .before .before .before .before .before .before .before .before .before .loop in
+    let r = c .before .before .before .before .before .before .before .before .before .before .before .before .before .before .row-of in
+    let b = c .before .before .before .before .before .before .before .before .below in
     let o = c .before .before .lowest-or-all in
-    (s .pre .0, lower-may 128 (length (a .lows .now)) (Allowed (a .lows .now) (a .highs .now)) (a .out .now) (l .by) (l .out) (triedOf (a .firm .fixed)) (triedOf (l .dead)) (l .own .0) (a .i .0) (s .pre .1) (l .inv) (outputsOf (r .result)) (outputsOf (b .result)) (b .ensures) (outputsOf (o .result)) (o .ensures .0) (λ k e. subst (λ (y : ℕ). In y k) (r .ensures) e))
+    let u = c .before .before .before .but in
+    (s .pre .0, lower-may 128 (length (a .lows .now)) (Allowed (a .lows .now) (a .highs .now)) (a .out .now) (l .by) (l .out) (triedOf (a .firm .fixed)) (triedOf (l .dead)) (l .own .0) (a .i .0) (s .pre .1) (l .inv) (outputsOf (r .result)) (outputsOf (b .result)) (b .ensures) (outputsOf (o .result)) (outputsOf (u .result)) _ (u .ensures) (o .ensures .0) (o .ensures .1) (λ k e. subst (λ (y : ℕ). In y k) (r .ensures) e))
 
 loop-less : tie.Need-loop-less Inv-loop μ-loop
 loop-less c =
-    let s = c .before .before .before .before .before .before .before .before .before .before .before .before .before .before .before .before .before .before .before .before .before .before .before .before .before .before in
+    let s = c .before .before .before .before .before .before .before .before .before .before .before .before .before .before .before .before .before .before .before .before .before .before .before .before .before .before .before in
     let a = s .args in
-    let l = c .before .before .before .before .before .before .before .before .before .before .before .before .before .before .before .before .loop in
-    let r = c .before .before .before .before .before .before .before .before .before .before .before .before .before .before .before .before .before .before .before .before .before .row-of in
-    let b = c .before .before .before .before .before .before .before .before .before .before .before .before .before .before .before .below in
-    let n = c .before .before .before .before .before .before .before .before .before .before .before .before .before .before .next in
+    let l = c .before .before .before .before .before .before .before .before .before .before .before .before .before .before .before .before .before .loop in
+    let r = c .before .before .before .before .before .before .before .before .before .before .before .before .before .before .before .before .before .before .before .before .before .before .row-of in
+    let b = c .before .before .before .before .before .before .before .before .before .before .before .before .before .before .before .before .below in
     let o = c .before .before .before .before .before .before .before .before .before .before .lowest-or-all in
+    let n = c .before .before .before .before .before .before .before .before .before .before .before .before .before .before .before .next in
     let q = c .before .before .before .before .before .before .before .ask-lower in
-    let x = c .before .before .before .before .before .before .before .before .before .before .before .before .f .given in
+    let x = c .before .before .before .before .before .before .before .before .before .before .before .before .before .f .given in
     let y = c .before .a .given in
     let low = lowest-at 128 (outputsOf (b .result)) (triedOf (l .dead)) (n .result) (x .0 .0) (n .ensures) (x .1) in
-    omega (
-      arith,
-      lower-more 128 (length (a .lows .now)) (Allowed (a .lows .now) (a .highs .now)) (a .out .now) (l .by) (l .out) (triedOf (a .firm .fixed)) (triedOf (l .dead)) (l .own .0) (a .i .0) (s .pre .1) (l .inv) (outputsOf (r .result)) (outputsOf (b .result)) (b .ensures) (outputsOf (o .result)) (x .0 .0 .0) (q .last .1 .1 .0) (q .last .1 .1 .1 .0) (y .0 .0) (o .ensures .1) (low .small) (low .new)
-          (subst (Lowered 128 (length (a .lows .now)) (Allowed (a .lows .now) (a .highs .now)) (l .by) (l .out) (triedOf (l .dead)) (outputsOf (o .result)) (l .own .0) (a .i .0) (q .last .1 .1 .0) (q .last .1 .1 .1 .0)) (y .1) (q .ensures)) .1,
-    )
+    omega (arith, lower-more 128 (length (a .lows .now)) (Allowed (a .lows .now) (a .highs .now)) (a .out .now) (l .by) (l .out) (triedOf (a .firm .fixed)) (triedOf (l .dead)) (l .own .0) (a .i .0) (s .pre .1) (l .inv) (outputsOf (r .result)) (outputsOf (b .result)) (b .ensures) (outputsOf (o .result)) (x .0 .0 .0) (q .last .1 .1 .0) (q .last .1 .1 .1 .0) (y .0 .0) (o .ensures .1) (low .small) (low .new) (subst (Lowered 128 (length (a .lows .now)) (Allowed (a .lows .now) (a .highs .now)) (l .by) (l .out) (triedOf (l .dead)) (outputsOf (o .result)) (l .own .0) (a .i .0) (q .last .1 .1 .0) (q .last .1 .1 .1 .0)) (y .1) (q .ensures)) .1)
 
 loop-again : tie.Need-loop-again Inv-loop μ-loop
 loop-again c =
-    let s = c .before .before .before .before .before .before .before .before .before .before .before .before .before .before .before .before .before .before .before .before .before .before .before .before .before .before in
+    let s = c .before .before .before .before .before .before .before .before .before .before .before .before .before .before .before .before .before .before .before .before .before .before .before .before .before .before .before in
     let a = s .args in
-    let l = c .before .before .before .before .before .before .before .before .before .before .before .before .before .before .before .before .loop in
-    let r = c .before .before .before .before .before .before .before .before .before .before .before .before .before .before .before .before .before .before .before .before .before .row-of in
-    let b = c .before .before .before .before .before .before .before .before .before .before .before .before .before .before .before .below in
-    let n = c .before .before .before .before .before .before .before .before .before .before .before .before .before .before .next in
+    let l = c .before .before .before .before .before .before .before .before .before .before .before .before .before .before .before .before .before .loop in
+    let r = c .before .before .before .before .before .before .before .before .before .before .before .before .before .before .before .before .before .before .before .before .before .before .row-of in
+    let b = c .before .before .before .before .before .before .before .before .before .before .before .before .before .before .before .before .below in
     let o = c .before .before .before .before .before .before .before .before .before .before .lowest-or-all in
+    let n = c .before .before .before .before .before .before .before .before .before .before .before .before .before .before .before .next in
     let q = c .before .before .before .before .before .before .before .ask-lower in
-    let x = c .before .before .before .before .before .before .before .before .before .before .before .before .f .given in
+    let x = c .before .before .before .before .before .before .before .before .before .before .before .before .before .f .given in
     let y = c .before .a .given in
     let low = lowest-at 128 (outputsOf (b .result)) (triedOf (l .dead)) (n .result) (x .0 .0) (n .ensures) (x .1) in
-    lower-more 128 (length (a .lows .now)) (Allowed (a .lows .now) (a .highs .now)) (a .out .now) (l .by) (l .out) (triedOf (a .firm .fixed)) (triedOf (l .dead)) (l .own .0) (a .i .0) (s .pre .1) (l .inv) (outputsOf (r .result)) (outputsOf (b .result)) (b .ensures) (outputsOf (o .result)) (x .0 .0 .0) (q .last .1 .1 .0) (q .last .1 .1 .1 .0) (y .0 .0) (o .ensures .1) (low .small) (low .new)
-    (subst (Lowered 128 (length (a .lows .now)) (Allowed (a .lows .now) (a .highs .now)) (l .by) (l .out) (triedOf (l .dead)) (outputsOf (o .result)) (l .own .0) (a .i .0) (q .last .1 .1 .0) (q .last .1 .1 .1 .0)) (y .1) (q .ensures)) .0
+    lower-more 128 (length (a .lows .now)) (Allowed (a .lows .now) (a .highs .now)) (a .out .now) (l .by) (l .out) (triedOf (a .firm .fixed)) (triedOf (l .dead)) (l .own .0) (a .i .0) (s .pre .1) (l .inv) (outputsOf (r .result)) (outputsOf (b .result)) (b .ensures) (outputsOf (o .result)) (x .0 .0 .0) (q .last .1 .1 .0) (q .last .1 .1 .1 .0) (y .0 .0) (o .ensures .1) (low .small) (low .new) (subst (Lowered 128 (length (a .lows .now)) (Allowed (a .lows .now) (a .highs .now)) (l .by) (l .out) (triedOf (l .dead)) (outputsOf (o .result)) (l .own .0) (a .i .0) (q .last .1 .1 .0) (q .last .1 .1 .1 .0)) (y .1) (q .ensures)) .0
 
 loop-less-2 : tie.Need-loop-less-2 Inv-loop μ-loop
 loop-less-2 c =
-    let s = c .before .before .before .before .before .before .before .before .before .before .before .before .before .before .before .before .before .before .before .before .before .before .before .before .before .before .before in
+    let s = c .before .before .before .before .before .before .before .before .before .before .before .before .before .before .before .before .before .before .before .before .before .before .before .before .before .before .before .before in
     let a = s .args in
-    let l = c .before .before .before .before .before .before .before .before .before .before .before .before .before .before .before .before .before .loop in
-    let r = c .before .before .before .before .before .before .before .before .before .before .before .before .before .before .before .before .before .before .before .before .before .before .row-of in
-    let b = c .before .before .before .before .before .before .before .before .before .before .before .before .before .before .before .before .below in
+    let l = c .before .before .before .before .before .before .before .before .before .before .before .before .before .before .before .before .before .before .loop in
+    let r = c .before .before .before .before .before .before .before .before .before .before .before .before .before .before .before .before .before .before .before .before .before .before .before .row-of in
+    let b = c .before .before .before .before .before .before .before .before .before .before .before .before .before .before .before .before .before .below in
     let o = c .before .before .before .before .before .before .before .before .before .before .before .lowest-or-all in
+    let u = c .before .before .before .before .before .before .before .before .before .before .before .before .but in
     let q = c .before .before .before .before .before .before .before .before .ask-lower in
     let y = c .before .before .a2 .given in
-    omega (
-      arith,
-      lower-again 128 (length (a .lows .now)) (Allowed (a .lows .now) (a .highs .now)) (a .out .now) (l .by) (l .out) (triedOf (a .firm .fixed)) (triedOf (l .dead)) (l .own .0) (a .i .0) (s .pre .1) (l .inv) (outputsOf (r .result)) (outputsOf (b .result)) (b .ensures) (outputsOf (o .result)) (q .last .1 .1 .0) (q .last .1 .1 .1 .0) (y .0 .0) (y .0 .1 .0) (o .ensures .0)
-          (subst (Lowered 128 (length (a .lows .now)) (Allowed (a .lows .now) (a .highs .now)) (l .by) (l .out) (triedOf (l .dead)) (outputsOf (o .result)) (l .own .0) (a .i .0) (q .last .1 .1 .0) (q .last .1 .1 .1 .0)) (y .1) (q .ensures)) .1,
-    )
+    omega (arith, lower-again 128 (length (a .lows .now)) (Allowed (a .lows .now) (a .highs .now)) (a .out .now) (l .by) (l .out) (triedOf (a .firm .fixed)) (triedOf (l .dead)) (l .own .0) (a .i .0) (s .pre .1) (l .inv) (outputsOf (r .result)) (outputsOf (b .result)) (b .ensures) (outputsOf (o .result)) (q .last .1 .1 .0) (q .last .1 .1 .1 .0) (y .0 .0) (y .0 .1 .0) (λ k z. u .ensures .less k (o .ensures .0 k z)) (subst (Lowered 128 (length (a .lows .now)) (Allowed (a .lows .now) (a .highs .now)) (l .by) (l .out) (triedOf (l .dead)) (outputsOf (o .result)) (l .own .0) (a .i .0) (q .last .1 .1 .0) (q .last .1 .1 .1 .0)) (y .1) (q .ensures)) .1)
 
 loop-again-2 : tie.Need-loop-again-2 Inv-loop μ-loop
 loop-again-2 c =
-    let s = c .before .before .before .before .before .before .before .before .before .before .before .before .before .before .before .before .before .before .before .before .before .before .before .before .before .before .before in
+    let s = c .before .before .before .before .before .before .before .before .before .before .before .before .before .before .before .before .before .before .before .before .before .before .before .before .before .before .before .before in
     let a = s .args in
-    let l = c .before .before .before .before .before .before .before .before .before .before .before .before .before .before .before .before .before .loop in
-    let r = c .before .before .before .before .before .before .before .before .before .before .before .before .before .before .before .before .before .before .before .before .before .before .row-of in
-    let b = c .before .before .before .before .before .before .before .before .before .before .before .before .before .before .before .before .below in
+    let l = c .before .before .before .before .before .before .before .before .before .before .before .before .before .before .before .before .before .before .loop in
+    let r = c .before .before .before .before .before .before .before .before .before .before .before .before .before .before .before .before .before .before .before .before .before .before .before .row-of in
+    let b = c .before .before .before .before .before .before .before .before .before .before .before .before .before .before .before .before .before .below in
     let o = c .before .before .before .before .before .before .before .before .before .before .before .lowest-or-all in
+    let u = c .before .before .before .before .before .before .before .before .before .before .before .before .but in
     let q = c .before .before .before .before .before .before .before .before .ask-lower in
     let y = c .before .before .a2 .given in
-    lower-again 128 (length (a .lows .now)) (Allowed (a .lows .now) (a .highs .now)) (a .out .now) (l .by) (l .out) (triedOf (a .firm .fixed)) (triedOf (l .dead)) (l .own .0) (a .i .0) (s .pre .1) (l .inv) (outputsOf (r .result)) (outputsOf (b .result)) (b .ensures) (outputsOf (o .result)) (q .last .1 .1 .0) (q .last .1 .1 .1 .0) (y .0 .0) (y .0 .1 .0) (o .ensures .0)
-    (subst (Lowered 128 (length (a .lows .now)) (Allowed (a .lows .now) (a .highs .now)) (l .by) (l .out) (triedOf (l .dead)) (outputsOf (o .result)) (l .own .0) (a .i .0) (q .last .1 .1 .0) (q .last .1 .1 .1 .0)) (y .1) (q .ensures)) .0
+    lower-again 128 (length (a .lows .now)) (Allowed (a .lows .now) (a .highs .now)) (a .out .now) (l .by) (l .out) (triedOf (a .firm .fixed)) (triedOf (l .dead)) (l .own .0) (a .i .0) (s .pre .1) (l .inv) (outputsOf (r .result)) (outputsOf (b .result)) (b .ensures) (outputsOf (o .result)) (q .last .1 .1 .0) (q .last .1 .1 .1 .0) (y .0 .0) (y .0 .1 .0) (λ k z. u .ensures .less k (o .ensures .0 k z)) (subst (Lowered 128 (length (a .lows .now)) (Allowed (a .lows .now) (a .highs .now)) (l .by) (l .out) (triedOf (l .dead)) (outputsOf (o .result)) (l .own .0) (a .i .0) (q .last .1 .1 .0) (q .last .1 .1 .1 .0)) (y .1) (q .ensures)) .0
 
 pub settle-spec : {M : Type 1} → statement M
 settle-spec =
     tie.close
     (tie.spec
     Inv-loop μ-loop row-of-requires output-of-requires dead-for-requires loop-holds below-requires (λ c κs. search needs) (λ c. search needs)
-    (λ c. search needs) mark-requires mark-requires-2 same-length same-length-2 returns lowest-or-all-requires ask-lower-requires (λ c. search needs)
+    (λ c. search needs) mark-requires mark-requires-2 same-length same-length-2 returns (λ c κs. search needs) lowest-or-all-requires ask-lower-requires (λ c. search needs)
     loop-less loop-again (λ c. search needs) loop-less-2 loop-again-2)
