@@ -45,6 +45,8 @@ def reads():
             yield read(f"N = {n}, {name}, middle of three", n, [(sound(n), 1), (change(sound(n, 1)), 1), (sound(n, 2), 1)])
     for name, outputs in (("0 and 64", [0, 64]), ("64 twice", [64, 64]), ("1 and 65 and 1", [1, 65, 1]), ("63, 64, 127", [63, 64, 127]), ("127 first and last", [127, *[IDLE] * 126, 127])):
         yield read(f"N = 128, outputs {name}", 128, [(ref.record_bytes(9, 128, outputs, SECOND), 1)])
+    for output in (128, 129, 192, 254):
+        yield read(f"N = 128, output {output}", 128, [(sound(128), 1), (first_to(128, output), 1)])
     for tail in (1, 4, 68, 131):
         yield read(f"a tail of {tail}", 70, [(sound(70), 2), (sound(70)[:tail], 1)])
         yield read(f"only a tail of {tail}", 70, [(sound(70)[:tail], 1)])
