@@ -190,9 +190,52 @@ pub fn second<'a>(call: &str, demand: &'a Demand) -> Pair<'a> {
     }
 }
 
+/// The calls that are timed in both editions.
+#[cfg(feature = "proved")]
+pub const EDITIONS: [&str; 5] = ["exact", "doubled", "quick", "check", "join"];
+
+/// The second edition's call, and in the reference's place the first's, both proved.
+#[cfg(feature = "proved")]
+pub fn editions<'a>(call: &str, demand: &'a Demand) -> Pair<'a> {
+    use chordvenus::{second, Answer};
+    let (n, cells) = (demand.n as u64, &demand.cells);
+    let mut moved = vec![0; demand.records() * RECORD_SIZE_SECOND];
+    chordvenus::to_second(n, &demand.plan, &mut moved).done().expect("a sound plan");
+    let planner = |planner: fn(u64, &[u32], &mut [u8]) -> Answer, cells: Vec<u32>| {
+        let mut plan = vec![0; ROOM * RECORD_SIZE_SECOND];
+        Box::new(move || run(planner(n, black_box(&cells), &mut plan)))
+    };
+    let join = |join: fn(u64, &[u8], &mut [u8]) -> Answer, plan: Vec<u8>| {
+        let mut joined = vec![0; plan.len()];
+        Box::new(move || run(join(n, black_box(&plan), &mut joined)))
+    };
+    match call {
+        "exact" => Pair {
+            reference: planner(chordvenus::exact, cells.clone()),
+            proved: planner(second::exact, cells.clone()),
+        },
+        "doubled" => Pair {
+            reference: planner(chordvenus::doubled, cells.clone()),
+            proved: planner(second::doubled, cells.clone()),
+        },
+        "quick" => Pair {
+            reference: planner(chordvenus::quick, demand.quick_cells()),
+            proved: planner(second::quick, demand.quick_cells()),
+        },
+        "check" => Pair {
+            reference: Box::new(move || run(chordvenus::check(n, black_box(cells), &demand.plan))),
+            proved: Box::new(move || run(second::check(n, black_box(cells), &moved))),
+        },
+        _ => Pair {
+            reference: join(chordvenus::join, longest(&demand.plan, RECORD_SIZE)),
+            proved: join(second::join, longest(&moved, RECORD_SIZE_SECOND)),
+        },
+    }
+}
+
 /// A plan of 8,192 records: this one over and over.
-fn longest(plan: &[u8]) -> Vec<u8> {
-    plan.iter().copied().cycle().take(MOST_RECORDS * RECORD_SIZE).collect()
+fn longest(plan: &[u8], record: usize) -> Vec<u8> {
+    plan.iter().copied().cycle().take(MOST_RECORDS * record).collect()
 }
 
 pub fn pair<'a>(call: &str, demand: &'a Demand) -> Pair<'a> {
@@ -214,8 +257,8 @@ pub fn pair<'a>(call: &str, demand: &'a Demand) -> Pair<'a> {
         }),
         "check" => both!(library => move || run(library::check(n, black_box(cells), plan))),
         "length" => both!(library => move || run(library::length(n, black_box(plan), 5))),
-        "join" => join(n, longest(plan)),
-        "in_force" => in_force(n, longest(plan)),
+        "join" => join(n, longest(plan, RECORD_SIZE)),
+        "in_force" => in_force(n, longest(plan, RECORD_SIZE)),
         "carry_over" => carry_over(demand),
         "shop" => both!(library => {
             let mut tasks = vec![0; demand.n * demand.n * TASK_SIZE];

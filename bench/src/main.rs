@@ -36,7 +36,10 @@ fn main() -> io::Result<()> {
     same_search(&mut report);
     exact_and_peers(&mut report, &work, "The exact plan and its peers", &demands(&SIZES), calls::pair);
     second_edition(&mut report, &work);
+    #[cfg(feature = "proved")]
+    editions(&mut report);
     growth(&mut report);
+    report.say(include_str!("../tried.md"));
     gate_time(&mut report);
     fs::write(&out, report.text)
 }
@@ -180,6 +183,22 @@ fn second_edition(report: &mut Report, work: &Path) {
     }
     report.table(&["call", "demand", "N = 96", "N = 128"], &rows);
     exact_and_peers(report, work, "The second edition's exact plan and its peers", &demands, calls::second);
+}
+
+#[cfg(feature = "proved")]
+fn editions(report: &mut Report) {
+    report.say("## The second edition beside the first\n");
+    report.say(
+        "Both proved, on switches of 64 ports, which both editions take. The second edition's time over the \
+         first's, then both times.\n",
+    );
+    let demands = demands(&[64]);
+    let row = |call: &str| {
+        let mut row = vec![call.to_string()];
+        row.extend(demands.iter().map(|demand| compared(calls::editions(call, demand).time())));
+        row
+    };
+    report.table(&["call", "dense", "sparse", "small"], &calls::EDITIONS.map(row));
 }
 
 fn exact_and_peers(report: &mut Report, work: &Path, title: &str, demands: &[Demand], pair: PairOf) {
