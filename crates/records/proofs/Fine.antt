@@ -105,6 +105,11 @@ module _ (N : ℕ) (o : List ℕ) (i v : ℕ) (e : v ≡ getD o i 0) (s : List B
   fine-more fine q =
       ap₂ _&&_ q judged ∙ both (all i (inside N o)) (all i (new o)) (inside N o i) (new o i) ∙ sym (ap₂ _&&_ (all-step i (inside N o)) (all-step i (new o)))
 
+-- one output more that is a port or idle, or is not
+pub inside-more : (N : ℕ) (o : List ℕ) (i : ℕ) (fine : Bool) → fine ≡ all i (inside N o) → (fine && (ltb (getD o i 0) N || idle o i)) ≡ all (i + 1) (inside N o)
+unfolding inside
+inside-more N o i fine q = ap (λ (x : Bool). x && (ltb (getD o i 0) N || idle o i)) q ∙ sym (all-step i (inside N o))
+
 -- an output from N on is fine where it is idle
 pub later-more : (N : ℕ) (o : List ℕ) (i : ℕ) → N ≤ i → (idles : Bool) → idles ≡ all i (later N o) → (idles && idle o i) ≡ all (i + 1) (later N o)
 unfolding later

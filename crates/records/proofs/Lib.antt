@@ -5,6 +5,7 @@ pub mod Part
 pub mod Round
 pub mod Every
 pub mod Fine
+pub mod Apart
 pub mod Write
 pub mod Meaning
 pub mod Sound

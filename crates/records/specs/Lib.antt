@@ -1,4 +1,5 @@
 pub mod Record
+pub mod Places
 pub mod Bytes
 pub mod Write
 pub mod Laying
