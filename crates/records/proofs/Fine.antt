@@ -11,7 +11,8 @@ use lib.ListN.{length, getD, set, replicate, length-set, length-replicate}
 use lib.Seq.{getD-set-same, getD-set-other}
 use borrow.Author.Tests.{lt-ltb, le-ltb, eq-eqb, ne-eqb}
 use Rattle.records.specs.Record.{all, any, hold, outputs, idle, inside, new, later, outputsFine, wellFormed}
-use Rattle.records.proofs.Every.{all-step, any-more}
+use Rattle.apart.specs.Fine.{Fine}
+use Rattle.records.proofs.Every.{all-intro, all-step, any-more, any-none}
 
 -- the output of input i
 module _ (N : ℕ) (o : List ℕ) (i : ℕ) where
@@ -105,10 +106,17 @@ module _ (N : ℕ) (o : List ℕ) (i v : ℕ) (e : v ≡ getD o i 0) (s : List B
   fine-more fine q =
       ap₂ _&&_ q judged ∙ both (all i (inside N o)) (all i (new o)) (inside N o i) (new o i) ∙ sym (ap₂ _&&_ (all-step i (inside N o)) (all-step i (new o)))
 
--- one output more that is a port or idle, or is not
-pub inside-more : (N : ℕ) (o : List ℕ) (i : ℕ) (fine : Bool) → fine ≡ all i (inside N o) → (fine && (ltb (getD o i 0) N || idle o i)) ≡ all (i + 1) (inside N o)
-unfolding inside
-inside-more N o i fine q = ap (λ (x : Bool). x && (ltb (getD o i 0) N || idle o i)) q ∙ sym (all-step i (inside N o))
+-- outputs that are told to be fine are so
+pub told : (N : ℕ) (o : List ℕ) → Fine N o → (all N (inside N o) && all N (new o)) ≡ true
+told N o f = rw (all-intro N (inside N o) (λ i l. in-range i l (ℕ-discrete (getD o i 0) 255)), all-intro N (new o) (λ i l. first i l (ℕ-discrete (getD o i 0) 255)))
+  where
+    in-range : (i : ℕ) → i < N → Dec (getD o i 0 ≡ 255) → inside N o i ≡ true
+    in-range i l (yes e) = inside-idle N o i e
+    in-range i l (no ne) = inside-below N o i (f .ports i l ne)
+
+    first : (i : ℕ) → i < N → Dec (getD o i 0 ≡ 255) → new o i ≡ true
+    first i l (yes e) = new-idle o i e
+    first i l (no ne) = new-first o i (any-none i _ (λ j g. ne-eqb (getD o j 0) (getD o i 0) (f .apart i j l g ne)))
 
 -- an output from N on is fine where it is idle
 pub later-more : (N : ℕ) (o : List ℕ) (i : ℕ) → N ≤ i → (idles : Bool) → idles ≡ all i (later N o) → (idles && idle o i) ≡ all (i + 1) (later N o)

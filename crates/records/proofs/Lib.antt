@@ -5,7 +5,6 @@ pub mod Part
 pub mod Round
 pub mod Every
 pub mod Fine
-pub mod Apart
 pub mod Write
 pub mod Meaning
 pub mod Sound

@@ -1,5 +1,4 @@
 pub mod Record
-pub mod Places
 pub mod Bytes
 pub mod Write
 pub mod Laying

@@ -9,13 +9,12 @@ use switch::Refusal;
 use switch::first_edition;
 use switch::second_edition;
 ghost use mathlib.Core.Path.{_≡_};
-ghost use mathlib.Core.Bool.{true, false, _&&_};
+ghost use mathlib.Core.Bool.{_&&_};
 ghost use Prim.Native.Nat.{_+_, _-_, _<_, _≤_};
 ghost use lib.ListN.{length};
 ghost use Rattle.switch.specs.Result.{Gives};
 ghost use Rattle.switch.specs.Editions.{firstEdition, secondEdition, Bounded};
 ghost use Rattle.records.specs.Record.{all, hold, inside, new, later, outputsFine, wellFormed};
-ghost use Rattle.records.specs.Places.{placesOf, placedBelow, Once};
 ghost use Rattle.records.specs.Bytes.{encode, laid};
 ghost use Rattle.records.specs.Write.{written};
 ghost use Rattle.records.specs.Laying.{LaidOne};
@@ -35,15 +34,6 @@ pub const IDLE: u8 = 255;
 
 // So many values has an output byte.
 const BYTES: usize = 256;
-
-// So many places has a word: that of an output is its number modulo 64. All places, the last one, and its bit.
-const WORD: usize = 64;
-
-const EVERY: u64 = 0xffff_ffff_ffff_ffff;
-
-const LAST: usize = 63;
-
-const LAST_PLACE: u64 = 0x8000_0000_0000_0000;
 
 // Writes one record where a lent buffer begins, or refuses with 1, 5 or 11 (§5.8). The record is written from a copy of the outputs: a
 // copy cannot share bytes with the buffer, so that many bytes are moved at once.
@@ -142,93 +132,16 @@ fn outputs_fine(outputs: &[u8], n: usize) -> bool
     later_idle(outputs, n)
 }
 
-// Are the outputs of the n inputs ports or idle, and is none of the ports there twice? Most are, and for most a few looks at many outputs
-// at once say so.
+// Are the outputs of the n inputs ports or idle, and is none of the ports there twice? Most are, and of those a few looks at many outputs at
+// once say so.
 pub fn setting_fine(outputs: &[u8], n: usize) -> bool
     requires { ⌜ (n ≤ 128) × (n ≤ length (now outputs)) ⌝ }
     ensures { λ r. ⌜ r ≡ (all n (inside n (now (outputs .entry))) && all n (new (now (outputs .entry)))) ⌝ }
 {
-    if surely_fine(outputs, n) {
+    if apart::surely_fine(outputs, n) {
         return true;
     }
     told_fine(outputs, n)
-}
-
-// Are they surely? Ports are told apart by their places in a word: so many places, so many ports. An idle input has the last place, as
-// port 63 has, of which there may be one alone. Where the answer is no, the outputs may be fine all the same.
-fn surely_fine(outputs: &[u8], n: usize) -> bool
-    requires { ⌜ n ≤ length (now outputs) ⌝ }
-    ensures { λ r. ⌜ (r ≡ true → (all n (inside n (now (outputs .entry))) && all n (new (now (outputs .entry)))) ≡ true) ⌝ }
-{
-    if n == 0 {
-        return false;
-    }
-    if WORD < n {
-        return false;
-    }
-    if !all_inside(outputs, n) {
-        return false;
-    }
-    let seen = places(outputs, n);
-    if seen == EVERY >> (WORD - n) {
-        return true;
-    }
-    if last_twice(outputs, n) {
-        return false;
-    }
-    u64::count_ones(seen % LAST_PLACE) == placed(outputs, n) as u32
-}
-
-// Are the outputs of the n inputs ports or idle?
-fn all_inside(outputs: &[u8], n: usize) -> bool
-    requires { ⌜ (n ≤ 64) × (n ≤ length (now outputs)) ⌝ }
-    ensures { λ r. ⌜ r ≡ all n (inside n (now (outputs .entry))) ⌝ }
-{
-    let end = n as u8;
-    let mut fine = true;
-    for i in 0..n {
-        fine = fine & ((outputs[i] < end) | (outputs[i] == IDLE));
-    }
-    fine
-}
-
-// The places that the outputs of the n inputs have.
-fn places(outputs: &[u8], n: usize) -> u64
-    requires { ⌜ n ≤ length (now outputs) ⌝ }
-    ensures { λ r. ⌜ r ≡ placesOf (now (outputs .entry)) n ⌝ }
-{
-    let mut seen: u64 = 0;
-    for i in 0..n {
-        seen = seen | (1u64 << (wide(outputs[i]) % WORD));
-    }
-    seen
-}
-
-// How many of the outputs have another place than the last.
-fn placed(outputs: &[u8], n: usize) -> u8
-    requires { ⌜ (n ≤ 64) × (n ≤ length (now outputs)) ⌝ }
-    ensures { λ r. ⌜ r ≡ placedBelow 63 (now (outputs .entry)) n ⌝ }
-{
-    let mut count: u8 = 0;
-    for i in 0..n {
-        count += (wide(outputs[i]) % WORD < LAST) as u8;
-    }
-    count
-}
-
-// Is port 63 there twice? Switches of fewer ports than 64 do not have it.
-fn last_twice(outputs: &[u8], n: usize) -> bool
-    requires { ⌜ (n ≤ 64) × (n ≤ length (now outputs)) ⌝ }
-    ensures { λ r. ⌜ (r ≡ false → n ≡ 64 → Once 63 (now (outputs .entry)) n) ⌝ }
-{
-    if n < WORD {
-        return false;
-    }
-    let mut count: u8 = 0;
-    for i in 0..n {
-        count += (wide(outputs[i]) == LAST) as u8;
-    }
-    1 < count
 }
 
 // Are they, told output by output? What was seen is told for each byte, and no branch waits for an output.

@@ -3,11 +3,11 @@ use mathlib.Core.Path.{_≡_, refl}
 use Prim.Native.Nat.{_-_, _≤_}
 use native.Mathlib.Nat.{mod-lt}
 use native.Mathlib.Omega.{arith}
-use Rattle.records.specs.Places.{placesOf}
-use Rattle.records.proofs.Apart.{places-more}
+use Rattle.apart.specs.Places.{placesOf}
+use Rattle.apart.proofs.Tally.{places-more}
 use borrow.Author.Needs.{needs}
-use Rattle.records.proofs.places.Statement.{statement}
-use Rattle.records.proofs.places.Tie as tie
+use Rattle.apart.proofs.places.Statement.{statement}
+use Rattle.apart.proofs.places.Tie as tie
 
 abbrev Inv-loop : tie.InvT-loop
 Inv-loop outputs n seen₀ i₀ seen i = (i ≤ n) × (seen ≡ placesOf outputs i)

@@ -3,11 +3,11 @@ use mathlib.Core.Path.{_≡_, refl}
 use Prim.Native.Nat.{_-_, _%_, _≤_}
 use lib.Dec.{ltb}
 use native.Mathlib.Omega.{arith}
-use Rattle.records.specs.Places.{placedBelow}
-use Rattle.records.proofs.Apart.{placed-more, placed-le, bit-le}
+use Rattle.apart.specs.Places.{placedBelow}
+use Rattle.apart.proofs.Tally.{placed-more, placed-le, bit-le}
 use borrow.Author.Needs.{needs}
-use Rattle.records.proofs.placed.Statement.{statement}
-use Rattle.records.proofs.placed.Tie as tie
+use Rattle.apart.proofs.placed.Statement.{statement}
+use Rattle.apart.proofs.placed.Tie as tie
 
 abbrev Inv-loop : tie.InvT-loop
 Inv-loop outputs n count₀ i₀ count i = (i ≤ n) × (count ≡ placedBelow 63 outputs i)

@@ -1,25 +1,28 @@
 -- The flag says of the inputs passed whether their outputs are ports or idle.
-use mathlib.Core.Path.{_≡_, refl}
+use mathlib.Core.Path.{_≡_}
 use Prim.Native.Nat.{_-_, _≤_}
 use native.Mathlib.Omega.{arith}
-use Rattle.records.specs.Record.{all, inside}
-use Rattle.records.proofs.Fine.{inside-more}
+use Rattle.apart.specs.Fine.{Ports}
+use mathlib.Core.Bool.{true}
+use Rattle.apart.proofs.Tally.{ports-more}
 use borrow.Author.Needs.{needs}
-use Rattle.records.proofs.all_inside.Statement.{statement}
-use Rattle.records.proofs.all_inside.Tie as tie
+use Rattle.apart.proofs.all_inside.Statement.{statement}
+use Rattle.apart.proofs.all_inside.Tie as tie
 
 abbrev Inv-loop : tie.InvT-loop
-Inv-loop outputs n end fine₀ i₀ fine i = (i ≤ n) × (fine ≡ all i (inside n outputs))
+Inv-loop outputs n end fine₀ i₀ fine i = (i ≤ n) × (fine ≡ true → Ports n outputs i)
 
 abbrev μ-loop : tie.MeasureT-loop
 μ-loop outputs n end fine₀ i₀ fine i = n - i
 
 loop-holds : tie.Need-loop-holds Inv-loop μ-loop
-unfolding all
-loop-holds c = (search needs, refl)
+loop-holds c = (search needs, λ e i l. absurd (omega arith))
 
 loop-again : tie.Need-loop-again Inv-loop μ-loop
-loop-again c = let l = c .before .before .before .loop in (omega arith, inside-more _ _ (l .i) _ (l .inv .1))
+loop-again c =
+    let l = c .before .before .before in
+    let a = l .before .args in
+    (omega arith, ports-more (a .n) (a .outputs .now) (l .loop .i) (l .loop .fine) (l .loop .inv .1))
 
 returns : tie.Need-returns Inv-loop μ-loop
 returns c =

@@ -4,10 +4,10 @@ use Prim.Native.Nat.{_-_, _≤_}
 use native.Mathlib.Omega.{arith}
 use lib.Dec.{eqb}
 use borrow.Author.Tests.{ltb-false}
-use Rattle.records.proofs.Apart.{Tallied, tallied-none, tallied-more, bit-le}
+use Rattle.apart.proofs.Tally.{Tallied, tallied-none, tallied-more, bit-le}
 use borrow.Author.Needs.{needs}
-use Rattle.records.proofs.last_twice.Statement.{statement}
-use Rattle.records.proofs.last_twice.Tie as tie
+use Rattle.apart.proofs.last_twice.Statement.{statement}
+use Rattle.apart.proofs.last_twice.Tie as tie
 
 abbrev Inv-loop : tie.InvT-loop
 Inv-loop outputs n count₀ i₀ count i = (i ≤ n) × Tallied 63 outputs i count

@@ -1,6 +1,6 @@
 -- A word has at most as many places set as outputs were put there, and where it has as many, no two outputs share a place.
 use mathlib.Core.Path.{_≡_, refl, sym, ap, _∙_, subst}
-use mathlib.Core.Bool.{Bool, true, false, _&&_, true≢false}
+use mathlib.Core.Bool.{Bool, true, false, _&&_, _||_, true≢false}
 use mathlib.Core.Logic.{_⊎_, inl, inr}
 use mathlib.Core.List.{List}
 use Prim.Native.Nat.{ℕ, zero, suc, _+_, _-_, _*_, _/_, _%_, _^_, _<_, _≤_}
@@ -14,13 +14,11 @@ use lib.Dec.{ltb, eqb}
 use lib.ListN.{getD}
 use lib.Pow.{pow-pos, pow-mono, mod-pow-add, ones-split, ones-lt, high}
 use mir.Val.{boolByte}
-use borrow.Author.Tests.{lt-ltb, le-ltb, eq-eqb, ne-eqb}
+use borrow.Author.Tests.{lt-ltb, le-ltb, ltb-true, eq-eqb, ne-eqb, eqb-true}
 use Rattle.sets.specs.Label.{digit, In, Marked}
 use Rattle.sets.proofs.Digits.{digit-lt, none-digit, one-shifted, marked}
-use Rattle.records.specs.Record.{all, inside, new}
-use Rattle.records.specs.Places.{place, placesOf, placedBelow, Once, Apart}
-use Rattle.records.proofs.Every.{all-intro, all-at, any-none}
-use Rattle.records.proofs.Fine.{inside-fails, new-idle, new-first}
+use Rattle.apart.specs.Fine.{Ports, Fine}
+use Rattle.apart.specs.Places.{place, placesOf, placedBelow, Once, Apart}
 
 -- ---- how many of the first w bits of a number are set
 
@@ -152,6 +150,20 @@ module _ (o : List ℕ) where
 
 -- ---- the loops of the check
 
+-- one output more that is a port or idle
+pub ports-more : (N : ℕ) (o : List ℕ) (i : ℕ) (fine : Bool) → (fine ≡ true → Ports N o i) → (fine && (ltb (getD o i 0) N || eqb (getD o i 0) 255)) ≡ true → Ports N o (i + 1)
+ports-more N o i true h e j l ne = go (eq-or-lt-of-le (le-of-suc-le-suc (rw add-one at l)))
+  where
+    port : (a b : Bool) → ltb (getD o i 0) N ≡ a → eqb (getD o i 0) 255 ≡ b → (a || b) ≡ true → (getD o i 0 ≡ 255 → ⊥) → getD o i 0 < N
+    port true b p q t n = ltb-true _ _ p
+    port false true p q t n = absurd (n (eqb-true _ _ q))
+    port false false p q t n = absurd (true≢false (sym t))
+
+    go : (j ≡ i) ⊎ (j < i) → getD o j 0 < N
+    go (inl x) = rw x (port _ _ refl refl e (λ q. ne (rw x q)))
+    go (inr g) = h refl j g ne
+ports-more N o i false h e j l ne = absurd (true≢false (sym e))
+
 pub places-more : (o : List ℕ) (i v : ℕ) → v ≡ getD o i 0 → bitOr (placesOf o i) ((1 * 2 ^ (v % 64)) % 2 ^ 64) ≡ placesOf o (i + 1)
 unfolding placesOf
 places-more o i v e = rw (e, one-shifted (place o i) (mod-lt (getD o i 0) (omega arith)), add-one)
@@ -220,40 +232,21 @@ unfolding placedBelow
 all-placed o zero = refl
 all-placed o (suc k) = rw (all-placed o k, lt-ltb (place o k) 64 (mod-lt (getD o k 0) (omega arith))) (add-one k)
 
--- outputs of which no two share a place, but for idle ones, are new
-new-of : (o : List ℕ) (n : ℕ) → ((i j : ℕ) → i < n → j < i → (getD o i 0 ≡ 255 → ⊥) → getD o j 0 ≡ getD o i 0 → ⊥) → all n (new o) ≡ true
-new-of o n h = all-intro n (new o) (λ i l. go i l (ℕ-discrete (getD o i 0) 255))
-  where
-    go : (i : ℕ) → i < n → Dec (getD o i 0 ≡ 255) → new o i ≡ true
-    go i l (yes e) = new-idle o i e
-    go i l (no ne) = new-first o i (any-none i _ (λ j g. ne-eqb (getD o j 0) (getD o i 0) (h i j l g ne)))
-
 -- as many places as outputs
-pub fine-full : (o : List ℕ) (n : ℕ) → n ≤ 64 → all n (inside n o) ≡ true → placesOf o n ≡ (2 ^ 64 - 1) / 2 ^ (64 - n) → (all n (inside n o) && all n (new o)) ≡ true
+pub fine-full : (o : List ℕ) (n : ℕ) → n ≤ 64 → Ports n o n → placesOf o n ≡ (2 ^ 64 - 1) / 2 ^ (64 - n) → Fine n o
 fine-full o n h ports e =
     let many : members 64 (placesOf o n) ≡ placedBelow 64 o n = ap (members 64) (e ∙ full-word n h) ∙ full-members n h ∙ sym (all-placed o n) in
     let apart = counted o 64 n .apart many in
-    rw (ports, new-of o n (λ i j li lj ne q. apart i j li lj (mod-lt (getD o i 0) (omega arith)) (ap (λ (x : ℕ). x % 64) q)))
+    record { ports = ports; apart = λ i j li lj ne q. apart i j li lj (mod-lt (getD o i 0) (omega arith)) (ap (λ (x : ℕ). x % 64) q) }
 
 -- as many places but for the last one as outputs with such a place, and port 63 once at most
-pub fine-part : (o : List ℕ) (n : ℕ) → n ≤ 64 → all n (inside n o) ≡ true → (n ≡ 64 → Once 63 o n) → ones (placesOf o n % 2 ^ 63) ≡ placedBelow 63 o n
-    → (all n (inside n o) && all n (new o)) ≡ true
-fine-part o n h ports once e = rw (ports, new-of o n apart)
+pub fine-part : (o : List ℕ) (n : ℕ) → n ≤ 64 → Ports n o n → (n ≡ 64 → Once 63 o n) → ones (placesOf o n % 2 ^ 63) ≡ placedBelow 63 o n → Fine n o
+fine-part o n h ports once e = record { ports = ports; apart = λ i j li lj ne q. apart i j li lj ne q (decLt (getD o i 0) 63) }
   where
-    port : (i : ℕ) → i < n → (getD o i 0 ≡ 255 → ⊥) → getD o i 0 < n
-    port i l ne = go (decLt (getD o i 0) n)
-      where
-        go : Dec (getD o i 0 < n) → getD o i 0 < n
-        go (yes g) = g
-        go (no g) = absurd (true≢false (sym (all-at n (inside n o) ports i l) ∙ inside-fails n o i (omega (arith, g)) ne))
-
-    apart : (i j : ℕ) → i < n → j < i → (getD o i 0 ≡ 255 → ⊥) → getD o j 0 ≡ getD o i 0 → ⊥
-    apart i j li lj ne q = go (decLt (getD o i 0) 63)
-      where
-        go : Dec (getD o i 0 < 63) → ⊥
-        go (yes g) =
-            let own : place o i ≡ getD o i 0 = mod-eq-of-lt (omega arith) in
-            counted o 63 n .apart (sym (ones-members 63 (placesOf o n)) ∙ e) i j li lj (omega arith) (ap (λ (x : ℕ). x % 64) q)
-        go (no g) =
-            let last : getD o i 0 ≡ 63 = omega (arith, port i li ne, g) in
-            once (omega (arith, port i li ne)) i j li lj last (q ∙ last)
+    apart : (i j : ℕ) → i < n → j < i → (getD o i 0 ≡ 255 → ⊥) → getD o j 0 ≡ getD o i 0 → Dec (getD o i 0 < 63) → ⊥
+    apart i j li lj ne q (yes g) =
+        let own : place o i ≡ getD o i 0 = mod-eq-of-lt (omega arith) in
+        counted o 63 n .apart (sym (ones-members 63 (placesOf o n)) ∙ e) i j li lj (omega arith) (ap (λ (x : ℕ). x % 64) q)
+    apart i j li lj ne q (no g) =
+        let last : getD o i 0 ≡ 63 = omega (arith, ports i li ne, g) in
+        once (omega (arith, ports i li ne)) i j li lj last (q ∙ last)

@@ -2,10 +2,10 @@
 use mathlib.Core.Path.{sym, _∙_}
 use mathlib.Core.Bool.{true≢false}
 use borrow.Author.Tests.{not-false, eqb-true}
-use Rattle.records.proofs.Apart.{fine-full, fine-part}
+use Rattle.apart.proofs.Tally.{fine-full, fine-part}
 use borrow.Author.Needs.{needs}
-use Rattle.records.proofs.surely_fine.Statement.{statement}
-use Rattle.records.proofs.surely_fine.Tie as tie
+use Rattle.apart.proofs.surely_fine.Statement.{statement}
+use Rattle.apart.proofs.surely_fine.Tie as tie
 
 returns : tie.Need-returns
 returns c = λ e. absurd (true≢false (sym e))
@@ -18,16 +18,14 @@ returns-3 c = λ e. absurd (true≢false (sym e))
 
 returns-4 : tie.Need-returns-4
 returns-4 c e =
-    let a = c .before .before .before .all-inside .ensures in
-    fine-full _ _ (c .before .before .before .before .if2 .left) (sym a ∙ not-false _ (c .before .before .if3 .left)) (sym (c .before .places .ensures) ∙ c .if4 .taken)
+    fine-full _ _ (c .before .before .before .before .if2 .left) (c .before .before .before .all-inside .ensures (not-false _ (c .before .before .if3 .left))) (sym (c .before .places .ensures) ∙ c .if4 .taken)
 
 returns-5 : tie.Need-returns-5
 returns-5 c = λ e. absurd (true≢false (sym e))
 
 returns-6 : tie.Need-returns-6
 returns-6 c e =
-    let a = c .before .before .before .before .before .before .all-inside .ensures in
-    fine-part _ _ (c .before .before .before .before .before .before .before .if2 .left) (sym a ∙ not-false _ (c .before .before .before .before .before .if3 .left)) (c .before .before .last-twice .ensures (c .before .if5 .left))
+    fine-part _ _ (c .before .before .before .before .before .before .before .if2 .left) (c .before .before .before .before .before .before .all-inside .ensures (not-false _ (c .before .before .before .before .before .if3 .left))) (c .before .before .last-twice .ensures (c .before .if5 .left))
     (rw (← c .before .before .before .before .places .ensures, ← c .placed .ensures) (eqb-true _ _ e))
 
 pub surely-fine-spec : {M : Type 1} → statement M
