@@ -1,4 +1,4 @@
--- The places of outputs in a word of 64. Definitions only.
+-- Inner: the places of outputs in a word of 64. Definitions only.
 use mathlib.Core.Path.{_≡_}
 use mathlib.Core.List.{List}
 use Prim.Native.Nat.{ℕ, zero, suc, _+_, _%_, _^_, _<_}

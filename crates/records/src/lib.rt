@@ -9,7 +9,7 @@ use switch::Refusal;
 use switch::first_edition;
 use switch::second_edition;
 ghost use mathlib.Core.Path.{_≡_};
-ghost use mathlib.Core.Bool.{_&&_};
+ghost use mathlib.Core.Bool.{true, _&&_};
 ghost use Prim.Native.Nat.{_+_, _-_, _<_, _≤_};
 ghost use lib.ListN.{length};
 ghost use Rattle.switch.specs.Result.{Gives};

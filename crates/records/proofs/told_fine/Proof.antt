@@ -22,7 +22,7 @@ loop-holds c = (search needs, seen-none _ _, refl)
 loop-again : tie.Need-loop-again Inv-loop μ-loop
 loop-again c =
     let l = c .before .before .before .loop in
-    let w = c .wide .ensures in
+    let w = c .size-of-byte .ensures in
     (omega arith, seen-more _ _ (l .i) _ (w .0) _ (l .inv .1) (w .1), fine-more _ _ (l .i) _ (w .0) _ (l .inv .1) _ (l .inv .2))
 
 returns : tie.Need-returns Inv-loop μ-loop
