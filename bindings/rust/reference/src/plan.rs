@@ -179,15 +179,19 @@ fn well_formed(n: usize, record: &[u8; RECORD_SIZE]) -> bool {
 /// The outputs of a well-formed record (§5.2): up to N below N or idle and no port twice, then idle.
 fn is_setting(n: usize, outputs: &[u8; MOST_PORTS]) -> bool {
     let (first, later) = outputs.split_at(n);
-    let mut used = 0u64;
-    for &output in first {
-        if output == IDLE {
-            continue;
-        }
-        if usize::from(output) >= n || used >> output & 1 == 1 {
-            return false;
-        }
-        used |= 1 << output;
+    let end = n as u8;
+    let inside = first.iter().fold(true, |inside, &output| inside & ((output < end) | (output == IDLE)));
+    inside && all_apart(first) && later.iter().fold(true, |idle, &output| idle & (output == IDLE))
+}
+
+/// Whether no port is among these outputs twice: as many bits are set as there are outputs. An idle input sets the last bit, as port 63
+/// does; so where some are idle that bit is left out, and the port is counted by itself.
+fn all_apart(outputs: &[u8]) -> bool {
+    let count = |of: fn(u8) -> bool| outputs.iter().fold(0u8, |count, &output| count + u8::from(of(output)));
+    let seen = outputs.iter().fold(0u64, |seen, &output| seen | 1 << (output % 64));
+    if seen == u64::MAX >> (MOST_PORTS - outputs.len()) {
+        return true;
     }
-    later.iter().fold(true, |idle, &output| idle & (output == IDLE))
+    let last_once = outputs.len() < MOST_PORTS || count(|output| output == 63) <= 1;
+    last_once && (seen % (1 << 63)).count_ones() == u32::from(count(|output| output < 63))
 }
