@@ -9,7 +9,7 @@ use Rattle.sets.specs.Label.{In}
 use Rattle.rules.specs.First.{Fits}
 use Rattle.rules.proofs.First.{first-of}
 use Rattle.search.specs.Tables.{Held, joined}
-use Rattle.matching.specs.Chosen.{Fixed, AllHeld, Best, Seating, CompletePost, Settled, SettledAll, Behind, Ready, Chosen}
+use Rattle.matching.specs.Chosen.{Fixed, AllHeld, Best, Seating, CompletePost, GivePre, Settled, SettledAll, Behind, Ready, Chosen}
 use Rattle.search.proofs.Tables.{one-holder, place}
 use Rattle.matching.proofs.Completing.{told}
 
@@ -53,13 +53,14 @@ module _ (w n : ℕ) (E : ℕ → ℕ → Type 0) (by₀ out₀ : List ℕ) (kno
       as-first : (m : ℕ) → m < firm → joined out' m ≡ joined out₀ m
       as-first m l = still m l ∙ p .same m l
 
+      -- the same are fixed
+      prefix : Fixed out' firm fixed
+      prefix = record { from = λ k x. let a = f .from k x in (a .0, a .1, still (a .0) (a .1) ∙ a .2); got = λ m l. subst (In fixed) (sym (still m l)) (f .got m l) }
+
       -- all are seated: it remains to settle those behind
       pub firm-settles : b ≡ true → Settled w n E by' out' fixed firm
-      firm-settles e = record { good = c .seating .good; all = λ m l. c .seating .begun m l (c .all e m); prefix = record { from = from; got = λ m l. subst (In fixed) (sym (still m l)) (f .got m l) }; best = best }
+      firm-settles e = record { good = c .seating .good; all = λ m l. c .seating .begun m l (c .all e m); prefix = prefix; best = best }
         where
-          from : (k : ℕ) → In fixed k → (m : ℕ) × (m < firm) × (joined out' m ≡ k)
-          from k x = let a = f .from k x in (a .0, a .1, still (a .0) (a .1) ∙ a .2)
-
           best : (m : ℕ) → m < firm → Best n E out' m
           best m l o g a =
               let q : m < n = omega (arith, p .short) in
@@ -67,15 +68,22 @@ module _ (w n : ℕ) (E : ℕ → ℕ → Type 0) (by₀ out₀ : List ℕ) (kno
               rw (as-first m l) z
 
       -- one was refused: something was fixed, and fewer are to be
-      pub firm-some : b ≡ false → 0 < firm
+      firm-some : b ≡ false → 0 < firm
       firm-some e = go firm refl
         where
           go : (x : ℕ) → firm ≡ x → 0 < x
           go zero z = absurd (c .none e (r .some .0) (r .some .1) (λ k m x h. let l = f .from k x .1 in absurd (omega arith)))
           go (suc x) z = omega arith
 
-      pub firm-place' : (m : ℕ) → m < firm → joined out' m < w
-      firm-place' m l = rw (still m l) (firm-place m l)
+      pub firm-gives : kept ≤ w → b ≡ false → GivePre w n E by' out' known' fixed firm
+      firm-gives wide e = record {
+        good = c .seating .good;
+        free = c .seating .free;
+        some = firm-some e;
+        short = omega (arith, p .short);
+        prefix = prefix;
+        held = λ m l. rw (still m l) (c .around .still (joined out m) (f .got m l) ∙ firm-held m l);
+      }
 
       pub firm-less : (firm' : ℕ) → firm' < firm → Firm w n E out₀ kept by' out' known' waiting' firm'
       firm-less firm' less = record {

@@ -4,5 +4,6 @@ pub mod Waiting
 pub mod Settling
 pub mod Behind
 pub mod Firm
+pub mod Giving
 pub mod Kept
 pub mod Unique

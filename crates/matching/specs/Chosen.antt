@@ -65,6 +65,32 @@ pub record CompletePost (w n : ℕ) (E : ℕ → ℕ → Type 0) (by out : List 
   pub all : full ≡ true → (m : ℕ) → In waiting' m → ⊥
   pub none : full ≡ false → NoneKeeps n E by fixed
 
+-- ---- who keeps its output
+
+-- what an input that may take `first` comes to while the inputs below `kept` keep theirs: these outputs, and each that the holder of
+-- one that is come to may take in its place
+pub data Reached (E : ℕ → ℕ → Type 0) (by : List ℕ) (kept first : ℕ) : ℕ → Type 0 where
+  its-own : (k : ℕ) → In first k → Reached E by kept first k
+  handed : (j m k : ℕ) → Reached E by kept first j → Held by j m → kept ≤ m → E m k → Reached E by kept first k
+
+-- it comes to an output that nobody holds
+abbrev pub Way : (E : ℕ → ℕ → Type 0) (by : List ℕ) (kept first : ℕ) → Type 0
+Way E by kept first = (k : ℕ) × Reached E by kept first k × (getD by k 0 ≡ 0)
+
+-- what giving way may start from: the inputs below `from` hold the outputs that are fixed, and an output that is not among `known` is free
+pub record GivePre (w n : ℕ) (E : ℕ → ℕ → Type 0) (by out : List ℕ) (known fixed from : ℕ) : Type 0 where
+  pub good : Matching w n E by out
+  pub free : Free w by known
+  pub some : 0 < from
+  pub short : from ≤ w
+  pub prefix : Fixed out from fixed
+  pub held : (m : ℕ) → m < from → Held by (joined out m) m
+
+-- fewer keep their outputs: none, or no more than leave the refused input a way
+pub record GivesWay (E : ℕ → ℕ → Type 0) (by : List ℕ) (first from r : ℕ) : Type 0 where
+  pub less : r < from
+  pub way : (r ≡ 0) ⊎ Way E by r first
+
 -- every input holds an output; those of the inputs below i are fixed, and each is the best
 pub record Settled (w n : ℕ) (E : ℕ → ℕ → Type 0) (by out : List ℕ) (fixed i : ℕ) : Type 0 where
   pub good : Matching w n E by out

@@ -27,8 +27,7 @@ ghost use Rattle.labels.specs.Ports.{outputsOf, inputsOf};
 ghost use Rattle.labels.specs.Rows.{rowOf};
 ghost use Rattle.switch.specs.Plan.{Full};
 ghost use Rattle.search.specs.Tables.{triedOf, Allowed, Rows, joined};
-ghost use Rattle.search.specs.Search.{Ports};
-ghost use Rattle.matching.specs.Chosen.{Fixed, AllHeld, Seating, SeatPre, SeatPost, CompletePost, Lowering, Lowered, Dead, SettledPost, SettledAll, Settled, Behind, Restored, Ready, Chosen};
+ghost use Rattle.matching.specs.Chosen.{Fixed, AllHeld, Seating, SeatPre, SeatPost, CompletePost, GivePre, GivesWay, Lowering, Lowered, Dead, SettledPost, SettledAll, Settled, Behind, Restored, Ready, Chosen};
 
 // Where seating inputs ended: whether all are seated, the outputs that are held, who waits still, and what the one that was refused may take.
 struct Seats {
@@ -138,7 +137,7 @@ fn fixed_below(out: &[u8], kept: usize) -> Tried
 }
 
 // As many inputs in front as keep their outputs next. Whoever the refused input leads to is followed with fewer and fewer of them kept,
-// from the last on, until an output that can be had at once is met. That this is so no promise rests on; it saves asking in vain.
+// from the last on, until an output that can be had at once is met: with more of them kept it would ask in vain.
 fn give_way(
     lows: &[u64],
     highs: &[u64],
@@ -148,8 +147,8 @@ fn give_way(
     fixed: Tried,
     from: usize,
 ) -> usize
-    requires { ⌜ Rows 128 (now lows) (now highs) × Ports 128 (length (now lows)) (now by) × (0 < from) × (from ≤ length (now out)) × ((m : ℕ) → m < from → joined (now out) m < 128) ⌝ }
-    ensures { λ r. ⌜ r < from ⌝ }
+    requires { ⌜ Rows 128 (now lows) (now highs) × GivePre 128 (length (now lows)) (Allowed (now lows) (now highs)) (now by) (now out) (outputsOf (s .held)) (triedOf fixed) from ⌝ }
+    ensures { λ r. ⌜ GivesWay (Allowed (now (lows .entry)) (now (highs .entry))) (now (by .entry)) (outputsOf (s .met)) from r ⌝ }
 {
     let held = s.held;
     let mut met = s.met;

@@ -4,8 +4,7 @@ use native.Mathlib.Omega.{arith}
 use lib.ListN.{length}
 use Rattle.labels.specs.Ports.{outputsOf, inputsOf}
 use Rattle.search.specs.Tables.{triedOf, Allowed}
-use Rattle.search.proofs.Search.{ports-of}
-use Rattle.matching.proofs.Firm.{Firm, firm-start, firm-place, all-held, firm-before, firm-settles, firm-some, firm-place', firm-less, firm-ends, behind}
+use Rattle.matching.proofs.Firm.{Firm, firm-start, firm-place, all-held, firm-before, firm-settles, firm-gives, firm-less, firm-ends, behind}
 use borrow.Author.Needs.{needs}
 use Rattle.matching.proofs.next_setting.Statement.{statement}
 use Rattle.matching.proofs.next_setting.Tie as tie
@@ -102,11 +101,10 @@ give-way-requires c κs =
     let l = c .before .before .before .before .before .before .before .before .before .before .before .before .loop in
     let x = c .before .before .before .before .before .before .before .before .before .before .fixed-below in
     let q = c .before .before .before .before .before .before .before .complete in
-    let g = q .ensures .seating .good in
-    (s .pre .0, ports-of 128 (length (a .lows .now)) (Allowed (a .lows .now) (a .highs .now)) (q .last .1 .1 .0) (q .last .1 .1 .1 .0) g, firm-some 128 (length (a .lows .now)) (Allowed (a .lows .now) (a .highs .now)) (a .by .now) (a .out .now) (outputsOf (a .held)) (inputsOf (a .waiting)) k (s .pre .1) few clear (l .by) (l .out) (outputsOf (l .s .held)) (inputsOf (l .s .waiting)) (l .firm) (l .inv) (triedOf (x .result)) (x .ensures) (q .last .1 .1 .0) (q .last .1 .1 .1 .0) (outputsOf (q .result .held)) (inputsOf (q .result .waiting)) (q .result .full) (q .ensures) (c .before .before .if1 .left), omega (arith, l .inv .short, few, s .pre .0 .few, g .outputs), firm-place' 128 (length (a .lows .now)) (Allowed (a .lows .now) (a .highs .now)) (a .by .now) (a .out .now) (outputsOf (a .held)) (inputsOf (a .waiting)) k (s .pre .1) few clear (l .by) (l .out) (outputsOf (l .s .held)) (inputsOf (l .s .waiting)) (l .firm) (l .inv) (triedOf (x .result)) (x .ensures) (q .last .1 .1 .0) (q .last .1 .1 .1 .0) (outputsOf (q .result .held)) (inputsOf (q .result .waiting)) (q .result .full) (q .ensures))
+    (s .pre .0, firm-gives 128 (length (a .lows .now)) (Allowed (a .lows .now) (a .highs .now)) (a .by .now) (a .out .now) (outputsOf (a .held)) (inputsOf (a .waiting)) k (s .pre .1) few clear (l .by) (l .out) (outputsOf (l .s .held)) (inputsOf (l .s .waiting)) (l .firm) (l .inv) (triedOf (x .result)) (x .ensures) (q .last .1 .1 .0) (q .last .1 .1 .1 .0) (outputsOf (q .result .held)) (inputsOf (q .result .waiting)) (q .result .full) (q .ensures) (omega (arith, few, s .pre .0 .few)) (c .before .before .if1 .left))
 
 loop-less : tie.Need-loop-less Inv-loop μ-loop
-loop-less c = c .give-way .ensures
+loop-less c = c .give-way .ensures .less
 
 loop-again : tie.Need-loop-again Inv-loop μ-loop
 loop-again c =
@@ -118,7 +116,7 @@ loop-again c =
     let l = c .before .before .before .before .before .before .before .before .before .before .before .before .before .loop in
     let x = c .before .before .before .before .before .before .before .before .before .before .before .fixed-below in
     let q = c .before .before .before .before .before .before .before .before .complete in
-    firm-less 128 (length (a .lows .now)) (Allowed (a .lows .now) (a .highs .now)) (a .by .now) (a .out .now) (outputsOf (a .held)) (inputsOf (a .waiting)) k (s .pre .1) few clear (l .by) (l .out) (outputsOf (l .s .held)) (inputsOf (l .s .waiting)) (l .firm) (l .inv) (triedOf (x .result)) (x .ensures) (q .last .1 .1 .0) (q .last .1 .1 .1 .0) (outputsOf (q .result .held)) (inputsOf (q .result .waiting)) (q .result .full) (q .ensures) (c .give-way .result) (c .give-way .ensures)
+    firm-less 128 (length (a .lows .now)) (Allowed (a .lows .now) (a .highs .now)) (a .by .now) (a .out .now) (outputsOf (a .held)) (inputsOf (a .waiting)) k (s .pre .1) few clear (l .by) (l .out) (outputsOf (l .s .held)) (inputsOf (l .s .waiting)) (l .firm) (l .inv) (triedOf (x .result)) (x .ensures) (q .last .1 .1 .0) (q .last .1 .1 .1 .0) (outputsOf (q .result .held)) (inputsOf (q .result .waiting)) (q .result .full) (q .ensures) (c .give-way .result) (c .give-way .ensures .less)
 
 pub next-setting-spec : {M : Type 1} → statement M
 next-setting-spec =
