@@ -10,7 +10,7 @@ use demand::check_demand;
 use labels::Inputs;
 use records::HEAD;
 use records::IDLE;
-use records::put_if;
+use records::put_record;
 use room::MOST_QUICK;
 use room::quick_records;
 use slot::Rest;
@@ -18,6 +18,7 @@ use slot::fill_slot;
 use switch::Counts;
 use switch::Edition;
 use switch::Outcome;
+use switch::PORTS;
 use switch::Refusal;
 use switch::WIDE_PORTS;
 ghost use mathlib.Core.Path.{_≡_};
@@ -25,12 +26,13 @@ ghost use mathlib.Core.Bool.{true};
 ghost use Prim.Native.Nat.{_+_, _*_, _<_, _≤_};
 ghost use lib.ListN.{length};
 ghost use Rattle.demand.specs.Lines.{Short};
+ghost use Rattle.records.specs.Bytes.{bytes};
 ghost use Rattle.rules.specs.Quick.{quickPlan};
-ghost use Rattle.switch.specs.Editions.{firstEdition, secondEdition, Bounded};
+ghost use Rattle.switch.specs.Editions.{firstEdition, secondEdition};
 ghost use Rattle.switch.specs.Result.{Gives};
 ghost use Rattle.planner.specs.Planned.{plannedUpTo};
-ghost use Rattle.slot.specs.Filled.{Copy};
-ghost use Rattle.quick.specs.Working.{CopyChecked, Ready, ShortOf, Fillable, Slots};
+ghost use Rattle.slot.specs.Filled.{leftover, Copy};
+ghost use Rattle.quick.specs.Lent.{Space, Lent, Asked, CopyChecked, ShortOf, laidIf, LaidOne};
 
 // The cells of a switch of 64 ports, and of 128.
 const CELLS: usize = 4096;
@@ -42,7 +44,19 @@ pub fn quick_plan(n: usize, cells: &[u32], plan: &mut [u8]) -> Outcome
     ensures { λ r. ⌜ Gives (plannedUpTo 1024 firstEdition n (now (cells .entry)) (quickPlan 64 n (now (cells .entry))) (now (plan .entry))) r (now (plan .exit)) ⌝ }
 {
     let mut work = [0u32; CELLS];
-    plan_for(switch::first_edition(), n, cells, &mut work, plan)
+    let mut lows = [0u64; PORTS];
+    let mut highs = [0u64; PORTS];
+    let mut out = [IDLE; PORTS];
+    plan_for(
+        switch::first_edition(),
+        n,
+        cells,
+        &mut work,
+        &mut lows,
+        &mut highs,
+        &mut out,
+        plan,
+    )
 }
 
 // The quick cover in the second edition.
@@ -50,21 +64,54 @@ pub fn quick_plan_second(n: usize, cells: &[u32], plan: &mut [u8]) -> Outcome
     ensures { λ r. ⌜ Gives (plannedUpTo 1024 secondEdition n (now (cells .entry)) (quickPlan 128 n (now (cells .entry))) (now (plan .entry))) r (now (plan .exit)) ⌝ }
 {
     let mut work = [0u32; WIDE_CELLS];
-    plan_for(switch::second_edition(), n, cells, &mut work, plan)
+    let mut lows = [0u64; WIDE_PORTS];
+    let mut highs = [0u64; WIDE_PORTS];
+    let mut out = [IDLE; WIDE_PORTS];
+    plan_for(
+        switch::second_edition(),
+        n,
+        cells,
+        &mut work,
+        &mut lows,
+        &mut highs,
+        &mut out,
+        plan,
+    )
 }
 
-// The quick cover of an edition. Lent beside the plan are the cells of its largest switch, for the working copy.
-pub fn plan_for(e: Edition, n: usize, cells: &[u32], work: &mut [u32], plan: &mut [u8]) -> Outcome
-    requires { ⌜ Bounded e × (e .ports * e .ports ≤ length (now work)) ⌝ }
+// The quick cover of an edition. Lent beside the plan are the cells of its largest switch, for the working copy, their labels, and the
+// outputs of a record.
+pub fn plan_for(
+    e: Edition,
+    n: usize,
+    cells: &[u32],
+    work: &mut [u32],
+    lows: &mut [u64],
+    highs: &mut [u64],
+    out: &mut [u8],
+    plan: &mut [u8],
+) -> Outcome
+    requires { ⌜ Lent e (now work) (now lows) (now highs) (now out) ⌝ }
     ensures { λ r. ⌜ Gives (plannedUpTo 1024 e n (now (cells .entry)) (quickPlan (e .width) n (now (cells .entry))) (now (plan .entry))) r (now (plan .exit)) ⌝ }
 {
-    match copy_checked(n, e.ports, cells, work) {
+    let checked = copy_checked(n, e.ports, cells, work);
+    match checked {
         Checked::Faulty(r) => Outcome::Refused(r),
         Checked::Fine(longest) => {
             if MOST_QUICK < longest {
                 return Outcome::Refused(Refusal::Longest);
             }
-            plan_checked(e, n, longest, cells, work, plan)
+            plan_checked(
+                n,
+                cells,
+                longest,
+                e,
+                plan,
+                work,
+                &mut lows[..n],
+                &mut highs[..n],
+                out,
+            )
         }
     }
 }
@@ -85,21 +132,24 @@ fn copy_checked(n: usize, most: usize, cells: &[u32], work: &mut [u32]) -> Check
 
 // The same for a demand that nothing but the room can refuse, and that is copied in.
 fn plan_checked(
-    e: Edition,
     n: usize,
-    longest: u64,
     cells: &[u32],
-    work: &mut [u32],
+    longest: u64,
+    e: Edition,
     plan: &mut [u8],
+    work: &mut [u32],
+    lows: &mut [u64],
+    highs: &mut [u64],
+    out: &mut [u8],
 ) -> Outcome
-    requires { ⌜ Ready e n longest (now cells) (now work) ⌝ }
+    requires { ⌜ Asked e n longest (now cells) (now work) × Space n (now work) (now lows) (now highs) (now out) × (length (now out) ≡ e .width) ⌝ }
     ensures { λ r. ⌜ Gives (plannedUpTo 1024 e n (now (cells .entry)) (quickPlan (e .width) n (now (cells .entry))) (now (plan .entry))) r (now (plan .exit)) ⌝ }
 {
-    let need = short_of(e, n, longest, cells, work, plan);
+    let need = short_of(n, cells, longest, e, plan, work, lows, highs, out);
     if need != 0 {
         return Outcome::Refused(Refusal::Room(need));
     }
-    let records = fill(e, n, work, true, plan);
+    let records = fill_slots(n, e.byte, plan, true, work, lows, highs, out);
     Outcome::Done(Counts {
         records: records,
         longest: longest,
@@ -112,21 +162,25 @@ fn plan_checked(
 // How many records the plan has, where the room is too small for them; and 0 where it is not. With the room that is promised beforehand
 // they are not counted; with less they are, and the demand is copied in again.
 fn short_of(
-    e: Edition,
     n: usize,
-    longest: u64,
     cells: &[u32],
-    work: &mut [u32],
+    longest: u64,
+    e: Edition,
     plan: &mut [u8],
+    work: &mut [u32],
+    lows: &mut [u64],
+    highs: &mut [u64],
+    out: &mut [u8],
 ) -> usize
-    requires { ⌜ Ready e n longest (now cells) (now work) ⌝ }
-    ensures { λ r. ⌜ ShortOf e n longest (now (cells .entry)) (now (plan .entry)) (now (plan .exit)) (now (work .exit)) r ⌝ }
+    requires { ⌜ Asked e n longest (now cells) (now work) × Space n (now work) (now lows) (now highs) (now out) × (length (now out) ≡ e .width) ⌝ }
+    ensures { λ r. ⌜ ShortOf (e .width) n (now (cells .entry)) (now (plan .entry)) (now (plan .exit)) (now (work .exit)) r ⌝ }
 {
-    let room = plan.len() / (e.width + HEAD);
+    let width = e.width;
+    let room = plan.len() / (width + HEAD);
     if quick_records(longest) <= room {
         return 0;
     }
-    let need = fill(e, n, work, false, plan);
+    let need = fill_slots(n, e.byte, plan, false, work, lows, highs, out);
     if room < need {
         return need;
     }
@@ -134,51 +188,42 @@ fn short_of(
     0
 }
 
-// All slots of the working copy, until nothing is left: how many they are, and their records at the plan's start where they are to be
-// written. The working copy is spent.
-fn fill(e: Edition, n: usize, work: &mut [u32], writes: bool, plan: &mut [u8]) -> usize
-    requires { ⌜ Fillable e n (now work) writes (now plan) ⌝ }
-    ensures { λ r. ⌜ Slots e n (now (work .entry)) writes (now (plan .entry)) (now (plan .exit)) r ⌝ }
-{
-    let width = e.width;
-    let mut lows = [0u64; WIDE_PORTS];
-    let mut highs = [0u64; WIDE_PORTS];
-    let mut out = [IDLE; WIDE_PORTS];
-    fill_slots(
-        e,
-        n,
-        work,
-        &mut lows[..n],
-        &mut highs[..n],
-        &mut out[..width],
-        writes,
-        plan,
-    )
-}
-
-// The same, with the labels of the working copy and the outputs of a slot lent.
+// All slots of the working copy, until nothing is left: how many they are, and their records at the plan's start where they are to be written.
+// The working copy is spent.
 fn fill_slots(
-    e: Edition,
     n: usize,
+    edition: u8,
+    plan: &mut [u8],
+    writes: bool,
     work: &mut [u32],
     lows: &mut [u64],
     highs: &mut [u64],
     out: &mut [u8],
-    writes: bool,
-    plan: &mut [u8],
 ) -> usize
-    requires { ⌜ Fillable e n (now work) writes (now plan) × (length (now lows) ≡ n) × (length (now highs) ≡ n) × (length (now out) ≡ e .width) ⌝ }
-    ensures { λ r. ⌜ Slots e n (now (work .entry)) writes (now (plan .entry)) (now (plan .exit)) r ⌝ }
+    requires { ⌜ Short n (now work) × Space n (now work) (now lows) (now highs) (now out) × (writes ≡ true → length (bytes edition n (leftover (length (now out)) n 0 (now work))) ≤ length (now plan)) ⌝ }
+    ensures { λ r. ⌜ (r ≡ length (leftover (length (now (out .entry))) n 0 (now (work .entry)))) × (now (plan .exit) ≡ laidIf writes (now (plan .entry)) 0 (bytes edition n (leftover (length (now (out .entry))) n 0 (now (work .entry))))) ⌝ }
 {
     let mut rest = load(n, work, lows, highs);
     let mut s: usize = 0;
     let mut at: usize = 0;
     while rest.left != 0 {
         rest = fill_slot(n, work, lows, highs, rest, s, out);
-        at = put_if(writes, plan, at, e.byte, 1, n, out);
+        at = lay(plan, at, writes, edition, n, out);
         s += 1;
     }
     s
+}
+
+// One slot's record over the plan from `at` on, where it is to be written; and where the next one goes.
+fn lay(plan: &mut [u8], at: usize, writes: bool, edition: u8, n: usize, out: &[u8]) -> usize
+    requires { ⌜ (n < 256) × (writes ≡ true → at + (length (now out) + 4) ≤ length (now plan)) ⌝ }
+    ensures { λ r. ⌜ LaidOne writes edition n (now (out .entry)) (now (plan .entry)) at (now (plan .exit)) r ⌝ }
+{
+    if writes {
+        put_record(plan, at, edition, 1, n, out);
+        return at + (out.len() + HEAD);
+    }
+    at
 }
 
 // The labels of the working copy, and what there is to serve: any input may ask.

@@ -1,5 +1,5 @@
 -- What is checked are the demand's own cells, in the copy; more of them than the copy has room for are never fine.
-use mathlib.Core.Path.{refl, sym, ap, _∙_, subst}
+use mathlib.Core.Path.{_≡_, refl, sym, ap, _∙_, subst}
 use native.Mathlib.Nat.{mul-le-mul}
 use native.Mathlib.Omega.{arith}
 use lib.ListN.{length, take, drop}
@@ -7,7 +7,7 @@ use lib.Seq.{take-at, length-take-le}
 use Rattle.switch.proofs.Demand.{cell-append}
 use Rattle.demand.specs.Check.{checkDemand}
 use Rattle.demand.proofs.Check.{fine-asked}
-use Rattle.quick.specs.Working.{Copied}
+use Rattle.quick.specs.Lent.{Copied}
 use borrow.Author.Needs.{needs}
 use Rattle.quick.proofs.copy_checked.Statement.{statement}
 use Rattle.quick.proofs.copy_checked.Tie as tie
