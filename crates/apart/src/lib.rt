@@ -2,6 +2,8 @@
 // of their own: where as many places are set as there are outputs, no two are the same. An idle input has the last place, as port 63 has; so
 // that place is left out where some are idle, and that port, of which there may be one, is counted by itself.
 // A yes is promised to be right. After a no the outputs may be fine all the same: to tell them one by one is left to the caller.
+#![tactic(auto)]
+
 ghost use Rattle.std.specs.Prelude.{◌≡◌, true, false, ◌<◌, ◌≤◌, length};
 ghost use Rattle.apart.specs.Places.{places_of, placed_below, Once};
 ghost use Rattle.apart.specs.Fine.{Ports, Fine};

@@ -1,6 +1,8 @@
 // The checks that every call on a demand shares: N (code 1), the cells lent (code 2), and the lines (code 3, with the line's side).
 // It promises each refusal exactly in its case and order (§9.9), and T where there is none. Cells are any 32-bit numbers, so a
 // line's sum is kept in 64 bits and cannot wrap. It also counts the slots asked. What a call then does with the demand is left to the crates above.
+#![tactic(auto)]
+
 ghost use Rattle.std.specs.Prelude.{◌≡◌, ℕ, ◌+◌, ◌*◌, ◌-◌, ◌<◌, ◌≤◌, length};
 ghost use Rattle.switch.specs.Demand.{cell, line, longest};
 ghost use Rattle.switch.specs.Empty.{all_slots};

@@ -1,6 +1,8 @@
 // Labels: sets of ports, each a set of numbers under a type of its own, so that no function takes inputs for outputs; and a label of
 // outputs for each input. This is the fast set of the matching search, of the record check and of the wish list; what a port's being
 // in a set means is left to the callers.
+#![tactic(auto)]
+
 ghost use Rattle.std.specs.Prelude.{◌≡◌, ℕ, ◌≤◌, ◌<◌, length};
 ghost use Rattle.sets.specs.Label.{In, Marked, Cleared, ClearedIf, Lowered, Union, But, Common, Below, From, Upto, Lowest, is_in};
 ghost use Rattle.labels.specs.Ports.{outputs_of, inputs_of, output_found, input_found, Untried};

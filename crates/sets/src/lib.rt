@@ -1,5 +1,7 @@
 // Sets of numbers as bits, by value: a number is in the set where that bit is 1, one word for numbers below 64 and two for 128.
 // Contracts speak of membership alone, so that no caller sees bits, and the laws hold of any number of words.
+#![tactic(auto)]
+
 ghost use Rattle.std.specs.Prelude.{◌≡◌, ℕ, ◌≤◌, ◌<◌};
 ghost use Rattle.sets.specs.Label.{In, Marked, Cleared, ClearedIf, Lowered, Union, But, Common, Below, From, Lowest, is_in};
 ghost use Rattle.sets.specs.Wide.{numbers_of};

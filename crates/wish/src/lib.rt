@@ -1,6 +1,8 @@
 // One wish: how many whole slots a binary32 value asks for, or why it is refused (codes 6, 7, 8).
 // Both calls answer for every input: every float, and each of the 2^32 patterns of bits.
 // Where a wish stands in a list, and for which pair of ports, is the crate `wishes`'s matter.
+#![tactic(auto)]
+
 ghost use Rattle.std.specs.Prelude.{◌≡◌};
 ghost use Rattle.wish.specs.Wish.{wish_of, wish_bits, worth, ceil_of, InRange, code_of, slots_of};
 
