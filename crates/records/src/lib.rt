@@ -1,6 +1,8 @@
 // One plan record (§5): when it is well formed, its hold and outputs, and writing one.
 // The description in specs/ is over a record's width and its edition byte, and the functions below the public calls are over the edition.
 // Writing promises its whole answer and every byte of lent memory, for any N; plans of many records are left to the crates above.
+#![tactic(auto)]
+
 ghost use Rattle.std.specs.Prelude.{◌≡◌, true, ◌&&◌, ◌+◌, ◌-◌, ◌<◌, ◌≤◌, length};
 ghost use Rattle.switch.specs.Result.{Gives};
 ghost use Rattle.switch.specs.Editions.{first_edition, second_edition, Bounded};

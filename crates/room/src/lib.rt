@@ -1,6 +1,8 @@
 // The room that always suffices: for each planner, from N and T alone, a number of records that no plan of its exceeds, so that memory
 // can be set aside before a demand is known. The calls promise their whole answer for any N and any T. That a planner lent this much
 // room never refuses for want of it is shown above the planners, which cite the same numbers where they need not count their records.
+#![tactic(auto)]
+
 ghost use Rattle.std.specs.Prelude.{◌≡◌, ◌*◌, ◌≤◌};
 ghost use Rattle.switch.specs.Editions.{first_edition, second_edition, Bounded};
 ghost use Rattle.room.specs.declared.Planner.TheVariants.{Exact, Doubled, Quick};
