@@ -1,0 +1,14 @@
+-- The four stores lay the head, and each turn of the loop lays one output more behind it.
+use mathlib.Core.Path.{◌≡◌, refl, ◌∙◌}
+use Prim.Native.Nat.{◌+◌, ◌-◌, ◌%◌, ◌/◌, ◌≤◌}
+use native.Mathlib.Omega.{arith}
+use lib.ListN.{length, take, length-set}
+use Rattle.records.specs.Bytes.{laid}
+use Rattle.records.proofs.Laid.{laid-stores, copy-none, copy_more, copy-all}
+use Rattle.records.proofs.put_record.Given as goal
+
+abbrev pub invariant-loop-i : goal.invariant-loop-i
+invariant-loop-i l = (l.i ≤ length l.outputs) × (l.i-end ≡ length l.outputs) × (l.at + (length l.outputs + 4) ≤ length l.initial.plan) × (length l.plan ≡ length l.initial.plan) × (l.plan ≡ laid l.initial.plan (l.at + 4) (take l.i l.outputs))
+
+abbrev pub decreases-loop-i : goal.decreases-loop-i
+decreases-loop-i l = length l.outputs - l.i
