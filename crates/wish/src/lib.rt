@@ -109,6 +109,7 @@ fn rounded_up(x: f32) -> u32
 }
 
 // What a wish is worth whose least whole number not below it is `whole`. The counters throw the first slot away, so one is never enough.
+#[tactic(auto, unfolding(crate::specs::Wish::worth))]
 fn worth_of(whole: u32) -> u32
     ensures { result ≡ worth whole }
 {
