@@ -15,7 +15,7 @@ const VERSION: u64 = 1;
 
 // What every call answers; what does not apply is 0.
 #[repr(C)]
-#[derive(Drop)]
+#[derive(Clone, Copy)]
 pub struct CvAnswer {
     pub code: u64,
     pub place: u64,
@@ -34,7 +34,7 @@ pub struct CvAnswer {
 
 // One step of reading a plan: kind 0 is a record, 1 the end, 2 code 11.
 #[repr(C)]
-#[derive(Drop)]
+#[derive(Clone, Copy)]
 pub struct CvStep {
     pub kind: u64,
     pub place: u64,
@@ -44,7 +44,7 @@ pub struct CvStep {
 
 // The same in the second edition.
 #[repr(C)]
-#[derive(Drop)]
+#[derive(Clone, Copy)]
 pub struct Cv2Step {
     pub kind: u64,
     pub place: u64,
@@ -54,7 +54,7 @@ pub struct Cv2Step {
 
 // Where the record in force stands: bytes start .. start + size of plan 1, tonight's, or 2, standby's; all 0 where the lookup is refused.
 #[repr(C)]
-#[derive(Drop)]
+#[derive(Clone, Copy)]
 pub struct CvPart {
     pub answer: CvAnswer,
     pub plan: u64,

@@ -16,7 +16,7 @@ use switch::{About, Edition, Outcome, Refusal};
 const PAIRS: usize = 4096;
 
 // What a carry-over answers: nothing is counted.
-#[derive(Drop)]
+#[derive(Clone, Copy)]
 pub enum Carried {
     Done,
     // Why it is refused, and what that is about.

@@ -18,7 +18,7 @@ const PAIRS: usize = 4096;
 const WIDE_PAIRS: usize = 16384;
 
 // How a plan's grants meet a demand.
-#[derive(Drop)]
+#[derive(Clone, Copy)]
 pub enum Meeting {
     // The first cell that is granted less than asked.
     Misses(usize),

@@ -13,7 +13,7 @@ use numbers::long_of_word;
 use switch::{InputPort, LONGEST, OutputPort, Refusal, Side};
 
 // What the checks of a demand find: its longest line, or why it is refused.
-#[derive(Drop)]
+#[derive(Clone, Copy)]
 pub enum Checked {
     Fine(u64),
     Faulty(Refusal),

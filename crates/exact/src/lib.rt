@@ -28,7 +28,7 @@ const WIDE_CELLS: usize = 16384;
 
 // What becomes of the records of N ports and a longest line T: they are counted, or written over a plan from `at` on, so many outputs
 // each, and each held `unit` times as long.
-#[derive(Drop)]
+#[derive(Clone, Copy)]
 struct Job {
     n: usize,
     longest: u64,

@@ -12,22 +12,22 @@ use sets::{Found, Label, Wide};
 use switch::{InputPort, OutputPort};
 
 // A set of outputs.
-#[derive(Drop)]
+#[derive(Clone, Copy)]
 pub struct Outputs(pub Wide);
 
 // A set of inputs.
-#[derive(Drop)]
+#[derive(Clone, Copy)]
 pub struct Inputs(pub Wide);
 
 // The lowest output of a set.
-#[derive(Drop)]
+#[derive(Clone, Copy)]
 pub enum FoundOutput {
     At(OutputPort),
     Nothing,
 }
 
 // The lowest input of a set.
-#[derive(Drop)]
+#[derive(Clone, Copy)]
 pub enum FoundInput {
     At(InputPort),
     Nothing,

@@ -17,7 +17,7 @@ const TONIGHT: u64 = 1;
 const STANDBY: u64 = 2;
 
 // Where the record in force stands.
-#[derive(Drop)]
+#[derive(Clone, Copy)]
 pub enum Spot {
     // A record of tonight's plan.
     Tonight(usize),
@@ -28,7 +28,7 @@ pub enum Spot {
 }
 
 // A lookup in numbers: bytes start .. start + size of plan 1, tonight's, or 2, standby's; all three are 0 where it is refused.
-#[derive(Drop)]
+#[derive(Clone, Copy)]
 pub struct Found {
     pub outcome: Outcome,
     pub about: About,

@@ -16,7 +16,7 @@ use search::{Asked, Tried, ask_outputs, join, leads_to, release};
 use switch::{InputPort, OutputPort, WIDE_PORTS};
 
 // Where seating inputs ended: whether all are seated, the outputs that are held, who waits still, and what the one that was refused may take.
-#[derive(Drop)]
+#[derive(Clone, Copy)]
 struct Seats {
     full: bool,
     held: Outputs,
@@ -25,7 +25,7 @@ struct Seats {
 }
 
 // An input was seated, and these outputs are held now; or it was refused, and these it may take.
-#[derive(Drop)]
+#[derive(Clone, Copy)]
 enum Placed {
     Taken(Outputs),
     Refused(Outputs),
@@ -33,7 +33,7 @@ enum Placed {
 
 // The outputs that are fixed, with them those that lead nowhere else, and whether the input before this one was well advised to ask
 // for its lowest output alone: a hint, on which no promise rests.
-#[derive(Drop)]
+#[derive(Clone, Copy)]
 struct Prefix {
     fixed: Tried,
     dead: Tried,

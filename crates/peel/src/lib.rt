@@ -12,14 +12,14 @@ use search::release;
 use switch::OutputPort;
 
 // A setting that was taken off: how long it is held, and who sits where for the next one.
-#[derive(Drop)]
+#[derive(Clone, Copy)]
 pub struct Step {
     pub hold: u32,
     pub seats: Seats,
 }
 
 // The inputs that wait for an output, and every output but those that nobody holds.
-#[derive(Drop)]
+#[derive(Clone, Copy)]
 pub struct Seats {
     pub waiting: Inputs,
     pub held: Outputs,

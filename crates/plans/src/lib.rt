@@ -1,6 +1,8 @@
 // A plan as records one after the other: opening it, reading it step by step, and checking it whole (§5).
 // Every call promises its whole answer for any N and any bytes. The functions below the public calls take an edition, which says what
 // its records and their number are; the `Reader` over a plan stands in a crate of its own, and what a plan grants is left to others.
+#![tactic(auto)]
+
 ghost use Rattle.std.specs.Prelude.{◌≡◌, ◌+◌, ◌<◌, ◌≤◌, length, replicate};
 ghost use Rattle.switch.specs.Editions.{first_edition, second_edition, Bounded};
 ghost use Rattle.records.specs.Record.{outputs};
@@ -12,7 +14,7 @@ use records::{HEAD, IDLE};
 use switch::{Counts, Edition, Outcome, Refusal, first_edition, second_edition};
 
 // What a step over a plan finds.
-#[derive(Drop)]
+#[derive(Clone, Copy)]
 pub enum Step {
     // The next record.
     Record,
@@ -23,7 +25,7 @@ pub enum Step {
 }
 
 // A step, the hold and outputs of its record, and the record that the next step is at.
-#[derive(Drop)]
+#[derive(Clone, Copy)]
 pub struct Stepped {
     pub step: Step,
     pub hold: u16,
@@ -32,7 +34,7 @@ pub struct Stepped {
 }
 
 // The same in the second edition.
-#[derive(Drop)]
+#[derive(Clone, Copy)]
 pub struct SteppedSecond {
     pub step: Step,
     pub hold: u16,
@@ -41,7 +43,7 @@ pub struct SteppedSecond {
 }
 
 // A step but for the outputs.
-#[derive(Drop)]
+#[derive(Clone, Copy)]
 pub struct StepTaken {
     pub step: Step,
     pub hold: u16,

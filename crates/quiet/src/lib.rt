@@ -24,7 +24,7 @@ use records::{EDITION, IDLE, RECORD, put_record};
 use switch::{Counts, InputPort, Outcome, OutputPort, PORTS, Refusal};
 
 // What was laid: how many records, and their holds together.
-#[derive(Drop)]
+#[derive(Clone, Copy)]
 pub struct Laid {
     pub records: usize,
     pub total: u64,

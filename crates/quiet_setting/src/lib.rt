@@ -13,7 +13,7 @@ use switch::{InputPort, OutputPort, PORTS};
 use wavelengths::wavelength_of;
 
 // What a setting in the making has used up: the outputs that are taken, and those whose wavelength is full for the next input.
-#[derive(Drop)]
+#[derive(Clone, Copy)]
 pub struct Busy {
     pub taken: Label,
     pub full: Label,

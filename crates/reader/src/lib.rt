@@ -10,7 +10,7 @@ use plans::Stepped;
 use switch::Outcome;
 
 // A plan opened for n, and the record that the next step is at.
-#[derive(Drop)]
+#[derive(Clone, Copy)]
 pub struct Reader<'a> {
     pub n: usize,
     pub plan: &'a [u8],
@@ -18,7 +18,7 @@ pub struct Reader<'a> {
 }
 
 // What opening gives: its answer and the reader.
-#[derive(Drop)]
+#[derive(Clone, Copy)]
 pub struct Opened<'a> {
     pub answer: Outcome,
     pub reader: Reader<'a>,

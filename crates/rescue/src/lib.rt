@@ -23,7 +23,7 @@ use switch::{Counts, Edition, Outcome, Refusal};
 const PAIRS: usize = 4096;
 
 // What a rescue answers: a planner's outcome for the lent demand, and how many records were added and dropped; none where it is refused.
-#[derive(Drop)]
+#[derive(Clone, Copy)]
 pub struct Answer {
     pub outcome: Outcome,
     pub added: usize,
@@ -31,7 +31,7 @@ pub struct Answer {
 }
 
 // How many records a pass has kept, and their holds, summed.
-#[derive(Drop)]
+#[derive(Clone, Copy)]
 pub struct Kept {
     pub records: usize,
     pub total: u64,
@@ -39,7 +39,7 @@ pub struct Kept {
 
 // What is known before anything is written: T, the records kept and dropped, the total hold and the empty slots of all that is to be written,
 // and the longest line of what is left uncovered. Only how many records are added is not.
-#[derive(Drop)]
+#[derive(Clone, Copy)]
 pub struct Stock {
     pub longest: u64,
     pub kept: usize,

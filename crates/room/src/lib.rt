@@ -14,7 +14,7 @@ use switch::{Counts, Edition, LONGEST, Outcome, Refusal};
 pub const MOST_QUICK: u64 = 1024;
 
 // Whose plan is to find room.
-#[derive(Drop)]
+#[derive(Clone, Copy)]
 pub enum Planner {
     Exact,
     Doubled,

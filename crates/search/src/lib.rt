@@ -2,6 +2,8 @@
 // The crate takes a label of outputs for each input and the tables of a matching, and promises that one of the outputs asked for is free
 // afterwards, with every input that held an output still holding one, or that none can be. Who asks for what, and in which order, is left
 // to the crate above.
+#![tactic(auto)]
+
 ghost use Rattle.std.specs.Prelude.{◌≡◌, ℕ, ◌+◌, ◌<◌, ◌≤◌, length, set};
 ghost use Rattle.sets.specs.Label.{In, Marked, Union};
 ghost use Rattle.labels.specs.Ports.{outputs_of, Untried};
@@ -16,27 +18,27 @@ use switch::{InputPort, OutputPort};
 const FREE: u8 = 0;
 
 // The outputs tried so far. The search is handed the set and hands it back with more in it, or unchanged where nothing was left to try (§6.7).
-#[derive(Drop)]
+#[derive(Clone, Copy)]
 pub struct Tried {
     pub outputs: Outputs,
 }
 
 // What asking came to: one of the outputs asked for was made free, or none can be. What is tried by then comes back either way.
-#[derive(Drop)]
+#[derive(Clone, Copy)]
 pub enum Asked {
     Freed(Given, Tried),
     Stuck(Tried),
 }
 
 // The output that was made free, and the one that nobody held and that is spent on it: the same where nobody had to move.
-#[derive(Drop)]
+#[derive(Clone, Copy)]
 pub struct Given {
     pub output: OutputPort,
     pub spent: OutputPort,
 }
 
 // What a wave of outputs leads to: to one of them that is free, or to all that their holders may take.
-#[derive(Drop)]
+#[derive(Clone, Copy)]
 pub struct Reached {
     pub free: FoundOutput,
     pub outputs: Outputs,

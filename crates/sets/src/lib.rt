@@ -10,18 +10,18 @@ ghost use Rattle.sets.specs.Wide.{numbers_of};
 const EVERY: u64 = 0xffff_ffff_ffff_ffff;
 
 // A set of numbers below 64.
-#[derive(Drop)]
+#[derive(Clone, Copy)]
 pub struct Label(pub u64);
 
 // A set of numbers below 128.
-#[derive(Drop)]
+#[derive(Clone, Copy)]
 pub struct Wide {
     pub low: Label,
     pub high: Label,
 }
 
 // The lowest number of a set.
-#[derive(Drop)]
+#[derive(Clone, Copy)]
 pub enum Found {
     At(usize),
     Nothing,

@@ -20,7 +20,7 @@ use switch::{Counts, InputPort, Outcome, OutputPort, PORTS, Refusal};
 use tasks::{TASK, put_task};
 
 // A set of inputs: one word holds those of a switch of 64 ports.
-#[derive(Drop)]
+#[derive(Clone, Copy)]
 pub struct InputSet(pub Label);
 
 impl InputSet {
@@ -64,21 +64,21 @@ impl InputSet {
 }
 
 // How many tasks are started, and the latest end of them.
-#[derive(Drop)]
+#[derive(Clone, Copy)]
 pub struct Begun {
     pub records: usize,
     pub latest: u32,
 }
 
 // What a turn passes on: the inputs that are idle, and what is started.
-#[derive(Drop)]
+#[derive(Clone, Copy)]
 pub struct Turned {
     pub idle: InputSet,
     pub begun: Begun,
 }
 
 // The ports, the switching time, and the moment that is planned.
-#[derive(Drop)]
+#[derive(Clone, Copy)]
 pub struct Clock {
     pub n: usize,
     pub d: u32,

@@ -12,14 +12,14 @@ use records::IDLE;
 use switch::InputPort;
 
 // What is left to serve: no input but these has slots left, and so many slots are left in all.
-#[derive(Drop)]
+#[derive(Clone, Copy)]
 pub struct Rest {
     pub inputs: Inputs,
     pub left: u64,
 }
 
 // What a turn leaves: which outputs are free in this slot, and what is left to serve.
-#[derive(Drop)]
+#[derive(Clone, Copy)]
 pub struct Turn {
     pub free: Outputs,
     pub rest: Rest,

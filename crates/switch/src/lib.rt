@@ -22,7 +22,7 @@ pub const WIDE_BYTE: u8 = 2;
 pub const LONGEST: u64 = 65535;
 
 // The records of an edition: how many outputs each has, the byte behind N, the largest N, and how many records a plan may have.
-#[derive(Drop)]
+#[derive(Clone, Copy)]
 pub struct Edition {
     pub width: usize,
     pub byte: u8,
@@ -31,21 +31,21 @@ pub struct Edition {
 }
 
 // The two sides are counted apart (§3.2): no function can take an input for an output.
-#[derive(Drop)]
+#[derive(Clone, Copy)]
 pub struct InputPort(pub usize);
 
-#[derive(Drop)]
+#[derive(Clone, Copy)]
 pub struct OutputPort(pub usize);
 
 // Which line of a demand: an input's row or an output's column.
-#[derive(Drop)]
+#[derive(Clone, Copy)]
 pub enum Side {
     Input(InputPort),
     Output(OutputPort),
 }
 
 // Why a call refuses: codes 1 to 13 in this order, then those of later requests. What a case holds is its place.
-#[derive(Drop)]
+#[derive(Clone, Copy)]
 pub enum Refusal {
     // N is not a number of ports.
     Ports,
@@ -86,7 +86,7 @@ pub enum Refusal {
 }
 
 // What a refusal is about, where a call reads more than one plan or demand.
-#[derive(Drop)]
+#[derive(Clone, Copy)]
 pub enum About {
     Nothing,
     Tonight,
@@ -98,7 +98,7 @@ pub enum About {
 }
 
 // What a call counted; what does not apply is 0.
-#[derive(Drop)]
+#[derive(Clone, Copy)]
 pub struct Counts {
     pub records: usize,
     pub longest: u64,
@@ -109,14 +109,14 @@ pub struct Counts {
 }
 
 // What a call answers.
-#[derive(Drop)]
+#[derive(Clone, Copy)]
 pub enum Outcome {
     Done(Counts),
     Refused(Refusal),
 }
 
 // An outcome on paper.
-#[derive(Drop)]
+#[derive(Clone, Copy)]
 pub struct Numbers {
     // 0 where nothing is refused.
     pub code: u64,
@@ -142,7 +142,7 @@ pub fn numbers_of(o: Outcome) -> Numbers
 }
 
 // A refusal's code, place and side.
-#[derive(Drop)]
+#[derive(Clone, Copy)]
 struct Entry(u64, usize, u64);
 
 // The tables of codes and places.

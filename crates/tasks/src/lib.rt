@@ -18,7 +18,7 @@ pub const START: usize = 4;
 pub const END: usize = 8;
 
 // What a pass over all records finds.
-#[derive(Drop)]
+#[derive(Clone, Copy)]
 pub struct Judged {
     pub first: usize,
     pub latest: u32,

@@ -17,7 +17,7 @@ use switch::{Edition, InputPort, OutputPort};
 const PLACES: usize = 128;
 
 // Which way the settings of the second part turn.
-#[derive(Drop)]
+#[derive(Clone, Copy)]
 pub enum Turning {
     // Rotations: input i to output (i + k) mod N.
     Forward,
@@ -26,7 +26,7 @@ pub enum Turning {
 }
 
 // How long a setting is held.
-#[derive(Drop)]
+#[derive(Clone, Copy)]
 pub enum Rule {
     // For the largest remainder among its pairs.
     Tight,
@@ -35,7 +35,7 @@ pub enum Rule {
 }
 
 // What a part of a plan comes to: its records and their total hold.
-#[derive(Drop)]
+#[derive(Clone, Copy)]
 pub struct Part {
     pub records: usize,
     pub total: u64,

@@ -18,7 +18,7 @@ pub const CELL: usize = 4;
 const BLANK: u8 = 170;
 
 // One step: its letter, its numbers, and how many bytes follow it.
-#[derive(Drop)]
+#[derive(Clone, Copy)]
 pub struct Step {
     pub letter: u8,
     pub small: usize,
@@ -28,7 +28,7 @@ pub struct Step {
 }
 
 // A call that a tape asks for: its step, how many bytes are laid for it, where its name starts, and where the next step does.
-#[derive(Drop)]
+#[derive(Clone, Copy)]
 pub struct Call {
     pub step: Step,
     pub laid: usize,

@@ -18,7 +18,7 @@ const UNSIGNED: u32 = 0x8000_0000;
 const NO_FRACTION: f32 = 8388608.0;
 
 // What a wish comes to.
-#[derive(Drop)]
+#[derive(Clone, Copy)]
 pub enum Wish {
     // The slots that it is given.
     Slots(u32),

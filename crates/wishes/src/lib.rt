@@ -35,7 +35,7 @@ const WORDS: usize = 64;
 const WIDE_WORDS: usize = 256;
 
 // One record of a list, as its bytes say it.
-#[derive(Drop)]
+#[derive(Clone, Copy)]
 pub struct WishRecord {
     pub input: InputPort,
     pub output: OutputPort,
@@ -45,7 +45,7 @@ pub struct WishRecord {
 }
 
 // What is wrong with a record.
-#[derive(Drop)]
+#[derive(Clone, Copy)]
 pub enum Fault {
     At(Refusal),
     Nothing,
