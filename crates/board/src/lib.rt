@@ -2,6 +2,8 @@
 // It promises the cells that the rules' definitions give, and that a label of outputs for each input stays in step with the cells: an
 // output is in it just where the cell is not zero. It takes slices for any number of ports up to 128. Which settings there are, and how
 // they are written, is left to the crates above.
+#![tactic(auto)]
+
 ghost use Rattle.std.specs.Prelude.{◌≡◌, ◌+◌, ◌-◌, ◌*◌, ◌<◌, ◌≤◌, length, set, eqb};
 ghost use Rattle.switch.specs.Demand.{cell};
 ghost use Rattle.labels.specs.Ports.{outputs_of, inputs_of};

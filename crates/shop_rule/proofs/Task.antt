@@ -31,7 +31,7 @@ unfolding times
 times-last [] y i j = omega arith
 times-last (x ∷ p) y i j = omega (arith, times-last p y i j)
 
-pub latest-le : {p : List Task} (c : ℕ) → Each (λ x. x.end ≤ c) p → latest p ≤ c
+pub latest-le : (c : ℕ) {p : List Task} → Each (λ x. x.end ≤ c) p → latest p ≤ c
 unfolding latest
 latest-le c none = omega arith
 latest-le c (more a e) = omega (arith, latest-le c e)

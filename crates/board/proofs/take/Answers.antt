@@ -1,0 +1,30 @@
+-- The cell is at least the hold, and the label that is written is the one that the cell now asks for.
+use mathlib.Core.Path.{ap}
+use Prim.Native.Nat.{ℕ}
+use lib.ListN.{get_or}
+use native.Mathlib.Omega.{arith}
+use Rattle.switch.specs.Demand.{cell}
+use Rattle.board.proofs.Cells.{index_in}
+use Rattle.board.proofs.Labels.{taken}
+use Rattle.board.proofs.take.Goals as goal
+
+pub offset_bounds-cells-at : goal.offset_bounds-cells-at
+offset_bounds-cells-at c = let p = c.requires in omega (arith, c.cell_at-at.ensures, index_in _ _ _ _ p.sized p.input p.output)
+
+pub bounds-cells-at : goal.bounds-cells-at
+bounds-cells-at c = let p = c.requires in omega (arith, c.cell_at-at.ensures, index_in _ _ _ _ p.sized p.input p.output)
+
+pub overflow_sub-left : goal.overflow_sub-left
+unfolding cell
+overflow_sub-left c =
+    omega (arith, c.requires.enough, ap (λ (k : ℕ). get_or c.args.cells.now k 0) c.cell_at-at.ensures)
+
+pub offset_bounds-cells-at-2 : goal.offset_bounds-cells-at-2
+offset_bounds-cells-at-2 c = let p = c.requires in omega (arith, c.cell_at-at.ensures, index_in _ _ _ _ p.sized p.input p.output)
+
+pub bounds-cells-at-2 : goal.bounds-cells-at-2
+bounds-cells-at-2 c = let p = c.requires in omega (arith, c.cell_at-at.ensures, index_in _ _ _ _ p.sized p.input p.output)
+
+pub returns : goal.returns
+returns c =
+    taken _ _ _ _ _ _ _ c.requires _ c.cell_at-at.ensures _ _ _ _ c.row_of-row.ensures c.without_if.ensures c.put_row.ensures
