@@ -1,6 +1,8 @@
 // What the first records of a plan grant each pair: one pass, which a record that is not well formed stops.
 // The checker holds the grants of a whole plan against a demand, and a carry-over takes those of the records that were run off what was
 // asked. Which plans there are and what a well-formed record is stand below; what the grants are held against is left to the crates above.
+#![tactic(auto)]
+
 ghost use Rattle.std.specs.Prelude.{◌*◌};
 ghost use Rattle.records.specs.Record.{decoded};
 ghost use Rattle.records.specs.Bytes.{plan_from};

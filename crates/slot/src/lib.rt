@@ -2,6 +2,8 @@
 // takes the lowest output that is free and that it has slots left for (§8.1). Inputs without any are passed over, by a set of those that may ask.
 // It promises that what was still to come is this slot's record and what is still to come of the cells it leaves, for any number of ports
 // up to 128. When the slots end and where their records go is left to the crate above.
+#![tactic(auto)]
+
 ghost use Rattle.std.specs.Prelude.{◌≡◌, ℕ, ◌<◌, ◌≤◌, length, get_or};
 ghost use Rattle.labels.specs.Ports.{inputs_of, outputs_of};
 ghost use Rattle.slot.specs.Filled.{Copy, Waiting, Turned, Visited, StillAsking, Filled};

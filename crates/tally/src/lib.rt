@@ -2,6 +2,8 @@
 // Promised is the list that specs/ gives, for any plan whose records are well formed, and nothing of time. So that not every pair of
 // settings is compared, a setting is looked for among those of its bucket only; a bucket is any number that equal settings share.
 // The memory is lent by the caller; what is done with the sums is left to the crates above.
+#![tactic(auto)]
+
 ghost use Rattle.std.specs.Prelude.{◌≡◌, ◌+◌, ◌<◌, ◌≤◌, length};
 ghost use Rattle.records.specs.Record.{outputs};
 ghost use Rattle.records.specs.Bytes.{record_at, whole};

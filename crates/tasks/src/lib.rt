@@ -2,6 +2,8 @@
 // bytes. A record is refused where it breaks a rule of its own, does not rise from the one before it, or overlaps any before it on a port
 // (§21.7). Since starts rise, the latest end on each port decides the last, so that one pass does. What a schedule is for is left to the
 // crates above.
+#![tactic(auto)]
+
 ghost use Rattle.std.specs.Prelude.{◌≡◌, ◌+◌, ◌*◌, ◌<◌, ◌≤◌, length};
 ghost use Rattle.records.specs.Bytes.{laid};
 ghost use Rattle.tasks.specs.Bytes.{task, four_bytes, encode};

@@ -1,0 +1,51 @@
+-- Input by input the pair that it is joined to is granted the hold, in cells that are apart.
+use mathlib.Core.Path.{sym, ◌∙◌}
+use Prim.Native.Nat.{◌-◌, ◌≤◌}
+use native.Mathlib.Omega.{arith}
+use mathlib.Core.Logic.{⊎_elim}
+use Rattle.switch.proofs.Demand.{index-small}
+use Rattle.records.specs.Record.{decoded}
+use Rattle.records.proofs.Meaning.{output-byte}
+use Rattle.grants.proofs.Grant.{Partly, partly_none, partly-all, pair_inside, pair_small, partly-idle, partly-joined}
+use Rattle.grants.proofs.grant_record.Goals as goal
+
+pub loop-i-init : goal.loop-i-init
+loop-i-init c = (omega arith, partly_none _ _ _ _)
+
+pub offset_bounds-grants-at : goal.offset_bounds-grants-at
+offset_bounds-grants-at c =
+    let a = c.args in
+    let l = c.loop-i in
+    omega (arith, c.requires.few, index-small a.n l.i c.requires.few (omega arith), c.cell_at-at.ensures)
+
+pub bounds-grants-at : goal.bounds-grants-at
+bounds-grants-at c =
+    let l = c.loop-i in
+    let o = output-byte c.args.rec.now l.i (omega (arith, c.requires.size)) ∙ sym c.size_of_byte-j.ensures.0 in
+    pair_inside _ _ _ _ _ l.i (omega arith) l.invariant.1 _ o c.if-j-n.true _ c.cell_at-at.ensures c.requires.room
+
+pub overflow_add-grants : goal.overflow_add-grants
+overflow_add-grants c =
+    let l = c.loop-i in
+    let o = output-byte c.args.rec.now l.i (omega (arith, c.requires.size)) ∙ sym c.size_of_byte-j.ensures.0 in
+    omega (arith, pair_small _ _ _ _ _ l.i (omega arith) l.invariant.1 _ o c.if-j-n.true _ c.cell_at-at.ensures _ c.requires)
+
+pub bounds-grants-at-then-j-n : goal.bounds-grants-at-then-j-n
+bounds-grants-at-then-j-n c =
+    let l = c.loop-i in
+    let o = output-byte c.args.rec.now l.i (omega (arith, c.requires.size)) ∙ sym c.size_of_byte-j.ensures.0 in
+    pair_inside _ _ _ _ _ l.i (omega arith) l.invariant.1 _ o c.if-j-n.true _ c.cell_at-at.ensures c.requires.room
+
+pub loop-i-preserved : goal.loop-i-preserved
+loop-i-preserved c =
+    let l = c.loop-i in
+    let o = output-byte c.args.rec.now l.i (omega (arith, c.requires.size)) ∙ sym c.size_of_byte-j.ensures.0 in (
+      omega arith,
+      ⊎_elim
+          (λ w. partly-joined _ _ _ _ _ l.i (omega arith) l.invariant.1 _ o w.0.taken _ w.1.ensures c.requires.room _ w.3)
+          (λ w. rw w.1 (partly-idle _ _ _ _ _ l.i (omega arith) l.invariant.1 _ o w.0.left))
+          c.if-j-n.branch,
+    )
+
+pub returns : goal.returns
+returns c = partly-all _ _ _ _ _ c.loop-i.i c.loop-i-test.false c.loop-i.invariant.1

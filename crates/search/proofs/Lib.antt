@@ -1,3 +1,0 @@
-pub mod Tables
-pub mod Search
-pub mod Waves

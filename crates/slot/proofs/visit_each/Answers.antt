@@ -1,0 +1,37 @@
+-- Each turn of the loop is that of the lowest input ahead, and the turns of those that are left complete it.
+use mathlib.Core.Path.{refl, sym, ◌∙◌, subst}
+use Prim.Native.Nat.{◌-◌}
+use native.Mathlib.Omega.{arith}
+use Rattle.labels.specs.declared.FoundInput.{FoundInput}
+use Rattle.sets.specs.Label.{Lowest, LowestAt, absent}
+use Rattle.labels.specs.Ports.{inputs_of, input_found}
+use Rattle.sets.proofs.Digits.{fewer}
+use Rattle.slot.specs.Filled.{none}
+use Rattle.slot.proofs.Around.{Ahead, ahead-next}
+use Rattle.slot.proofs.visit_each.Goals as goal
+
+pub loop-i-init : goal.loop-i-init
+loop-i-init c = let p = c.requires in record { copy = p.0; waits = p.2; work = refl; long = refl; rest = λ _ _ _ _ _ k. k }
+
+pub returns-in_default : goal.returns-in_default
+returns-in_default c =
+    let l = c.loop-i in
+    l.invariant.rest _ _ _ _ _ (none (subst (λ (f : FoundInput). Lowest 128 (inputs_of l.ahead) (input_found f)) c.in_default.is c.lowest-f.ensures))
+
+pub visit-turn-requires : goal.visit-turn-requires
+visit-turn-requires c =
+    let low : LowestAt 128 (inputs_of c.loop-i.ahead) c.in-At.i.0 = subst (λ (f : FoundInput). Lowest 128 (inputs_of c.loop-i.ahead) (input_found f)) c.in-At.is c.lowest-f.ensures in
+    let g = c.loop-i.invariant in
+    let w = g.waits _ low.here in
+    (g.copy, w.0, omega (arith, c.requires.1, g.long), w.1)
+
+pub loop-i-smaller : goal.loop-i-smaller
+loop-i-smaller c = let low : LowestAt 128 (inputs_of c.loop-i.ahead) c.in-At.i.0 = subst (λ (f : FoundInput). Lowest 128 (inputs_of c.loop-i.ahead) (input_found f)) c.in-At.is c.lowest-f.ensures in
+    let l = low in fewer 128 _ _ _ l.small l.here (c.without_lowest-ahead.ensures.cleared _ l.here l.past)
+
+pub loop-i-preserved : goal.loop-i-preserved
+loop-i-preserved c =
+    let low : LowestAt 128 (inputs_of c.loop-i.ahead) c.in-At.i.0 = subst (λ (f : FoundInput). Lowest 128 (inputs_of c.loop-i.ahead) (input_found f)) c.in-At.is c.lowest-f.ensures in
+    let l = low in
+    ahead-next _ _ _ _ _ _ _ _ _ _ _ _ _ c.loop-i.invariant _ _ l (c.without_lowest-ahead.ensures.cleared _ l.here l.past)
+    c.visit-turn.new.work c.visit-turn.new.lows c.visit-turn.new.highs c.visit-turn.new.out c.visit-turn.result c.visit-turn.ensures c.visit-turn.auto.work

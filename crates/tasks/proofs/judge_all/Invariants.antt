@@ -1,0 +1,19 @@
+-- The times kept decide for each record as its definition does, so a record that fits leaves the scan to the later ones, and its end counts.
+use mathlib.Core.Path.{◌≡◌, sym, ap, ◌∙◌}
+use Prim.Native.Nat.{ℕ, ◌-◌, ◌≤◌, max}
+use native.Mathlib.Omega.{arith}
+use lib.ListN.{length, length-set}
+use borrow.Author.Tests.{not-true, not-false}
+use Rattle.shop_rule.specs.Task as task
+use Rattle.tasks.specs.Bytes.{tasks_from}
+use Rattle.tasks.specs.Read.{faulty}
+use Rattle.tasks.proofs.Read.{part-record, byte, four, record-size, scan-stop, scan-more, scan-end, latest-more, latest-none}
+use Rattle.tasks.proofs.Pass.{part-fits, Passed, passed_none, passed-fine, passed-next, fit_is}
+use Rattle.tasks.proofs.judge_all.Given as goal
+
+abbrev pub invariant-loop-k : goal.invariant-loop-k
+invariant-loop-k l = (l.k ≤ l.records) × (faulty l.n l.tasks l.records 0 ≡ faulty l.n l.tasks (l.records - l.k) l.k) × (length l.ins ≡ 64) × (length l.outs ≡ 64) × Passed l.tasks l.k l.start l.least l.ins l.outs
+    × (max l.latest (task.latest (tasks_from l.tasks l.k (l.records - l.k))) ≡ task.latest (tasks_from l.tasks 0 l.records))
+
+abbrev pub decreases-loop-k : goal.decreases-loop-k
+decreases-loop-k l = l.records - l.k
