@@ -8,6 +8,8 @@ use Rattle.records.specs.Record.{decoded}
 use Rattle.records.proofs.Meaning.{output-byte}
 use Rattle.grants.proofs.Grant.{Partly, partly_none, partly-all, pair_inside, pair_small, partly-idle, partly-joined}
 use Rattle.grants.proofs.grant_record.Goals as goal
+use Rattle.grants.proofs.grant_record.Goals.{then-j-n, else-j-n}
+use Rattle.std.proofs.Common.{refl}
 
 pub loop-i-init : goal.loop-i-init
 loop-i-init c = (omega arith, partly_none _ _ _ _)
@@ -41,10 +43,10 @@ loop-i-preserved c =
     let l = c.loop-i in
     let o = output-byte c.args.rec.now l.i (omega (arith, c.requires.size)) ∙ sym c.size_of_byte-j.ensures.0 in (
       omega arith,
-      ⊎_elim
-          (λ w. partly-joined _ _ _ _ _ l.i (omega arith) l.invariant.1 _ o w.0.taken _ w.1.ensures c.requires.room _ w.3)
-          (λ w. rw w.1 (partly-idle _ _ _ _ _ l.i (omega arith) l.invariant.1 _ o w.0.left))
-          c.if-j-n.branch,
+      elim c.if-j-n.branch [
+        | then-j-n w ↦ rw w.grants-is (partly-joined _ _ _ _ _ l.i (omega arith) l.invariant.1 _ o w.if-j-n.true _ w.cell_at-at.ensures c.requires.room _ refl)
+        | else-j-n w ↦ rw w.grants-is (partly-idle _ _ _ _ _ l.i (omega arith) l.invariant.1 _ o w.if-j-n.false)
+      ],
     )
 
 pub returns : goal.returns
