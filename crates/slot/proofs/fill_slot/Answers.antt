@@ -1,10 +1,8 @@
 -- The inputs from the first on have their turns and then those below it: once around, and the slot is filled.
-use mathlib.Core.Path.{◌∙◌}
 use Prim.Native.Nat.{◌-◌, ◌%◌, ◌≤◌}
 use native.Mathlib.Nat.{mod-lt}
 use native.Mathlib.Omega.{arith}
 use lib.ListN.{length}
-use Rattle.slot.specs.declared.Turn.{Turn}
 use Rattle.slot.proofs.Visits.{Visiting, visited-all}
 use Rattle.slot.proofs.Around.{first-waits, first-half, second-waits, second-half}
 use Rattle.slot.proofs.fill_slot.Goals as goal
@@ -25,9 +23,9 @@ pub visit_each-whole-requires : goal.visit_each-whole-requires
 visit_each-whole-requires c =
     let wide : c.args.n ≤ length c.idle_all.new.out = omega (arith, c.requires.1, c.idle_all.auto.out) in
     let a = c.args in
-    (
-      (let a = c.args in first-half a.n a.s a.work.now a.lows.now a.highs.now c.idle_all.new.out (record { free = c.every.result; rest = c.args.rest }) c.requires.0 wide c.idle_all.ensures _ c.from.ensures _ _ _ _ _ c.every.ensures c.visit_each-half.ensures).copy,
-      (let a = c.args in first-half a.n a.s a.work.now a.lows.now a.highs.now c.idle_all.new.out (record { free = c.every.result; rest = c.args.rest }) c.requires.0 wide c.idle_all.ensures _ c.from.ensures _ _ _ _ _ c.every.ensures c.visit_each-half.ensures).seats.wide,
+    let half : Visiting a.n a.s (a.n - a.s % a.n) a.work.now c.visit_each-half.new.work c.visit_each-half.new.lows c.visit_each-half.new.highs c.visit_each-half.new.out c.visit_each-half.result = first-half a.n a.s a.work.now a.lows.now a.highs.now c.idle_all.new.out (record { free = c.every.result; rest = c.args.rest }) c.requires.0 wide c.idle_all.ensures _ c.from.ensures _ _ _ _ _ c.every.ensures c.visit_each-half.ensures in (
+      half.copy,
+      half.seats.wide,
       second-waits a.n a.s a.work.now a.lows.now a.highs.now c.idle_all.new.out (record { free = c.every.result; rest = c.args.rest }) c.requires.0 wide c.idle_all.ensures _ c.from.ensures _ _ _ _ _ c.every.ensures c.visit_each-half.ensures _ c.below.ensures,
     )
 
@@ -36,6 +34,6 @@ returns c =
     let wide : c.args.n ≤ length c.idle_all.new.out = omega (arith, c.requires.1, c.idle_all.auto.out) in
     let a = c.args in
     visited-all a.n a.s a.work.now _ _ _ _ c.visit_each-whole.result
-    (second-half a.n a.s a.work.now a.lows.now a.highs.now c.idle_all.new.out (record { free = c.every.result; rest = c.args.rest }) c.pre.0 wide c.idle_all.ensures _ c.from.ensures _ _ _ _ _ c.every.ensures c.visit_each-half.ensures
+    (second-half a.n a.s a.work.now a.lows.now a.highs.now c.idle_all.new.out (record { free = c.every.result; rest = c.args.rest }) c.requires.0 wide c.idle_all.ensures _ c.from.ensures _ _ _ _ _ c.every.ensures c.visit_each-half.ensures
     _ c.below.ensures _ _ _ _ _ c.visit_each-whole.ensures)
-    (λ z. omega (arith, c.pre.2, c.pre.0.all, z))
+    (λ z. omega (arith, c.requires.2, c.requires.0.all, z))

@@ -1,13 +1,11 @@
 -- Each turn of the loop is that of the lowest input ahead, and the turns of those that are left complete it.
-use mathlib.Core.Path.{refl, sym, ◌∙◌, subst}
-use Prim.Native.Nat.{◌-◌}
+use mathlib.Core.Path.{refl}
 use native.Mathlib.Omega.{arith}
-use Rattle.labels.specs.declared.FoundInput.{FoundInput}
-use Rattle.sets.specs.Label.{Lowest, LowestAt, absent}
-use Rattle.labels.specs.Ports.{inputs_of, input_found}
+use Rattle.sets.specs.Label.{LowestAt}
+use Rattle.labels.specs.Ports.{inputs_of}
 use Rattle.sets.proofs.Digits.{fewer}
 use Rattle.slot.specs.Filled.{none}
-use Rattle.slot.proofs.Around.{Ahead, ahead-next}
+use Rattle.slot.proofs.Around.{ahead-next}
 use Rattle.slot.proofs.visit_each.Goals as goal
 
 pub loop-i-init : goal.loop-i-init
@@ -16,22 +14,20 @@ loop-i-init c = let p = c.requires in record { copy = p.0; waits = p.2; work = r
 pub returns-in_default : goal.returns-in_default
 returns-in_default c =
     let l = c.loop-i in
-    l.invariant.rest _ _ _ _ _ (none (subst (λ (f : FoundInput). Lowest 128 (inputs_of l.ahead) (input_found f)) c.in_default.is c.lowest-f.ensures))
+    l.invariant.rest _ _ _ _ _ (none c.in_default.ensures)
 
 pub visit-turn-requires : goal.visit-turn-requires
 visit-turn-requires c =
-    let low : LowestAt 128 (inputs_of c.loop-i.ahead) c.in-At.i.0 = subst (λ (f : FoundInput). Lowest 128 (inputs_of c.loop-i.ahead) (input_found f)) c.in-At.is c.lowest-f.ensures in
+    let low : LowestAt 128 (inputs_of c.loop-i.ahead) c.in-At.i.0 = c.in-At.ensures in
     let g = c.loop-i.invariant in
     let w = g.waits _ low.here in
     (g.copy, w.0, omega (arith, c.requires.1, g.long), w.1)
 
 pub loop-i-smaller : goal.loop-i-smaller
-loop-i-smaller c = let low : LowestAt 128 (inputs_of c.loop-i.ahead) c.in-At.i.0 = subst (λ (f : FoundInput). Lowest 128 (inputs_of c.loop-i.ahead) (input_found f)) c.in-At.is c.lowest-f.ensures in
-    let l = low in fewer 128 _ _ _ l.small l.here (c.without_lowest-ahead.ensures.cleared _ l.here l.past)
+loop-i-smaller c = let l : LowestAt 128 (inputs_of c.loop-i.ahead) c.in-At.i.0 = c.in-At.ensures in fewer 128 _ _ _ l.small l.here (c.without_lowest-ahead.ensures.cleared _ l.here l.past)
 
 pub loop-i-preserved : goal.loop-i-preserved
 loop-i-preserved c =
-    let low : LowestAt 128 (inputs_of c.loop-i.ahead) c.in-At.i.0 = subst (λ (f : FoundInput). Lowest 128 (inputs_of c.loop-i.ahead) (input_found f)) c.in-At.is c.lowest-f.ensures in
-    let l = low in
+    let l : LowestAt 128 (inputs_of c.loop-i.ahead) c.in-At.i.0 = c.in-At.ensures in
     ahead-next _ _ _ _ _ _ _ _ _ _ _ _ _ c.loop-i.invariant _ _ l (c.without_lowest-ahead.ensures.cleared _ l.here l.past)
     c.visit-turn.new.work c.visit-turn.new.lows c.visit-turn.new.highs c.visit-turn.new.out c.visit-turn.result c.visit-turn.ensures c.visit-turn.auto.work
