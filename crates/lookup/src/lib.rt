@@ -1,6 +1,8 @@
 // Which setting is in force at a slot, holds alone counted (§23.1): out of tonight's plan and, once that is over, out of the standby plan.
 // Both plans are judged whole, also where the slot falls in tonight's. The part is lent out of the plan that it stands in; `find` says the
 // same in numbers, for an edge that returns no reference. Both promise their whole answer for any N, any bytes and any slot of 64 bits.
+#![tactic(auto)]
+
 ghost use Rattle.std.specs.Prelude.{◌≡◌, ◌<◌, ◌≤◌};
 ghost use Rattle.records.specs.Bytes.{whole, plan_of};
 ghost use Rattle.switch.specs.Editions.{first_edition, Bounded};

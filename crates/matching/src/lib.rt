@@ -3,6 +3,8 @@
 // first in dictionary order. The matching is kept from setting to setting: only inputs that wait ask again, only those from the first of
 // them on are settled anew where the others can stay, and only as far as the setting differs from the one before. How an output is freed is
 // `search`'s; which pairs are allowed, and what is taken off them, is left to the planners.
+#![tactic(auto)]
+
 ghost use Rattle.std.specs.Prelude.{◌≡◌, ◌⊎◌, ℕ, ◌+◌, ◌<◌, ◌≤◌, length, true};
 ghost use Rattle.sets.specs.Label.{In, Sub, Marked};
 ghost use Rattle.labels.specs.Ports.{outputs_of, inputs_of};

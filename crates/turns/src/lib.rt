@@ -3,6 +3,8 @@
 // records they are, their total, and every byte that they lay over a plan from a given place on. Which output an input has in a setting,
 // and how long a setting is held, are a function each: nothing else knows them, and the holds are worked out once, into a table. The first
 // part, and whether there is room for both, are left to the planners above.
+#![tactic(auto)]
+
 ghost use Rattle.std.specs.Prelude.{◌≡◌, ℕ, ◌+◌, ◌*◌, ◌/◌, ◌%◌, ◌<◌, ◌≤◌, length};
 ghost use Rattle.rules.specs.Exact.{tab};
 ghost use Rattle.rules.specs.Doubled.{unit, divide, tight, held};

@@ -1,0 +1,85 @@
+-- Each turn keeps one input fewer, or follows outputs that were not seen: so it ends; and what it follows is come to with those kept.
+use mathlib.Core.Path.{subst}
+use mathlib.Core.Logic.{inl, inr}
+use Prim.Native.Nat.{ℕ, ◌+◌, ◌*◌, ◌<◌}
+use native.Mathlib.Omega.{arith}
+use lib.ListN.{length}
+use Rattle.sets.specs.Label.{Lowest, absent}
+use Rattle.labels.specs.Ports.{outputs_of, output_found}
+use Rattle.labels.specs.declared.FoundOutput.{FoundOutput}
+use Rattle.sets.proofs.Digits.{absent-most, absent-less}
+use Rattle.search.specs.Tables.{tried_of, Allowed, joined}
+use Rattle.search.proofs.Tables.{place}
+use Rattle.search.proofs.Search.{ports-of, lowest-at}
+use Rattle.matching.proofs.Giving.{Giving, giving-start, giving-fewer, giving-way, giving-on}
+use Rattle.matching.proofs.give_way.Goals as goal
+
+-- an output that is kept has its place
+inside : (c : tie.Start invariant-loop decreases-loop) (m : ℕ) → m < c.args.from → joined c.args.out.now m < 128
+inside c m l = let a = c.args in let p = c.requires.1 in place 128 (length a.lows.now) (Allowed a.lows.now a.highs.now) a.by.now a.out.now p.good (joined a.out.now m) m (p.held m l)
+
+pub overflow_sub-firm : goal.overflow_sub-firm
+overflow_sub-firm c = omega (arith, c.requires.1.some)
+
+pub output_of-requires : goal.output_of-requires
+output_of-requires c = let p = c.requires.1 in omega (arith, p.some, p.short, p.good.outputs)
+
+pub without-seen-requires : goal.without-seen-requires
+without-seen-requires c = rw c.output_of.ensures (inside c _ (omega (arith, c.requires.1.some)))
+
+pub loop-firm-init : goal.loop-firm-init
+loop-firm-init c =
+    let a = c.args in
+    giving-start 128 (length a.lows.now) (Allowed a.lows.now a.highs.now) a.by.now a.out.now (outputs_of a.s.held) (tried_of a.fixed) (outputs_of a.s.met) a.from c.requires.1 _ _ c.output_of.ensures c.without-seen.ensures
+
+pub returns-then-firm-eq0 : goal.returns-then-firm-eq0
+returns-then-firm-eq0 c = record { less = c.loop-firm.invariant.less; way = inl (omega (arith, c.if-firm-eq0.true)) }
+
+pub overflow_sub-firm-in-Nothing : goal.overflow_sub-firm-in-Nothing
+overflow_sub-firm-in-Nothing c = omega (arith, c.if-firm-eq0.false)
+
+pub output_of-requires-in-Nothing : goal.output_of-requires-in-Nothing
+output_of-requires-in-Nothing c = let p = c.requires.1 in omega (arith, c.loop-firm.invariant.less, p.short, p.good.outputs)
+
+pub without-seen-requires-in-Nothing : goal.without-seen-requires-in-Nothing
+without-seen-requires-in-Nothing c = rw c.output_of-in-Nothing.ensures (inside c _ (omega (arith, c.loop-firm.invariant.less)))
+
+pub loop-firm-smaller-in-Nothing : goal.loop-firm-smaller-in-Nothing
+loop-firm-smaller-in-Nothing c = omega (arith, c.if-firm-eq0.false, absent-most 128 (outputs_of c.without-seen-in-Nothing.result))
+
+pub loop-firm-preserved-in-Nothing : goal.loop-firm-preserved-in-Nothing
+loop-firm-preserved-in-Nothing c =
+    let a = c.args in
+    let l = c.loop-firm in
+    giving-fewer 128 (length a.lows.now) (Allowed a.lows.now a.highs.now) a.by.now a.out.now (outputs_of a.s.held) (tried_of a.fixed) (outputs_of a.s.met) a.from c.requires.1
+    (outputs_of l.met) l.firm (outputs_of l.seen) l.invariant _ _ (omega (arith, c.if-firm-eq0.false)) c.output_of-in-Nothing.ensures c.without-seen-in-Nothing.ensures
+
+pub leads_to-w-requires : goal.leads_to-w-requires
+leads_to-w-requires c =
+    let a = c.args in
+    (c.requires.0, ports-of 128 (length a.lows.now) (Allowed a.lows.now a.highs.now) a.by.now a.out.now c.requires.1.good)
+
+pub returns-in_default : goal.returns-in_default
+returns-in_default c =
+    let a = c.args in
+    let l = c.loop-firm in
+    let further = outputs_of c.leads_to-w.result.outputs in
+    record {
+      less = l.invariant.less;
+      way = inr (giving-way 128 (length a.lows.now) (Allowed a.lows.now a.highs.now) a.by.now a.out.now (outputs_of a.s.held) (tried_of a.fixed) (outputs_of a.s.met) a.from c.requires.1
+          (outputs_of l.met) l.firm (outputs_of l.seen) l.invariant _ further c.but-wave.ensures c.leads_to-w.result.free c.leads_to-w.ensures _
+          (lowest-at 128 further (outputs_of a.s.held) c.lowest_untried-g.result _ c.lowest_untried-g.ensures c.in_default.is));
+    }
+
+pub loop-firm-smaller : goal.loop-firm-smaller
+loop-firm-smaller c =
+    let u = c.with-seen.ensures in
+    let l = subst (λ (f : FoundOutput). Lowest 128 (outputs_of c.but-wave.result) (output_found f)) c.in-At.is c.lowest-f.ensures in
+    omega (arith, absent-less (outputs_of c.loop-firm.seen) (outputs_of c.with-seen.result) u.left 128 _ l.small (c.but-wave.ensures.gone _ l.here) (u.right _ l.here))
+
+pub loop-firm-preserved : goal.loop-firm-preserved
+loop-firm-preserved c =
+    let a = c.args in
+    let l = c.loop-firm in
+    giving-on 128 (length a.lows.now) (Allowed a.lows.now a.highs.now) a.by.now a.out.now (outputs_of a.s.held) (tried_of a.fixed) (outputs_of a.s.met) a.from c.requires.1
+    (outputs_of l.met) l.firm (outputs_of l.seen) l.invariant _ (outputs_of c.leads_to-w.result.outputs) c.but-wave.ensures c.leads_to-w.result.free c.leads_to-w.ensures _ _ c.with-seen.ensures c.with-met.ensures

@@ -1,0 +1,15 @@
+-- Each turn gives one input its output of before; no two of them had the same.
+use mathlib.Core.Path.{ap, subst, ◌∙◌}
+use Prim.Native.Nat.{ℕ, ◌+◌, ◌-◌, ◌≤◌}
+use native.Mathlib.Nat.{le_antisymm}
+use native.Mathlib.Omega.{arith}
+use lib.ListN.{set}
+use Rattle.matching.specs.Chosen.{Restored}
+use Rattle.matching.proofs.Behind.{restored-start, restored-more}
+use Rattle.matching.proofs.restore.Given as goal
+
+abbrev pub invariant-loop-k : goal.invariant-loop-k
+invariant-loop-k l = (l.from ≤ l.k) × (l.k ≤ l.n) × Restored l.before l.initial.by l.initial.out l.from l.by l.out l.k
+
+abbrev pub decreases-loop-k : goal.decreases-loop-k
+decreases-loop-k l = l.n - l.k

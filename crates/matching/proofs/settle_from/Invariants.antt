@@ -1,0 +1,19 @@
+-- Every input that is passed is settled, and stays so; where the inputs passed have the outputs of before among them, the others take theirs again.
+use mathlib.Core.Path.{sym, subst, ◌∙◌}
+use Prim.Native.Nat.{ℕ, ◌+◌, ◌-◌, ◌<◌, ◌≤◌}
+use native.Mathlib.Nat.{le_antisymm}
+use native.Mathlib.Omega.{arith}
+use lib.ListN.{length}
+use Rattle.search.specs.Tables.{tried_of, Allowed}
+use Rattle.matching.specs.Chosen.{Fixed, SettledPost, Dead}
+use Rattle.matching.proofs.Completing.{fixed_more}
+use Rattle.matching.proofs.Settling.{settled-start, settled-more, settled-all, dead-start}
+use Rattle.matching.proofs.Behind.{behind-settles}
+use Rattle.matching.proofs.settle_from.Given as goal
+
+abbrev pub invariant-loop-i : goal.invariant-loop-i
+invariant-loop-i l = (l.i ≤ length l.lows) × SettledPost 128 (length l.lows) (Allowed l.lows l.highs) l.initial.out l.by l.out (tried_of l.firm.fixed) l.i × Dead (Allowed l.lows l.highs) l.by (tried_of l.firm.fixed) (tried_of l.firm.dead)
+    × ((m : ℕ) → l.last ≤ m → m < length l.lows → Fixed l.before l.i (tried_of l.was))
+
+abbrev pub decreases-loop-i : goal.decreases-loop-i
+decreases-loop-i l = length l.lows - l.i
