@@ -14,10 +14,6 @@ use Rattle.search.proofs.Search.{ports-of, lowest-at}
 use Rattle.matching.proofs.Giving.{Giving, giving-start, giving-fewer, giving-way, giving-on}
 use Rattle.matching.proofs.give_way.Goals as goal
 
--- an output that is kept has its place
-inside : (c : tie.Start invariant-loop decreases-loop) (m : ℕ) → m < c.args.from → joined c.args.out.now m < 128
-inside c m l = let a = c.args in let p = c.requires.1 in place 128 (length a.lows.now) (Allowed a.lows.now a.highs.now) a.by.now a.out.now p.good (joined a.out.now m) m (p.held m l)
-
 pub overflow_sub-firm : goal.overflow_sub-firm
 overflow_sub-firm c = omega (arith, c.requires.1.some)
 
@@ -25,7 +21,8 @@ pub output_of-requires : goal.output_of-requires
 output_of-requires c = let p = c.requires.1 in omega (arith, p.some, p.short, p.good.outputs)
 
 pub without-seen-requires : goal.without-seen-requires
-without-seen-requires c = rw c.output_of.ensures (inside c _ (omega (arith, c.requires.1.some)))
+without-seen-requires c = let inside : (m : ℕ) → m < c.args.from → joined c.args.out.now m < 128 = (λ m l. let a = c.args in let p = c.requires.1 in place 128 (length a.lows.now) (Allowed a.lows.now a.highs.now) a.by.now a.out.now p.good (joined a.out.now m) m (p.held m l)) in
+    rw c.output_of.ensures (inside _ (omega (arith, c.requires.1.some)))
 
 pub loop-firm-init : goal.loop-firm-init
 loop-firm-init c =
@@ -42,7 +39,8 @@ pub output_of-requires-in-Nothing : goal.output_of-requires-in-Nothing
 output_of-requires-in-Nothing c = let p = c.requires.1 in omega (arith, c.loop-firm.invariant.less, p.short, p.good.outputs)
 
 pub without-seen-requires-in-Nothing : goal.without-seen-requires-in-Nothing
-without-seen-requires-in-Nothing c = rw c.output_of-in-Nothing.ensures (inside c _ (omega (arith, c.loop-firm.invariant.less)))
+without-seen-requires-in-Nothing c = let inside : (m : ℕ) → m < c.args.from → joined c.args.out.now m < 128 = (λ m l. let a = c.args in let p = c.requires.1 in place 128 (length a.lows.now) (Allowed a.lows.now a.highs.now) a.by.now a.out.now p.good (joined a.out.now m) m (p.held m l)) in
+    rw c.output_of-in-Nothing.ensures (inside _ (omega (arith, c.loop-firm.invariant.less)))
 
 pub loop-firm-smaller-in-Nothing : goal.loop-firm-smaller-in-Nothing
 loop-firm-smaller-in-Nothing c = omega (arith, c.if-firm-eq0.false, absent-most 128 (outputs_of c.without-seen-in-Nothing.result))
