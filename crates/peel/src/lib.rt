@@ -1,6 +1,8 @@
 // Peeling a working copy: filled and labelled, then one full setting after the other taken off it, the first in dictionary order each time.
 // A step promises that what is left to plan is the record it took, held for the smallest cell, and then what is left afterwards.
 // The matching is kept from step to step: only emptied pairs are released. What becomes of the records is left to the planners.
+#![tactic(auto)]
+
 ghost use Rattle.std.specs.Prelude.{◌≡◌, ℕ, ◌<◌, ◌≤◌, length};
 ghost use Rattle.sets.specs.Label.{In, Upto};
 ghost use Rattle.labels.specs.Ports.{outputs_of, inputs_of};
