@@ -2,6 +2,8 @@
 // `exact_plan` promises its answer and every byte of the plan buffer by the definition `exact_plan`; everything is decided before the
 // first byte is written. `count` and `lay` do the same for cells at the start of a working copy, for any record width and with holds
 // multiplied, so that a planner above needs nothing but their promises.
+#![tactic(auto)]
+
 ghost use Rattle.std.specs.Prelude.{◌≡◌, map, ℕ, ◌*◌, ◌≤◌, length};
 ghost use Rattle.switch.specs.Editions.{first_edition, second_edition, Bounded};
 ghost use Rattle.switch.specs.Result.{Gives};

@@ -14,7 +14,7 @@ use Rattle.switch.specs.declared.Refusal.{Refusal}
 use Rattle.switch.specs.Answer.{plan_counts}
 use Rattle.switch.specs.Plan.{Record, total}
 use Rattle.switch.specs.Sound.{Sound, Each, none, more}
-use Rattle.records.specs.Record.{hold, decoded}
+use Rattle.records.specs.Record.{decoded}
 use Rattle.records.specs.Bytes.{record_at, whole, plan_from, plan_of, bytes, laid}
 use Rattle.records.proofs.Bytes.{bytes-size}
 use Rattle.switch.proofs.Sound.{each_width}

@@ -2,6 +2,8 @@
 // held for the sum of its holds. Promised are the whole answer and every byte of the second buffer, for any N and any bytes; in proofs/,
 // that every pair is granted just what it was granted before and that joining twice changes nothing further.
 // Finding equal settings is the crate settings' matter.
+#![tactic(auto)]
+
 ghost use Rattle.std.specs.Prelude.{◌≡◌, List, ℕ, ◌+◌, ◌<◌, ◌≤◌, length, get_or};
 ghost use Rattle.switch.specs.Result.{Gives};
 ghost use Rattle.records.specs.Bytes.{whole, bytes, laid};

@@ -1,5 +1,7 @@
 // The length of a plan from anywhere (§11): its total hold, and the switching time for every record before which the mirrors move.
 // Nothing is known of the bytes. The call promises its whole answer for any N, plan and switching time. A plan is gone over once.
+#![tactic(auto)]
+
 ghost use Rattle.std.specs.Prelude.{◌≡◌, ◌<◌, ◌≤◌};
 ghost use Rattle.records.specs.Bytes.{whole, plan_of};
 ghost use Rattle.switch.specs.Editions.{first_edition, second_edition, Bounded};

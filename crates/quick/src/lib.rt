@@ -2,6 +2,8 @@
 // It promises the whole answer and every byte of the lent plan, for any N and any cells: the refusals in their order, all known
 // before the first byte is written, and else the plan. The lent demand is only read: what is counted down is a working copy.
 // What a demand is refused for, how one slot is filled and the layout of a record are left to the crates below.
+#![tactic(auto)]
+
 ghost use Rattle.std.specs.Prelude.{◌≡◌, true, ◌+◌, ◌*◌, ◌<◌, ◌≤◌, length};
 ghost use Rattle.demand.specs.Lines.{Short};
 ghost use Rattle.records.specs.Bytes.{bytes};

@@ -69,7 +69,7 @@ module _ (P : Record → Type 0) (longer : (r : Record) (h : ℕ) → P r → P 
   each-onto : {q p : List Record} → Each P q → Each P p → Each P (sums_onto q p)
   unfolding sums_onto
   each-onto a none = a
-  each-onto a (more x t) = each-onto (each-add a _ x) t
+  each-onto {q = q} a (more {r = r} x t) = each-onto {q = add_hold q r} (each-add a r x) t
 
   pub each-sums : {p : List Record} → Each P p → Each P (sums p)
   each-sums t = each-onto none t

@@ -18,7 +18,7 @@ use Rattle.tally.specs.Sums.{add_hold, sums_onto, sums, setting_at}
 use Rattle.tally.specs.Table.{entry_setting, entries_from, Listed, Roomy, buckets, bucket_of, last_in, entry_bucket, Chained, Empty}
 use Rattle.tally.proofs.Sums.{add_at, add-new, sums_next, sums-summed, distinct}
 use Rattle.tally.proofs.Chain.{last-here, last-before, last-cong}
-use Rattle.tally.proofs.Entries.{entry, entries-length, entry_at, entries_next, entries-same, entries-set}
+use Rattle.tally.proofs.Entries.{entries-length, entry_at, entries_next, entries-same, entries-set}
 
 abbrev none : Record
 none = record { hold = 0; outputs = [] }

@@ -1,6 +1,8 @@
 // What a plan does on the grating fabric, where the pair (i, j) has wavelength (j - i) mod N: the largest number of inputs on one
 // wavelength, record by record (§13.3). It judges the plan as every reader of plans does, and promises its whole answer and every byte of the
 // report for any N and any bytes; everything is decided before the first byte is written. Who made the plan makes no difference.
+#![tactic(auto)]
+
 ghost use Rattle.std.specs.Prelude.{◌≡◌, ◌+◌, ◌≤◌, ◌<◌, length, get_or};
 ghost use Rattle.switch.specs.Result.{Gives};
 ghost use Rattle.counting.specs.Sum.{most};

@@ -2,6 +2,8 @@
 // Each call answers for every list, of any length and any bytes: codes 1, 2 and 9, then the first faulty record's 11, 12, 6, 7 or 8.
 // A refusal changes no cell; a success makes the cell of each named pair its wish's slots, and every other 0.
 // What one wish is worth is the crate `wish`'s matter, and whether the lines are too long is for whoever plans the demand.
+#![tactic(auto)]
+
 ghost use Rattle.std.specs.Prelude.{◌≡◌, true, ◌+◌, ◌*◌, ◌≤◌, ◌<◌, length, replicate};
 ghost use Rattle.switch.specs.Editions.{first_edition, second_edition};
 ghost use Rattle.switch.specs.Result.{Gives};

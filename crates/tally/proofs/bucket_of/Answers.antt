@@ -1,6 +1,6 @@
 -- Each turn stirs eight outputs more into a number of 64 bits, whose upper 13 name the bucket.
 use mathlib.Core.Path.{◌≡◌, refl, ap, ◌∙◌}
-use Prim.Native.Nat.{ℕ, ◌/◌, ◌-◌, ◌≤◌}
+use Prim.Native.Nat.{ℕ, ◌/◌}
 use native.Mathlib.Omega.{arith}
 use lib.ListN.{length}
 use Rattle.tally.specs.Table.{stirred, stir, bucket_of}

@@ -5,7 +5,7 @@ use native.Mathlib.Omega.{arith}
 use Rattle.records.specs.Bytes.{whole}
 use Rattle.tally.proofs.Same.{told_same, told-other}
 use Rattle.tally.proofs.Setting.{setting-long}
-use Rattle.tally.proofs.Chain.{read-entry, Looking, look-first, look-found, look-next, look_none}
+use Rattle.tally.proofs.Chain.{read-entry, look-first, look-found, look-next, look_none}
 use Rattle.tally.proofs.entry_of.Goals as goal
 
 pub bounds-heads-bucket : goal.bounds-heads-bucket

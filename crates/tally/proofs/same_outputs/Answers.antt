@@ -1,10 +1,6 @@
 -- What is left to compare decides, where what is passed is the same.
-use mathlib.Core.Path.{◌≡◌, refl}
-use mathlib.Core.Bool.{◌&&◌}
-use Prim.Native.Nat.{◌-◌, ◌≤◌}
+use mathlib.Core.Path.{refl}
 use native.Mathlib.Omega.{arith}
-use lib.ListN.{length, drop}
-use Rattle.tally.specs.Sums.{same_outputs}
 use Rattle.tally.proofs.Same.{same_more, same-all}
 use Rattle.std.proofs.Common.{rules}
 use Rattle.tally.proofs.same_outputs.Goals as goal

@@ -1,11 +1,9 @@
 -- What is left to compare decides, where what is passed is the same.
-use mathlib.Core.Path.{◌≡◌, refl}
+use mathlib.Core.Path.{◌≡◌}
 use mathlib.Core.Bool.{◌&&◌}
 use Prim.Native.Nat.{◌-◌, ◌≤◌}
-use native.Mathlib.Omega.{arith}
 use lib.ListN.{length, drop}
 use Rattle.tally.specs.Sums.{same_outputs}
-use Rattle.tally.proofs.Same.{same_more, same-all}
 use Rattle.tally.proofs.same_outputs.Given as goal
 
 abbrev pub invariant-loop-i : goal.invariant-loop-i

@@ -1,9 +1,6 @@
 -- After k turns the table lists the sums of the plan's first k records.
 use mathlib.Core.Path.{◌≡◌, refl, ◌∙◌}
-use Prim.Native.Nat.{◌-◌, ◌≤◌}
 use native.Mathlib.Omega.{arith}
-use lib.ListN.{length}
-use Rattle.tally.specs.Table.{Listed, Chained}
 use Rattle.tally.proofs.Next.{listed-none, chained-none}
 use Rattle.std.proofs.Common.{rules}
 use Rattle.tally.proofs.sum_up.Goals as goal

@@ -1,10 +1,8 @@
 -- After k turns the table lists the sums of the plan's first k records.
-use mathlib.Core.Path.{◌≡◌, refl, ◌∙◌}
+use mathlib.Core.Path.{◌≡◌}
 use Prim.Native.Nat.{◌-◌, ◌≤◌}
-use native.Mathlib.Omega.{arith}
 use lib.ListN.{length}
 use Rattle.tally.specs.Table.{Listed, Chained}
-use Rattle.tally.proofs.Next.{listed-none, chained-none}
 use Rattle.tally.proofs.sum_up.Given as goal
 
 abbrev pub invariant-loop-k : goal.invariant-loop-k

@@ -1,0 +1,17 @@
+-- No record passed has a fault, and the pairs that those records name are marked; so the next record is judged as the definition judges it.
+use native.Mathlib.Omega.{arith}
+use mathlib.Core.Path.{◌≡◌, refl, sym, ◌∙◌, ap}
+use Prim.Native.Nat.{◌+◌, ◌*◌, ◌-◌, ◌≤◌}
+use lib.ListN.{length}
+use Rattle.wishes.specs.declared.Fault.TheVariants.{Nothing}
+use Rattle.wishes.specs.Fault.{first_fault}
+use Rattle.wishes.specs.Seen.{Seen}
+use Rattle.wishes.proofs.Faults.{Inside, sound, inside, fault-none, fault-next, fault-stays}
+use Rattle.wishes.proofs.Pairs.{seen_none, seen_more, judged}
+use Rattle.wishes.proofs.first_fault.Given as goal
+
+abbrev pub invariant-loop-k : goal.invariant-loop-k
+invariant-loop-k l = (l.k ≤ l.count) × (length l.marks ≡ length l.initial.marks) × Seen l.n l.list l.k l.marks × (first_fault l.n l.list l.k ≡ Nothing)
+
+abbrev pub decreases-loop-k : goal.decreases-loop-k
+decreases-loop-k l = l.count - l.k

@@ -1,0 +1,9 @@
+-- The fields are the bytes at their places.
+use Prim.Native.Nat.{◌+◌, ◌*◌}
+use native.Mathlib.Omega.{arith}
+use Rattle.wishes.specs.Record.{record_at}
+use Rattle.wishes.proofs.record_at.Goals as goal
+
+pub returns : goal.returns
+unfolding record_at
+returns c = rw c.word_at.ensures
