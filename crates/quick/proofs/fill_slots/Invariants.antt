@@ -1,0 +1,16 @@
+-- Each turn of the loop does one of the slots still to come, and its record goes behind those before it.
+use mathlib.Core.Path.{◌≡◌, refl, sym, ap, ◌∙◌}
+use mathlib.Core.List.{◌∷◌}
+use Prim.Native.Nat.{◌+◌}
+use native.Mathlib.Omega.{arith}
+use lib.ListN.{length}
+use Rattle.slot.specs.Filled.{leftover}
+use Rattle.quick.proofs.Standing.{left-few, leftover-short, Standing, standing-end, standing-more, standing-next}
+use Rattle.quick.proofs.Filling.{Filling, filling-none, filling-all, filling-room, filling-next}
+use Rattle.quick.proofs.fill_slots.Given as goal
+
+abbrev pub invariant-loop-rest : goal.invariant-loop-rest
+invariant-loop-rest l = Standing (length l.initial.out) l.n l.work l.lows l.highs l.out l.rest × Filling l.writes l.edition l.n (leftover (length l.initial.out) l.n 0 l.initial.work) l.initial.plan (leftover (length l.initial.out) l.n l.s l.work) l.plan l.s l.at × (length l.work ≡ length l.initial.work)
+
+abbrev pub decreases-loop-rest : goal.decreases-loop-rest
+decreases-loop-rest l = length (leftover (length l.initial.out) l.n l.s l.work)

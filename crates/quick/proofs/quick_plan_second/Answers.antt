@@ -1,0 +1,32 @@
+-- The second edition keeps to the bounds of every edition, and there is room for 128 ports.
+use mathlib.Core.Path.{refl, sym, ap}
+use native.Mathlib.Omega.{arith}
+use Rattle.switch.specs.declared.Edition.{Edition}
+use Rattle.switch.proofs.Editions.{second-bounded}
+use Rattle.switch.proofs.Result.{gives_as}
+use Rattle.rules.specs.Quick.{quick_plan}
+use Rattle.planner.specs.Planned.{planned_up_to}
+use Rattle.quick.proofs.quick_plan_second.Goals as goal
+
+pub slice_bounds-plan_for-end : goal.slice_bounds-plan_for-end
+slice_bounds-plan_for-end c = refl
+
+pub slice_bounds-plan_for-end-2 : goal.slice_bounds-plan_for-end-2
+slice_bounds-plan_for-end-2 c = refl
+
+pub slice_bounds-plan_for-end-3 : goal.slice_bounds-plan_for-end-3
+slice_bounds-plan_for-end-3 c = refl
+
+pub slice_bounds-plan_for-end-4 : goal.slice_bounds-plan_for-end-4
+slice_bounds-plan_for-end-4 c = refl
+
+pub plan_for-requires : goal.plan_for-requires
+plan_for-requires c = rw c.second_edition.ensures
+    (record { bounded = second-bounded; cells = omega arith; low = omega arith; high = omega arith; wide = omega arith })
+
+pub returns : goal.returns
+returns c =
+    let a = c.args in
+    let q = c.second_edition.ensures in
+    gives_as (ap (λ (e : Edition). planned_up_to 1024 e a.n a.cells.now (quick_plan e.width a.n a.cells.now) a.plan.now) (sym q))
+    c.plan_for.ensures
