@@ -1,6 +1,8 @@
 // The demand that is left of a batch stopped after its first records, with the new wishes added (§23.4).
 // The answer and every lent cell are promised for any N, cells, plan and number of records. The demand and the wishes are only read, and the
 // new cells are computed in working memory, so that nothing is written before all is known.
+#![tactic(auto)]
+
 ghost use Rattle.std.specs.Prelude.{◌≡◌, ◌*◌, length};
 ghost use Rattle.switch.specs.Editions.{first_edition, Bounded};
 ghost use Rattle.demand.specs.Lines.{Sized};

@@ -2,6 +2,8 @@
 // Nothing is known of the bytes. The call promises its whole answer for any N, demand and plan: each refusal exactly in its case and with its
 // place, in the documented order. What a demand is refused for stands in the crate demand, what a plan grants in the crate grants; that
 // the planners' plans pass here is a law of the crate promises.
+#![tactic(auto)]
+
 ghost use Rattle.std.specs.Prelude.{◌≡◌, ◌*◌, ◌≤◌, length};
 ghost use Rattle.switch.specs.Demand.{cell, Blank};
 ghost use Rattle.switch.specs.Editions.{first_edition, second_edition, Bounded};

@@ -3,6 +3,8 @@
 // lent plan, for any N and any cells: the refusals in their order, all known before the first byte is written, and else the plan.
 // The lent demand is only read. The settings of the first part are `exact`'s; u, the quotients, the rotations and their rules are `turns`';
 // and what a demand is refused for is `demand`'s: this crate counts what both parts need, and adds up.
+#![tactic(auto)]
+
 ghost use Rattle.std.specs.Prelude.{◌≡◌, ℕ, ◌+◌, ◌*◌, ◌<◌, ◌≤◌, length};
 ghost use Rattle.switch.specs.Editions.{first_edition, second_edition, Bounded};
 ghost use Rattle.switch.specs.Result.{Gives};
