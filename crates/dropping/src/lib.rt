@@ -1,6 +1,8 @@
 // What is dropped of a damaged plan (§19.2): which records are not well formed, each with the first reason that applies, and a torn tail;
 // and the list of them, 4 bytes each. It promises each reason and every byte of the list by the definitions of the crate rescue_rule, for
 // records of any edition. What is kept, and whether the list has room, is left to the crate above.
+#![tactic(auto)]
+
 ghost use Rattle.std.specs.Prelude.{◌≡◌, false, ◌||◌, [], ◌∷◌, ltb, eqb, length, ◌+◌, ◌-◌, ◌<◌, ◌≤◌};
 ghost use Rattle.records.specs.Record.{all, inside, outputs_fine};
 ghost use Rattle.records.specs.Bytes.{whole, laid};

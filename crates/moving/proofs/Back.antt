@@ -10,7 +10,7 @@ use Rattle.switch.specs.declared.Outcome.{Outcome}
 use Rattle.switch.specs.declared.Outcome.TheVariants.{Done}
 use Rattle.switch.specs.Answer.{plan_counts}
 use Rattle.switch.specs.Editions.{Bounded}
-use Rattle.switch.specs.Plan.{Record, total}
+use Rattle.switch.specs.Plan.{Record}
 use Rattle.switch.specs.Result.{Result}
 use Rattle.switch.specs.Sound.{Sound, Each}
 use Rattle.switch.proofs.Sound.{each_width}

@@ -1,6 +1,8 @@
 // A plan moved from one edition to the other: the same holds and settings, in records of the other width (§18).
 // Promised are the whole answer and every byte of the second buffer, for any N and any bytes; everything is decided before the first byte
 // is written. In proofs/: a moved plan grants what it granted, and moved back it is the same bytes.
+#![tactic(auto)]
+
 ghost use Rattle.std.specs.Prelude.{◌≡◌, ◌+◌, ◌*◌, ◌≤◌, length, replicate, take};
 ghost use Rattle.switch.specs.Editions.{first_edition, second_edition, Bounded};
 ghost use Rattle.switch.specs.Result.{Gives};

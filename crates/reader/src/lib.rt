@@ -1,6 +1,8 @@
 // The reader: it keeps a plan's bytes and the place reached. Each function over it takes it apart and calls the covered one of `plans`,
 // and `open_answer` and `step_from`, whose parameters are plain, stand above them: a caller that keeps the place itself reads by them.
 // What a step gives is promised by `plans`; here it is promised that the place goes on with it and the plan stays.
+#![tactic(auto)]
+
 ghost use Rattle.std.specs.Prelude.{◌≡◌};
 ghost use Rattle.switch.specs.Editions.{first_edition};
 ghost use Rattle.plans.specs.Read.{opening, step_at};

@@ -2,6 +2,8 @@
 // slots. It promises the whole answer and every byte of the lent buffer, for any N and any cells: the refusals in their order, all known
 // before the first byte is written, and else the plan on paper. Kept are, for each output, the set of the inputs with unstarted tasks for it,
 // and for each port the time at which it is idle again; the demand is only read. The layout of a task is left to the crate below.
+#![tactic(auto)]
+
 ghost use Rattle.std.specs.Prelude.{◌≡◌, ℕ, ◌+◌, ◌*◌, ◌<◌, ◌≤◌, max, length, get_or};
 ghost use Rattle.counting.specs.Sum.{sum};
 ghost use Rattle.switch.specs.Demand.{cell, longest};
