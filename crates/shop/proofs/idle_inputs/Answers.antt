@@ -8,6 +8,7 @@ use Rattle.shop.specs.Sets.{numbers_of}
 use Rattle.shop.specs.Kept.{Idle}
 use Rattle.shop.proofs.Scans.{idle-none, idle-mark, idle-skip}
 use Rattle.shop.proofs.idle_inputs.Goals as goal
+use Rattle.shop.proofs.idle_inputs.Goals.{then-ins-i, else-ins-i}
 
 pub loop-i-init : goal.loop-i-init
 loop-i-init c = (omega arith, idle-none _ _ _ c.none-idle.ensures)
@@ -17,10 +18,10 @@ loop-i-preserved c =
     let a = c.args in
     let l = c.loop-i in (
       omega arith,
-      ⊎_elim
-          (λ x. subst (λ (q : InputSet). Idle (l.i + 1) a.t a.ins.now (numbers_of q)) (sym x.2) (idle-mark a.t a.ins.now l.i (numbers_of l.idle) l.invariant.1 (numbers_of x.1.result) x.0.taken x.1.ensures))
-          (λ x. subst (λ (q : InputSet). Idle (l.i + 1) a.t a.ins.now (numbers_of q)) (sym x.1) (idle-skip a.t a.ins.now l.i (numbers_of l.idle) l.invariant.1 x.0.left))
-          c.if-ins-i.branch,
+      elim c.if-ins-i.branch [
+        | then-ins-i x ↦ subst (λ (q : InputSet). Idle (l.i + 1) a.t a.ins.now (numbers_of q)) (sym x.idle-is) (idle-mark a.t a.ins.now l.i (numbers_of l.idle) l.invariant.1 (numbers_of x.mark-idle.result) x.if-ins-i.true x.mark-idle.ensures)
+        | else-ins-i x ↦ subst (λ (q : InputSet). Idle (l.i + 1) a.t a.ins.now (numbers_of q)) (sym x.idle-is) (idle-skip a.t a.ins.now l.i (numbers_of l.idle) l.invariant.1 x.if-ins-i.false)
+      ],
     )
 
 pub returns : goal.returns

@@ -9,6 +9,7 @@ use Rattle.shop.specs.Kept.{Column}
 use Rattle.shop.proofs.Follows.{pair-in, pair-cell}
 use Rattle.shop.proofs.Columns.{column-none, column-mark, column-skip}
 use Rattle.shop.proofs.label_column.Goals as goal
+use Rattle.shop.proofs.label_column.Goals.{then-cells-i-ne0, else-cells-i-ne0}
 
 pub loop-i-init : goal.loop-i-init
 loop-i-init c = (omega arith, column-none _ _ _ _ c.none-asks.ensures)
@@ -39,10 +40,10 @@ loop-i-preserved c =
     let l = c.loop-i in
     let e = pair-cell a.n l.i a.j.0 a.cells.now in (
       omega arith,
-      ⊎_elim
-          (λ x. subst (λ (q : InputSet). Column (l.i + 1) a.n a.cells.now a.j.0 (numbers_of q)) (sym x.2) (column-mark a.n a.cells.now a.j.0 l.i (numbers_of l.asks) l.invariant.1 (numbers_of x.1.result) (λ z. x.0.taken (e ∙ z)) x.1.ensures))
-          (λ x. subst (λ (q : InputSet). Column (l.i + 1) a.n a.cells.now a.j.0 (numbers_of q)) (sym x.1) (column-skip a.n a.cells.now a.j.0 l.i (numbers_of l.asks) l.invariant.1 (sym e ∙ x.0.left)))
-          c.if-cells-i-ne0.branch,
+      elim c.if-cells-i-ne0.branch [
+        | then-cells-i-ne0 x ↦ subst (λ (q : InputSet). Column (l.i + 1) a.n a.cells.now a.j.0 (numbers_of q)) (sym x.asks-is) (column-mark a.n a.cells.now a.j.0 l.i (numbers_of l.asks) l.invariant.1 (numbers_of x.mark-asks.result) (λ z. x.if-cells-i-ne0.true (e ∙ z)) x.mark-asks.ensures)
+        | else-cells-i-ne0 x ↦ subst (λ (q : InputSet). Column (l.i + 1) a.n a.cells.now a.j.0 (numbers_of q)) (sym x.asks-is) (column-skip a.n a.cells.now a.j.0 l.i (numbers_of l.asks) l.invariant.1 (sym e ∙ x.if-cells-i-ne0.false))
+      ],
     )
 
 pub returns : goal.returns

@@ -31,8 +31,8 @@ returns c =
     let l = c.loop-j in
     let e : l.j ≡ c.args.clock.n = omega (arith, l.invariant.1) in
     record {
-      waiting-size = same_length c;
-      ins-size = same-length-2 c;
-      outs-size = same-length-3 c;
+      waiting-size = l.invariant.2 ∙ sym c.requires.waiting-size;
+      ins-size = l.invariant.3 ∙ sym c.requires.ins-size;
+      outs-size = l.invariant.4 ∙ sym c.requires.outs-size;
       kept = λ x before h w. kept-all _ _ _ _ _ _ _ _ _ _ _ _ _ _ l.j e l.invariant.5 x before h c.idle_inputs.ensures w;
     }
