@@ -2,6 +2,8 @@
 // promises alone: its first part is what the exact call writes for the divided demand. It promises its whole
 // answer and every byte of the lent plan, for any N and any cells; all refusals are known before the first byte is written. What a plan
 // does to the wavelengths is told by the crate wavelengths.
+#![tactic(auto)]
+
 ghost use Rattle.std.specs.Prelude.{◌≡◌, ◌+◌, ◌*◌, ◌≤◌, length};
 ghost use Rattle.switch.specs.Editions.{first_edition, Bounded};
 ghost use Rattle.switch.specs.Result.{Gives};

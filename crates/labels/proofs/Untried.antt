@@ -1,8 +1,7 @@
 -- The lowest of what the row has and is not tried is the lowest that is untried.
-use mathlib.Core.Path.{◌≡◌, sym, ap, ◌∙◌}
-use mathlib.Core.Logic.{◌⊎◌, inl, inr, ⊎_elim}
-use Prim.Native.Nat.{ℕ, ◌<◌}
-use Rattle.sets.specs.Label.{digit, In, But, LowestAt, Lowest}
+use mathlib.Core.Logic.{⊎_elim}
+use Prim.Native.Nat.{ℕ}
+use Rattle.sets.specs.Label.{digit, But, Lowest}
 use Rattle.sets.proofs.Digits.{same_or}
 use Rattle.labels.specs.declared.FoundOutput.{FoundOutput}
 use Rattle.labels.specs.declared.FoundOutput.TheVariants.{At, Nothing}

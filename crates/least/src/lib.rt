@@ -1,6 +1,8 @@
 // The least total that any plan within a wavelength limit can have on the grating fabric: the larger of T and, rounded up, the most slots
 // asked on one wavelength over the limit. It promises its whole answer for any N, any cells and any limit. That no plan within the limit has
 // a smaller total is a law of the crate quiet_rule; nothing is planned here.
+#![tactic(auto)]
+
 ghost use Rattle.std.specs.Prelude.{◌≡◌, ◌+◌, ◌-◌, ◌/◌, ◌<◌};
 ghost use Rattle.switch.specs.Demand.{cell};
 ghost use Rattle.switch.specs.Editions.{first_edition};

@@ -1,6 +1,8 @@
 // Numbers: the steps on plain numbers that many crates take, each proved once. A narrow number as a wider one, the smaller and the larger of
 // two, a difference that stops at 0, four bytes read as a word, and cells copied. Nothing is said of a switch.
 // A type is named by its size: byte, half, word and long have 8, 16, 32 and 64 bits, and a size is an index.
+#![tactic(auto)]
+
 ghost use Rattle.std.specs.Prelude.{◌≡◌, ◌++◌, ◌+◌, ◌-◌, ◌<◌, ◌≤◌, min, max, length, drop};
 ghost use Rattle.numbers.specs.Word.{word};
 

@@ -2,6 +2,8 @@
 // outputs whose wavelength is full are a set that goes on by one place from input to input, so one pass for an input is one lowest bit.
 // It promises the setting of the rule on paper, for up to 64 ports and any limit. Which cells are left, and how long the setting is held, is
 // left to the crate above.
+#![tactic(auto)]
+
 ghost use Rattle.std.specs.Prelude.{◌≡◌, ℕ, ◌+◌, ◌<◌, ◌≤◌, length, get_or};
 ghost use Rattle.sets.specs.Label.{In};
 ghost use Rattle.quiet_rule.specs.Quiet.{quiet_setting};

@@ -1,6 +1,8 @@
 // Rescuing a damaged plan (§19): its well-formed records in their order, and behind them the exact plan of what they leave uncovered; a list
 // says which records were dropped, and why. `rescue_plan` promises its answer and every byte of both lent buffers for any N, cells and
 // bytes, and nothing is written before all is known. What is kept, dropped and added stands on paper in the crate rescue_rule.
+#![tactic(auto)]
+
 ghost use Rattle.std.specs.Prelude.{◌≡◌, ◌++◌, length, ℕ, ◌+◌, ◌*◌, ◌-◌, ◌<◌, ◌≤◌};
 ghost use Rattle.switch.specs.Demand.{cell, Blank};
 ghost use Rattle.switch.specs.Editions.{first_edition, Bounded};

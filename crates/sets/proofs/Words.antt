@@ -4,7 +4,7 @@ use mathlib.Core.Logic.{◌⊎◌, inl, inr, ⊎_elim}
 use Prim.Native.Nat.{ℕ, ◌+◌, ◌-◌, ◌^◌, ◌≤◌, ◌<◌}
 use native.Mathlib.Decide.{dec_lt}
 use native.Mathlib.Omega.{arith}
-use Rattle.sets.specs.Label.{digit, In, Marked, Cleared, Lowered, Union, But, Common, Below, From, LowestAt, Lowest}
+use Rattle.sets.specs.Label.{digit, In, Marked, Cleared, Lowered, Union, But, Common, Below, From, LowestAt}
 use Rattle.sets.proofs.Digits.{digit_lt, same_or, all-zero, digit-in, cat-low, cat-high}
 use Rattle.sets.specs.Wide.{two}
 

@@ -17,8 +17,8 @@ use Rattle.rules.specs.Search.{put}
 use Rattle.rules.specs.Quick.{lowest}
 use Rattle.rules.proofs.Ports.{put_same, put_other}
 use Rattle.rules.proofs.Slot.{Low, at, nowhere, lowest-low}
-use Rattle.shop_rule.specs.Task.{Task, Each, Ordered, before, Rises, Apart, times}
-use Rattle.shop_rule.specs.Shop.{pairs, timed, Runs, Shop, ready, begin, take, turn, turns, next}
+use Rattle.shop_rule.specs.Task.{Task, Each, Ordered, Rises, Apart, times}
+use Rattle.shop_rule.specs.Shop.{pairs, timed, Runs, Shop, ready, begin, take, turn, turns}
 use Rattle.shop_rule.proofs.Task.{each_map, each_last, ordered-last, times-last}
 use Rattle.shop_rule.proofs.Begin.{lasting-some, pairs-none, pairs-one, without, without_at, without-row, without-col, without-left, ahead, undone, begin-ahead, begin-undone}
 use Rattle.shop_rule.proofs.Next.{Next}

@@ -1,6 +1,8 @@
 // The model: ports, sides, refusals and the outcome of a call, with the numbers of §9 for each of its cases.
 // What a demand, a line, T, a setting, a plan, its grants, its cover and its empty slots are stands in specs/, over any number of ports, and
 // in proofs/ that no plan that covers a demand is held for less than T. Checking a demand and planning it are left to the crates above.
+#![tactic(auto)]
+
 ghost use Rattle.std.specs.Prelude.{◌≡◌};
 ghost use Rattle.switch.specs.Editions.{first_edition, second_edition};
 ghost use Rattle.switch.specs.Answer.{refusal_code, refusal_place, refusal_side, no_counts, numbers_of, about_number};

@@ -1,10 +1,8 @@
 -- The flag says of the inputs passed whether their outputs are ports or idle.
 use mathlib.Core.Path.{◌≡◌}
 use Prim.Native.Nat.{◌-◌, ◌≤◌}
-use native.Mathlib.Omega.{arith}
 use Rattle.apart.specs.Fine.{Ports}
 use mathlib.Core.Bool.{true}
-use Rattle.apart.proofs.Tally.{ports-more}
 use Rattle.apart.proofs.all_inside.Given as goal
 
 abbrev pub invariant-loop-i : goal.invariant-loop-i

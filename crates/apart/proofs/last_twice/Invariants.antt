@@ -1,10 +1,6 @@
 -- The outputs passed that are port 63 are counted, and with a count of 1 at most no two are.
-use mathlib.Core.Path.{◌≡◌}
 use Prim.Native.Nat.{◌-◌, ◌≤◌}
-use native.Mathlib.Omega.{arith}
-use lib.Dec.{eqb}
-use borrow.Author.Tests.{ltb-false}
-use Rattle.apart.proofs.Tally.{Tallied, tallied-none, tallied-more, bit_le}
+use Rattle.apart.proofs.Tally.{Tallied}
 use Rattle.apart.proofs.last_twice.Given as goal
 
 abbrev pub invariant-loop-i : goal.invariant-loop-i

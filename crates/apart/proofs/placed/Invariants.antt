@@ -1,10 +1,7 @@
 -- Each output passed that has another place than the last is counted.
-use mathlib.Core.Path.{◌≡◌, refl}
-use Prim.Native.Nat.{◌-◌, ◌%◌, ◌≤◌}
-use lib.Dec.{ltb}
-use native.Mathlib.Omega.{arith}
+use mathlib.Core.Path.{◌≡◌}
+use Prim.Native.Nat.{◌-◌, ◌≤◌}
 use Rattle.apart.specs.Places.{placed_below}
-use Rattle.apart.proofs.Tally.{placed-more, placed-le, bit_le}
 use Rattle.apart.proofs.placed.Given as goal
 
 abbrev pub invariant-loop-i : goal.invariant-loop-i

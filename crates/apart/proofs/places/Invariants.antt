@@ -1,10 +1,7 @@
 -- Each output passed sets its place.
-use mathlib.Core.Path.{◌≡◌, refl}
+use mathlib.Core.Path.{◌≡◌}
 use Prim.Native.Nat.{◌-◌, ◌≤◌}
-use native.Mathlib.Nat.{mod-lt}
-use native.Mathlib.Omega.{arith}
 use Rattle.apart.specs.Places.{places_of}
-use Rattle.apart.proofs.Tally.{places-more}
 use Rattle.apart.proofs.places.Given as goal
 
 abbrev pub invariant-loop-i : goal.invariant-loop-i

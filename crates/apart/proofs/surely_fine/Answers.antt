@@ -1,7 +1,7 @@
 -- As many places as outputs, or as many as the outputs that have another place than the last, tell all of them apart.
 use mathlib.Core.Path.{sym, ◌∙◌}
 use mathlib.Core.Bool.{true≢false}
-use borrow.Author.Tests.{not-false, eqb-true}
+use borrow.Author.Tests.{eqb-true}
 use Rattle.apart.proofs.Tally.{fine-full, fine-part}
 use Rattle.apart.proofs.surely_fine.Goals as goal
 

@@ -1,13 +1,9 @@
 -- Row by row the sum grows by a line, of which none is over 65,535.
-use mathlib.Core.Path.{◌≡◌, sym, ap, ◌∙◌}
-use Prim.Native.Nat.{ℕ, ◌-◌, ◌*◌, ◌≤◌}
-use native.Mathlib.Omega.{arith}
+use mathlib.Core.Path.{◌≡◌}
+use Prim.Native.Nat.{◌-◌, ◌*◌, ◌≤◌}
 use Rattle.counting.specs.Sum.{sum}
 use Rattle.counting.specs.Matrix.{row}
-use Rattle.counting.proofs.Sum.{sum-zero, sum-next}
 use Rattle.switch.specs.Demand.{cell}
-use Rattle.switch.proofs.Demand.{line_row, row-le-longest}
-use Rattle.switch.specs.Empty.{all_slots}
 use Rattle.demand.proofs.asked_slots.Given as goal
 
 abbrev pub invariant-loop-i : goal.invariant-loop-i

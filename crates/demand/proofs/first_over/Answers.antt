@@ -1,9 +1,7 @@
 -- No line before k is over the limit, so what the scan from line 0 finds is what the scan from line k finds.
 use mathlib.Core.Path.{◌≡◌, refl, sym, ◌∙◌}
-use Prim.Native.Nat.{◌+◌, ◌-◌, ◌≤◌}
+use Prim.Native.Nat.{◌+◌}
 use native.Mathlib.Omega.{arith}
-use Rattle.switch.specs.Demand.{line}
-use Rattle.demand.specs.Lines.{over}
 use Rattle.demand.proofs.Lines.{over-here, over-next, over-end, over-start}
 use Rattle.demand.proofs.first_over.Goals as goal
 

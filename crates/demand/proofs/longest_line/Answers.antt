@@ -1,7 +1,6 @@
 -- After k turns it is the largest of the first k lines, and T is the largest of all 2n.
 use mathlib.Core.Path.{◌≡◌, refl, sym, ap, ◌∙◌}
-use mathlib.Core.Logic.{⊎_elim}
-use Prim.Native.Nat.{ℕ, ◌+◌, ◌-◌, ◌≤◌}
+use Prim.Native.Nat.{ℕ, ◌+◌}
 use native.Mathlib.Omega.{arith}
 use Rattle.counting.specs.Sum.{most}
 use Rattle.counting.proofs.Most.{most-zero, most-next}

@@ -1,12 +1,8 @@
 -- After k turns it is the largest of the first k lines, and T is the largest of all 2n.
-use mathlib.Core.Path.{◌≡◌, refl, sym, ap, ◌∙◌}
-use mathlib.Core.Logic.{⊎_elim}
-use Prim.Native.Nat.{ℕ, ◌+◌, ◌-◌, ◌≤◌}
-use native.Mathlib.Omega.{arith}
+use mathlib.Core.Path.{◌≡◌}
+use Prim.Native.Nat.{◌+◌, ◌-◌, ◌≤◌}
 use Rattle.counting.specs.Sum.{most}
-use Rattle.counting.proofs.Most.{most-zero, most-next}
 use Rattle.switch.specs.Demand.{line}
-use Rattle.switch.proofs.Demand.{longest-is}
 use Rattle.demand.proofs.longest_line.Given as goal
 
 abbrev pub invariant-loop-k : goal.invariant-loop-k

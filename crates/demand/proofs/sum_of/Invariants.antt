@@ -1,12 +1,8 @@
 -- After b turns the sum is that of the first b cells, and at most b times the largest cell, so that it cannot wrap.
-use mathlib.Core.Path.{◌≡◌, sym, ap, ◌∙◌}
-use Prim.Native.Nat.{ℕ, ◌+◌, ◌*◌, ◌-◌, ◌≤◌}
-use native.Mathlib.Omega.{arith}
-use native.Mathlib.Nat.{mul-le-mul, add-mul}
+use mathlib.Core.Path.{◌≡◌}
+use Prim.Native.Nat.{◌+◌, ◌*◌, ◌-◌, ◌≤◌}
 use lib.ListN.{get_or}
 use Rattle.counting.specs.Sum.{sum}
-use Rattle.counting.proofs.Sum.{sum-next, sum-zero}
-use Rattle.demand.specs.Lines.{strided}
 use Rattle.demand.proofs.sum_of.Given as goal
 
 abbrev pub invariant-loop-b : goal.invariant-loop-b

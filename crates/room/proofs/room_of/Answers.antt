@@ -1,5 +1,5 @@
 -- Each planner's number, and for the quick cover its limit.
-use mathlib.Core.Path.{◌≡◌, ap, ◌∙◌}
+use mathlib.Core.Path.{ap, ◌∙◌}
 use borrow.Author.Tests.{le-leb, lt-leb}
 use Rattle.room.specs.Room.{sufficing}
 use Rattle.room.proofs.room_of.Goals as goal

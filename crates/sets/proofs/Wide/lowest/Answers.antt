@@ -2,7 +2,7 @@
 use mathlib.Core.Path.{subst}
 use native.Mathlib.Omega.{arith}
 use Rattle.sets.specs.declared.Found.{Found}
-use Rattle.sets.specs.Label.{Lowest, LowestAt}
+use Rattle.sets.specs.Label.{Lowest}
 use Rattle.sets.proofs.Words.{none, lowest-low, lowest-high}
 use Rattle.sets.proofs.Wide.lowest.Goals as goal
 

@@ -1,0 +1,15 @@
+-- Input by input the setting in the making is what the rule's visits give.
+use mathlib.Core.Path.{◌≡◌, refl, sym, ◌∙◌}
+use Prim.Native.Nat.{◌≤◌, ◌-◌}
+use native.Mathlib.Omega.{arith}
+use lib.ListN.{length}
+use Rattle.switch.proofs.Demand.{blank-zeros}
+use Rattle.quiet_setting.specs.Choosing.{Choosing}
+use Rattle.quiet_setting.proofs.Visiting.{visit-first, visit-last}
+use Rattle.quiet_setting.proofs.choose.Given as goal
+
+abbrev pub invariant-loop-i : goal.invariant-loop-i
+invariant-loop-i l = (l.i ≤ l.n) × Choosing l.n l.limit l.lows l.i l.out l.counts l.busy × (length l.out ≡ length l.initial.out) × (length l.counts ≡ 64)
+
+abbrev pub decreases-loop-i : goal.decreases-loop-i
+decreases-loop-i l = l.n - l.i
