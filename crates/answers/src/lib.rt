@@ -1,5 +1,7 @@
 // Answers as numbers, for callers that are not written in Rattle: the structs that cross the edge, and every kind of answer flattened to
 // one of them. Each field is given by a definition of specs/Flat; what does not apply to a call is 0.
+#![tactic(auto)]
+
 ghost use Rattle.std.specs.Prelude.{◌≡◌};
 ghost use Rattle.plans.specs.Read.{step_place};
 ghost use Rattle.answers.specs.Flat.{version, flat, flat_about, kind_of, flat_wish, flat_carried, flat_rescue};

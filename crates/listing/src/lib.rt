@@ -1,6 +1,8 @@
 // The lister's text: the bytes of a wish list to the exact plan of its demand, or to the line of what is refused.
 // `listing` promises the text to the byte, for any bytes, and that it fits; the program `lister` only reads and writes.
 // How a line is laid out is the crate `text`'s matter, and the plan the planner's.
+#![tactic(auto)]
+
 ghost use Rattle.std.specs.Prelude.{◌≡◌, ◌+◌, ◌*◌, ◌<◌, ◌≤◌, length, take};
 ghost use Rattle.records.specs.Bytes.{laid};
 ghost use Rattle.text.specs.Put.{Put};

@@ -2,6 +2,8 @@
 // It promises the whole answer and every byte of the lent plan, for any N, any cells and any limit: the refusals in order, all known
 // before the first byte is written, and else the plan that the rule on paper gives. The lent demand is only read.
 // How a setting is chosen is left to the crate below, and what the plan is worth, and how near it is to the shortest, to the rule's laws.
+#![tactic(auto)]
+
 ghost use Rattle.std.specs.Prelude.{◌≡◌, ℕ, ◌<◌, ◌≤◌, length, ltb};
 ghost use Rattle.counting.specs.Count.{ind, count};
 ghost use Rattle.switch.specs.Demand.{cell};

@@ -1,6 +1,8 @@
 // The lister's lines: a plan, or a refusal, as text. Words, decimal numbers and plan records are put into a lent text, one after the other.
 // Each function promises the bytes it puts, that it touches no other, and the place after them; what a caller shows is that they fit.
 // Which text is printed for a wish list is left to `listing`.
+#![tactic(auto)]
+
 ghost use Rattle.std.specs.Prelude.{[], ◌∷◌, ◌++◌, map, ◌+◌, ◌*◌, ◌≤◌, length, take};
 ghost use Rattle.records.specs.Record.{decoded, outputs};
 ghost use Rattle.records.specs.Bytes.{plan_from};
