@@ -13,20 +13,6 @@ use Rattle.quiet.specs.Taking.{leftover}
 use Rattle.quiet.proofs.Planning.{small_of, copied-plan, copied-fits, copied-short, gives-room, gives-plan}
 use Rattle.quiet.proofs.plan_fine.Goals as goal
 
--- all fit: what is still to come is the plan
-module _ (c : tie.After-short-of) (z : c.short-of.result ≡ 0) where
-  copy : Copied c.before.before.before.before.before.before.before.before.before.args.n c.before.before.before.before.before.before.before.before.before.args.cells.now c.short-of.new.1.1.1.1.0 c.short-of.new.1.1.1.1.1.0 c.short-of.new.1.1.1.1.1.1.0
-  copy = c.short-of.ensures.copied z
-
-
-  plan : leftover c.before.before.before.before.before.before.before.before.before.args.n c.before.before.before.before.before.before.before.before.before.args.limit c.short-of.new.1.1.1.1.0 ≡ quiet_plan 64 c.before.before.before.before.before.before.before.before.before.args.n c.before.before.before.before.before.before.before.before.before.args.limit c.before.before.before.before.before.before.before.before.before.args.cells.now
-  plan = copied-plan c.before.before.before.before.before.before.before.before.before.args.n c.before.before.before.before.before.before.before.before.before.args.limit c.before.before.before.before.before.before.before.before.before.args.cells.now _ _ _ copy
-
-
-  fits : length (quiet_plan 64 c.before.before.before.before.before.before.before.before.before.args.n c.before.before.before.before.before.before.before.before.before.args.limit c.before.before.before.before.before.before.before.before.before.args.cells.now) ≤ whole 64 c.before.before.before.before.before.before.before.before.before.args.plan.now
-  fits = shortage-none _ _ (sym c.short-of.ensures.lacks ∙ z)
-
-
 pub short_of-need-requires : goal.short_of-need-requires
 short_of-need-requires c = (c.requires.0, small_of c.args.n c.args.longest c.args.cells.now c.requires.1, c.requires.2)
 
@@ -41,16 +27,23 @@ pub lay_records-done-requires : goal.lay_records-done-requires
 lay_records-done-requires c =
     let a = c.args in
     let z = c.if-need-ne0.false in
+    let s = c.short_of-need.new in
+    let copy : Copied a.n a.cells.now s.work s.lows s.highs = c.short_of-need.ensures.copied z in
+    let fits : length (quiet_plan 64 a.n a.limit a.cells.now) ≤ whole 64 a.plan.now = shortage-none _ _ (sym c.short_of-need.ensures.lacks ∙ z) in
     let m = small_of a.n a.longest a.cells.now c.requires.1 in (
-      record { copy = (copy c z).copy; limit = c.requires.0; few = m.few },
-      copied-short a.n a.cells.now m a.limit c.requires.0 _ _ _ (copy c z),
-      copied-fits a.n a.limit a.cells.now _ _ _ (copy c z) m c.requires.0 a.plan.now (fits c z),
+      record { copy = copy.copy; limit = c.requires.0; few = m.few },
+      copied-short a.n a.cells.now m a.limit c.requires.0 _ _ _ copy,
+      copied-fits a.n a.limit a.cells.now _ _ _ copy m c.requires.0 a.plan.now fits,
     )
 
 pub returns : goal.returns
 returns c =
     let a = c.args in
     let z = c.if-need-ne0.false in
+    let s = c.short_of-need.new in
+    let copy : Copied a.n a.cells.now s.work s.lows s.highs = c.short_of-need.ensures.copied z in
+    let fits : length (quiet_plan 64 a.n a.limit a.cells.now) ≤ whole 64 a.plan.now = shortage-none _ _ (sym c.short_of-need.ensures.lacks ∙ z) in
+    let plan : leftover a.n a.limit s.work ≡ quiet_plan 64 a.n a.limit a.cells.now = copied-plan a.n a.limit a.cells.now _ _ _ copy in
     let d = c.lay_records-done.ensures in
-    gives-plan a.n a.cells.now a.limit a.plan.now a.longest c.requires.1 c.requires.0 _ _ (fits c z) (d.0 ∙ ap length (plan c z)) (d.1 ∙ ap total (plan c z)) _
-    (d.2 ∙ ap (λ (q : List Record). laid a.plan.now 0 (bytes 0 a.n q)) (plan c z))
+    gives-plan a.n a.cells.now a.limit a.plan.now a.longest c.requires.1 c.requires.0 _ _ fits (d.0 ∙ ap length plan) (d.1 ∙ ap total plan) _
+    (d.2 ∙ ap (λ (q : List Record). laid a.plan.now 0 (bytes 0 a.n q)) plan)
