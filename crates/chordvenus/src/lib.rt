@@ -1,6 +1,8 @@
 // The edge: every public call as a C function, for callers that are not written in Rattle. Each function calls one public function and
 // has its answer flattened to numbers (crate `answers`); include/chordvenus.h says what each call does. No thinking stands here: what a
 // call promises is its own crate's matter, and every field of an answer is given by that promise.
+#![tactic(auto)]
+
 ghost use Rattle.std.specs.Prelude.{◌≡◌};
 ghost use Rattle.wish.specs.Wish.{wish_bits};
 ghost use Rattle.wishes.specs.Wishes.{wishing};
