@@ -1,14 +1,9 @@
 -- The cells before that of the pair (i, j) are filled in order, and what each line still lacks is noted beside them.
-use mathlib.Core.Path.{◌≡◌, sym, ap, ◌∙◌}
+use mathlib.Core.Path.{◌≡◌}
 use Prim.Native.Nat.{◌+◌, ◌*◌, ◌-◌, ◌<◌, ◌≤◌}
-use native.Mathlib.Nat.{mul-le-mul_right}
-use native.Mathlib.Omega.{arith}
-use lib.Arith.{digits_lt}
-use lib.ListN.{length, length-set}
-use Rattle.rules.specs.Fill.{fill, fill_to}
-use Rattle.rules.proofs.Fill.{length-fill_to}
+use lib.ListN.{length}
+use Rattle.rules.specs.Fill.{fill_to}
 use Rattle.board.specs.Level.{Lacking}
-use Rattle.board.proofs.Filling.{within-so-far, fill_to-zero, next_row, fill-fits, fill_step}
 use Rattle.board.proofs.fill_up.Given as goal
 
 abbrev pub invariant-loop-i : goal.invariant-loop-i

@@ -1,6 +1,6 @@
 -- After j turns the label has the outputs below j whose cells are not zero.
 use mathlib.Core.Path.{◌≡◌, refl, subst}
-use Prim.Native.Nat.{◌-◌, ◌*◌, ◌≤◌}
+use Prim.Native.Nat.{◌*◌}
 use native.Mathlib.Omega.{arith}
 use Rattle.labels.specs.Ports.{outputs_of}
 use Rattle.board.proofs.Cells.{index_in}

@@ -1,10 +1,7 @@
 -- After j turns the label has the outputs below j whose cells are not zero.
-use mathlib.Core.Path.{◌≡◌, refl, subst}
-use Prim.Native.Nat.{◌-◌, ◌*◌, ◌≤◌}
-use native.Mathlib.Omega.{arith}
+use Prim.Native.Nat.{◌-◌, ◌≤◌}
 use Rattle.labels.specs.Ports.{outputs_of}
-use Rattle.board.proofs.Cells.{index_in}
-use Rattle.board.proofs.Labels.{Part, part_none, part-next, part-row}
+use Rattle.board.proofs.Labels.{Part}
 use Rattle.board.proofs.label_row.Given as goal
 
 abbrev pub invariant-loop-j : goal.invariant-loop-j

@@ -1,8 +1,6 @@
 -- After i turns the inputs below i have their labels.
-use mathlib.Core.Path.{sym, ◌∙◌}
-use Prim.Native.Nat.{◌-◌, ◌≤◌}
 use native.Mathlib.Omega.{arith}
-use Rattle.board.proofs.Labels.{Begun, begun-next}
+use Rattle.board.proofs.Labels.{begun-next}
 use Rattle.board.proofs.label_rows.Goals as goal
 
 pub loop-i-init : goal.loop-i-init

@@ -1,9 +1,7 @@
 -- Each turn notes what one line lacks; no line is over T, so nothing wraps.
-use mathlib.Core.Path.{◌≡◌, refl}
-use Prim.Native.Nat.{ℕ, ◌+◌, ◌-◌, ◌≤◌, ◌<◌}
+use mathlib.Core.Path.{refl}
 use native.Mathlib.Omega.{arith}
-use lib.ListN.{length, get_or, length-set}
-use Rattle.switch.specs.Demand.{line}
+use lib.ListN.{length-set}
 use Rattle.board.proofs.Filling.{lacking-next, line-within}
 use Rattle.board.proofs.measure.Goals as goal
 

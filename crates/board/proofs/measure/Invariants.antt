@@ -1,10 +1,8 @@
 -- Each turn notes what one line lacks; no line is over T, so nothing wraps.
-use mathlib.Core.Path.{◌≡◌, refl}
+use mathlib.Core.Path.{◌≡◌}
 use Prim.Native.Nat.{ℕ, ◌+◌, ◌-◌, ◌≤◌, ◌<◌}
-use native.Mathlib.Omega.{arith}
-use lib.ListN.{length, get_or, length-set}
+use lib.ListN.{length, get_or}
 use Rattle.switch.specs.Demand.{line}
-use Rattle.board.proofs.Filling.{lacking-next, line-within}
 use Rattle.board.proofs.measure.Given as goal
 
 abbrev pub invariant-loop-k : goal.invariant-loop-k

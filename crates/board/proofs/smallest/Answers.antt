@@ -1,6 +1,6 @@
 -- After i turns it is the least of the cells that the inputs below i use.
 use mathlib.Core.Path.{◌≡◌, ap, ◌∙◌}
-use Prim.Native.Nat.{ℕ, ◌-◌, ◌≤◌, ◌<◌}
+use Prim.Native.Nat.{ℕ, ◌-◌}
 use native.Mathlib.Omega.{arith}
 use Rattle.switch.specs.Demand.{cell}
 use Rattle.rules.specs.Exact.{least}

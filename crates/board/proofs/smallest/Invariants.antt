@@ -1,11 +1,9 @@
 -- After i turns it is the least of the cells that the inputs below i use.
-use mathlib.Core.Path.{◌≡◌, ap, ◌∙◌}
-use Prim.Native.Nat.{ℕ, ◌-◌, ◌≤◌, ◌<◌}
-use native.Mathlib.Omega.{arith}
+use mathlib.Core.Path.{◌≡◌}
+use Prim.Native.Nat.{◌-◌, ◌≤◌, ◌<◌}
 use Rattle.switch.specs.Demand.{cell}
 use Rattle.rules.specs.Exact.{least}
 use Rattle.board.specs.Level.{out_of}
-use Rattle.board.proofs.Cells.{least-one, least-next, at_in, at-cell}
 use Rattle.board.proofs.smallest.Given as goal
 
 abbrev pub invariant-loop-i : goal.invariant-loop-i

@@ -1,8 +1,7 @@
 -- After i turns the inputs below i have given up the hold, the labels are in step, and those are told whose cell that emptied.
 use mathlib.Core.Path.{◌≡◌, sym, ap, subst, ◌∙◌}
-use mathlib.Core.Logic.{inl, inr}
 use mathlib.Core.List.{List}
-use Prim.Native.Nat.{ℕ, ◌+◌, ◌*◌, ◌-◌, ◌≤◌}
+use Prim.Native.Nat.{ℕ, ◌+◌, ◌*◌, ◌-◌}
 use native.Mathlib.Omega.{arith}
 use lib.ListN.{set}
 use lib.Dec.{eqb}
@@ -13,8 +12,8 @@ use Rattle.labels.specs.Ports.{inputs_of}
 use Rattle.rules.specs.Peel.{peel_to}
 use Rattle.rules.proofs.Peel.{peel_to-zero}
 use Rattle.board.specs.Level.{Uses, out_of}
-use Rattle.board.specs.Labelled.{Labelled, Emptied}
-use Rattle.board.proofs.Cells.{get_d_any, peel_to-next, peeled-length, peeled-sized, still-whole}
+use Rattle.board.specs.Labelled.{Emptied}
+use Rattle.board.proofs.Cells.{get_d_any, peel_to-next, peeled-sized, still-whole}
 use Rattle.board.proofs.Labels.{emptied-start, emptied-not, emptied-more}
 use Rattle.board.proofs.subtract.Goals as goal
 use Rattle.board.proofs.subtract.Goals.{then-empties, else-empties}
@@ -59,15 +58,15 @@ loop-i-preserved c =
       f ∙ peel_to-next a.n a.hold (out_of a.out.now) a.cells.now l.cells l.i (p.uses.inside l.i t) l.invariant.1,
       s.0.labels,
       subst (λ (x : List ℕ). Emptied a.n x a.out.now (inputs_of c.if-empties.emptied) (l.i + 1)) (sym f) (let i = l.i in
-      let v = cell a.n l.cells i (out_of a.out.now i) - a.hold in
-      let u : Uses a.n l.cells a.out.now = record { sized = peeled-sized _ _ _ _ p.uses _ _ l.invariant.1; long = p.uses.long; inside = p.uses.inside } in
-      let g = c.empties.ensures.1 ∙ ap (λ (j : ℕ). eqb (cell a.n l.cells i j - a.hold) 0) e in
-      elim c.if-empties.branch [
-        | then-empties x ↦ subst (λ (q : Inputs). Emptied a.n (set l.cells (i * a.n + out_of a.out.now i) v) a.out.now (inputs_of q) (i + 1)) (sym x.emptied-is)
-            (emptied-more a.n l.cells a.out.now i v (inputs_of l.emptied) u t l.invariant.3 _ (eqb-true v 0 (sym g ∙ x.if-empties.true)) x.mark-emptied.ensures)
-        | else-empties y ↦ subst (λ (q : Inputs). Emptied a.n (set l.cells (i * a.n + out_of a.out.now i) v) a.out.now (inputs_of q) (i + 1)) (sym y.emptied-is)
-            (emptied-not a.n l.cells a.out.now i v (inputs_of l.emptied) u t l.invariant.3 (let z = eqb-false v 0 (sym g ∙ y.if-empties.false) in omega (arith, z)))
-      ]),
+          let v = cell a.n l.cells i (out_of a.out.now i) - a.hold in
+          let u : Uses a.n l.cells a.out.now = record { sized = peeled-sized _ _ _ _ p.uses _ _ l.invariant.1; long = p.uses.long; inside = p.uses.inside } in
+          let g = c.empties.ensures.1 ∙ ap (λ (j : ℕ). eqb (cell a.n l.cells i j - a.hold) 0) e in
+          elim c.if-empties.branch [
+            | then-empties x ↦ subst (λ (q : Inputs). Emptied a.n (set l.cells (i * a.n + out_of a.out.now i) v) a.out.now (inputs_of q) (i + 1)) (sym x.emptied-is)
+                (emptied-more a.n l.cells a.out.now i v (inputs_of l.emptied) u t l.invariant.3 _ (eqb-true v 0 (sym g ∙ x.if-empties.true)) x.mark-emptied.ensures)
+            | else-empties y ↦ subst (λ (q : Inputs). Emptied a.n (set l.cells (i * a.n + out_of a.out.now i) v) a.out.now (inputs_of q) (i + 1)) (sym y.emptied-is)
+                (emptied-not a.n l.cells a.out.now i v (inputs_of l.emptied) u t l.invariant.3 (let z = eqb-false v 0 (sym g ∙ y.if-empties.false) in omega (arith, z)))
+          ]),
     )
 
 pub returns : goal.returns

@@ -1,21 +1,10 @@
 -- After i turns the inputs below i have given up the hold, the labels are in step, and those are told whose cell that emptied.
-use mathlib.Core.Path.{◌≡◌, sym, ap, subst, ◌∙◌}
-use mathlib.Core.Logic.{inl, inr}
-use mathlib.Core.List.{List}
-use Prim.Native.Nat.{ℕ, ◌+◌, ◌*◌, ◌-◌, ◌≤◌}
-use native.Mathlib.Omega.{arith}
-use lib.ListN.{set}
-use lib.Dec.{eqb}
-use borrow.Author.Tests.{eqb-true, eqb-false}
-use Rattle.switch.specs.Demand.{cell}
-use Rattle.labels.specs.declared.Inputs.{Inputs}
+use mathlib.Core.Path.{◌≡◌}
+use Prim.Native.Nat.{◌-◌, ◌≤◌}
 use Rattle.labels.specs.Ports.{inputs_of}
 use Rattle.rules.specs.Peel.{peel_to}
-use Rattle.rules.proofs.Peel.{peel_to-zero}
-use Rattle.board.specs.Level.{Uses, out_of}
+use Rattle.board.specs.Level.{out_of}
 use Rattle.board.specs.Labelled.{Labelled, Emptied}
-use Rattle.board.proofs.Cells.{get_d_any, peel_to-next, peeled-length, peeled-sized, still-whole}
-use Rattle.board.proofs.Labels.{emptied-start, emptied-not, emptied-more}
 use Rattle.board.proofs.subtract.Given as goal
 
 abbrev pub invariant-loop-i : goal.invariant-loop-i

@@ -1,13 +1,10 @@
 -- All records before k are well formed, and what they grant stands in the grants.
-use mathlib.Core.Path.{◌≡◌, refl, ◌∙◌}
+use mathlib.Core.Path.{◌≡◌}
 use Prim.Native.Nat.{◌-◌}
-use native.Mathlib.Omega.{arith}
 use lib.ListN.{length}
 use Rattle.records.specs.Bytes.{plan_from}
 use Rattle.grants.specs.Grants.{Grants}
-use Rattle.plans.proofs.Pass.{Through, through-none, pass-end, read-size, pass-stop, pass-more}
-use Rattle.grants.proofs.Grant.{grants-none, grants-more, grants-small}
-use Rattle.std.proofs.Common.{ap, not}
+use Rattle.plans.proofs.Pass.{Through}
 use Rattle.grants.proofs.grant_plan.Given as goal
 
 abbrev pub invariant-loop-k : goal.invariant-loop-k

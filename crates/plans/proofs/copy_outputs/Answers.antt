@@ -1,10 +1,9 @@
 -- Each turn of the loop lays one output more.
 use mathlib.Core.Path.{◌≡◌, refl}
-use Prim.Native.Nat.{◌+◌, ◌-◌, ◌≤◌}
+use Prim.Native.Nat.{◌+◌}
 use native.Mathlib.Omega.{arith}
-use lib.ListN.{length, take, length-set, length-drop}
+use lib.ListN.{length, length-set, length-drop}
 use lib.Seq.{get_or-drop}
-use Rattle.records.specs.Bytes.{laid}
 use Rattle.records.specs.Record.{outputs}
 use Rattle.records.proofs.Laid.{copy-none, copy-start-more, copy-whole}
 use Rattle.std.proofs.Common.{rules}

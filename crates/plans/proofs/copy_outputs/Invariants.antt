@@ -1,12 +1,9 @@
 -- Each turn of the loop lays one output more.
-use mathlib.Core.Path.{◌≡◌, refl}
+use mathlib.Core.Path.{◌≡◌}
 use Prim.Native.Nat.{◌+◌, ◌-◌, ◌≤◌}
-use native.Mathlib.Omega.{arith}
-use lib.ListN.{length, take, length-set, length-drop}
-use lib.Seq.{get_or-drop}
+use lib.ListN.{length, take}
 use Rattle.records.specs.Bytes.{laid}
 use Rattle.records.specs.Record.{outputs}
-use Rattle.records.proofs.Laid.{copy-none, copy-start-more, copy-whole}
 use Rattle.plans.proofs.copy_outputs.Given as goal
 
 abbrev pub invariant-loop-i : goal.invariant-loop-i

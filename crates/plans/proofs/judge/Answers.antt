@@ -1,8 +1,7 @@
 -- All records before k are well formed, and their holds are summed.
 use Rattle.std.proofs.Common.{ap, not}
-use Prim.Native.Nat.{◌-◌}
 use native.Mathlib.Omega.{arith}
-use Rattle.plans.proofs.Pass.{Through, through-none, pass-end, read-size, pass-stop, pass-more}
+use Rattle.plans.proofs.Pass.{through-none, pass-end, read-size, pass-stop, pass-more}
 use Rattle.plans.proofs.judge.Goals as goal
 
 pub loop-k-init : goal.loop-k-init

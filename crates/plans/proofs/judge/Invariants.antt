@@ -1,7 +1,6 @@
 -- All records before k are well formed, and their holds are summed.
 use Prim.Native.Nat.{◌-◌}
-use native.Mathlib.Omega.{arith}
-use Rattle.plans.proofs.Pass.{Through, through-none, pass-end, read-size, pass-stop, pass-more}
+use Rattle.plans.proofs.Pass.{Through}
 use Rattle.plans.proofs.judge.Given as goal
 
 abbrev pub invariant-loop-k : goal.invariant-loop-k

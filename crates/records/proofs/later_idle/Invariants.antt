@@ -1,11 +1,8 @@
 -- The flag says of all outputs so far whether they may stand there; each turn judges one more.
-use mathlib.Core.Path.{◌≡◌, refl, sym}
+use mathlib.Core.Path.{◌≡◌}
 use Prim.Native.Nat.{◌-◌, ◌≤◌}
-use native.Mathlib.Omega.{arith}
 use lib.ListN.{length}
 use Rattle.records.specs.Record.{all, later}
-use Rattle.records.proofs.Every.{all-intro}
-use Rattle.records.proofs.Fine.{later-early, later_more}
 use Rattle.records.proofs.later_idle.Given as goal
 
 abbrev pub invariant-loop-i : goal.invariant-loop-i

@@ -1,6 +1,5 @@
 -- The first n outputs are judged, and then the later ones.
 use mathlib.Core.Path.{sym, ◌∙◌}
-use borrow.Author.Tests.{not-true, not-false}
 use Rattle.records.proofs.Fine.{outputs-bad, later-decide}
 use Rattle.records.proofs.outputs_fine.Goals as goal
 

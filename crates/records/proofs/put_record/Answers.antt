@@ -1,9 +1,8 @@
 -- The four stores lay the head, and each turn of the loop lays one output more behind it.
-use mathlib.Core.Path.{◌≡◌, refl, ◌∙◌}
-use Prim.Native.Nat.{◌+◌, ◌-◌, ◌%◌, ◌/◌, ◌≤◌}
+use mathlib.Core.Path.{refl, ◌∙◌}
+use Prim.Native.Nat.{◌+◌, ◌%◌, ◌/◌}
 use native.Mathlib.Omega.{arith}
-use lib.ListN.{length, take, length-set}
-use Rattle.records.specs.Bytes.{laid}
+use lib.ListN.{length-set}
 use Rattle.records.proofs.Laid.{laid-stores, copy-none, copy_more, copy-all}
 use Rattle.std.proofs.Common.{rules}
 use Rattle.records.proofs.put_record.Goals as goal

@@ -1,10 +1,8 @@
 -- The four stores lay the head, and each turn of the loop lays one output more behind it.
-use mathlib.Core.Path.{◌≡◌, refl, ◌∙◌}
-use Prim.Native.Nat.{◌+◌, ◌-◌, ◌%◌, ◌/◌, ◌≤◌}
-use native.Mathlib.Omega.{arith}
-use lib.ListN.{length, take, length-set}
+use mathlib.Core.Path.{◌≡◌}
+use Prim.Native.Nat.{◌+◌, ◌-◌, ◌≤◌}
+use lib.ListN.{length, take}
 use Rattle.records.specs.Bytes.{laid}
-use Rattle.records.proofs.Laid.{laid-stores, copy-none, copy_more, copy-all}
 use Rattle.records.proofs.put_record.Given as goal
 
 abbrev pub invariant-loop-i : goal.invariant-loop-i

@@ -1,10 +1,9 @@
 -- The flag says of the inputs passed whether their outputs are fine, and what was seen is just their ports.
-use mathlib.Core.Path.{◌≡◌, refl}
+use mathlib.Core.Path.{◌≡◌}
 use mathlib.Core.Bool.{◌&&◌}
 use Prim.Native.Nat.{◌-◌, ◌≤◌}
-use native.Mathlib.Omega.{arith}
 use Rattle.records.specs.Record.{all, inside, new}
-use Rattle.records.proofs.Fine.{Seen, seen_none, seen_more, fine_more}
+use Rattle.records.proofs.Fine.{Seen}
 use Rattle.records.proofs.told_fine.Given as goal
 
 abbrev pub invariant-loop-i : goal.invariant-loop-i

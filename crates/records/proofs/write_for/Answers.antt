@@ -1,7 +1,6 @@
 -- Each return is the case of the definition whose tests led there; the record is laid only where none of them fails.
 use mathlib.Core.Path.{refl, sym, ◌∙◌}
 use native.Mathlib.Omega.{arith}
-use borrow.Author.Tests.{not-true, not-false}
 use Rattle.switch.proofs.Check.{no-ports, many-ports}
 use Rattle.switch.proofs.Result.{gives}
 use Rattle.records.proofs.Write.{encode-idle, asked-fine, write-ports, write-room, write-malformed, write_done}

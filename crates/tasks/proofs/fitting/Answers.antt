@@ -5,7 +5,6 @@ use lib.Dec.{leb}
 use Rattle.tasks.specs.Read.{follows}
 use mathlib.Core.Path.{sym, ap, ap₂, ◌∙◌}
 use native.Mathlib.Omega.{arith}
-use borrow.Author.Tests.{not-true, not-false}
 use Rattle.tasks.proofs.Pass.{alone-is}
 use Rattle.tasks.proofs.Fine.{not-alone, not-rising, input-busy, output-decides}
 use Rattle.tasks.proofs.fitting.Goals as goal

@@ -1,14 +1,13 @@
 -- The times kept decide for each record as its definition does, so a record that fits leaves the scan to the later ones, and its end counts.
 use mathlib.Core.Path.{◌≡◌, sym, ap, ◌∙◌}
-use Prim.Native.Nat.{ℕ, ◌-◌, ◌≤◌, max}
+use Prim.Native.Nat.{ℕ, ◌-◌}
 use native.Mathlib.Omega.{arith}
 use lib.ListN.{length, length-set}
-use borrow.Author.Tests.{not-true, not-false}
 use Rattle.shop_rule.specs.Task as task
 use Rattle.tasks.specs.Bytes.{tasks_from}
 use Rattle.tasks.specs.Read.{faulty}
 use Rattle.tasks.proofs.Read.{part-record, byte, four, record-size, scan-stop, scan-more, scan-end, latest-more, latest-none}
-use Rattle.tasks.proofs.Pass.{part-fits, Passed, passed_none, passed-fine, passed-next, fit_is}
+use Rattle.tasks.proofs.Pass.{part-fits, passed_none, passed-fine, passed-next, fit_is}
 use Rattle.std.proofs.Common.{rules}
 use Rattle.tasks.proofs.judge_all.Goals as goal
 

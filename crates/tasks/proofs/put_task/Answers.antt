@@ -1,7 +1,7 @@
 -- The ports and the spare bytes are stored one by one, and the two times are laid behind them.
 use lib.ListN.{length-set}
 use native.Mathlib.Omega.{arith}
-use Rattle.tasks.proofs.Laid.{first-length, task-laid, task-length}
+use Rattle.tasks.proofs.Laid.{first-length, task-laid}
 use Rattle.tasks.proofs.put_task.Goals as goal
 
 pub bounds-tasks-at-2 : goal.bounds-tasks-at-2
