@@ -40,7 +40,6 @@ use Rattle.checker.specs.Check.{check_plan}
 use Rattle.checker.proofs.Passes.{sound-passes}
 use Rattle.rules.proofs.Sound.{doubled-by-sound}
 use Rattle.wavelengths.specs.Shared.{sharing, most_shared, grating_report}
-use Rattle.wavelengths.specs.Report.{reported}
 use Rattle.grating.specs.Grating.{grating_plan, first_part, second_part, grating_planned}
 use Rattle.switch.proofs.Result.{gives_as}
 use Rattle.grating.proofs.Answer.{short-answer, faulty-answer, fine-answer, done}

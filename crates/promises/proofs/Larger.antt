@@ -20,7 +20,7 @@ use Rattle.switch.proofs.Check.{no-ports, many-ports, some-ports}
 use Rattle.demand.specs.declared.Checked.TheVariants.{Fine, Faulty}
 use Rattle.demand.specs.Check.{check_demand}
 use Rattle.demand.proofs.Check.{bad-ports, bad-cells, fine}
-use Rattle.records.specs.Bytes.{whole, bytes}
+use Rattle.records.specs.Bytes.{whole}
 use Rattle.rules.specs.Exact.{exact_plan}
 use Rattle.rules.specs.Doubled.{stretch}
 use Rattle.rules.specs.Larger.{multiplied}

@@ -15,7 +15,7 @@ use Rattle.switch.specs.declared.Outcome.TheVariants.{Done, Refused}
 use Rattle.switch.specs.declared.Refusal.{Refusal}
 use Rattle.switch.specs.declared.Refusal.TheVariants.{Records, Room, ListRoom}
 use Rattle.switch.specs.Answer.{demand_counts}
-use Rattle.switch.specs.Demand.{cell, longest}
+use Rattle.switch.specs.Demand.{cell}
 use Rattle.switch.specs.Editions.{first_edition, Bounded}
 use Rattle.switch.proofs.Answer.{determined}
 use Rattle.switch.proofs.Editions.{first-bounded}

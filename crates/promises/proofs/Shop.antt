@@ -17,7 +17,6 @@ use Rattle.switch.specs.declared.Refusal.TheVariants.{Room, Torn, Malformed}
 use Rattle.switch.specs.Answer.{code_of, counts_of, plan_counts}
 use Rattle.switch.specs.Check.{ports_fine}
 use Rattle.switch.specs.Editions.{first_edition}
-use Rattle.switch.specs.Result.{refuses}
 use Rattle.switch.proofs.Answer.{code-done}
 use Rattle.switch.proofs.Check.{some-ports}
 use Rattle.demand.specs.declared.Checked.{Checked}

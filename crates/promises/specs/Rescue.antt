@@ -10,7 +10,7 @@ use Rattle.records.specs.Bytes.{record_at, whole, plan_of, bytes}
 use Rattle.checker.specs.Check.{check_plan}
 use Rattle.rules.specs.Exact.{exact_plan}
 use Rattle.rescue_rule.specs.Reason.{reason_of, Because}
-use Rattle.rescue_rule.specs.Rescue.{fine, kept, kept_bytes, Entry, entry_of, dropped_to, dropped, entry_bytes, rest_of, Undamaged}
+use Rattle.rescue_rule.specs.Rescue.{fine, kept, kept_bytes, Entry, entry_of, dropped_to, entry_bytes, rest_of, Undamaged}
 use Rattle.rescue.specs.declared.Answer.{Answer}
 use Rattle.rescue.specs.Rescue.{rescuing, Saves}
 

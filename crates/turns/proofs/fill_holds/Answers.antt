@@ -1,10 +1,8 @@
 -- After k turns the first k settings have their holds.
-use mathlib.Core.Path.{◌≡◌, refl}
-use Prim.Native.Nat.{◌-◌, ◌≤◌}
+use mathlib.Core.Path.{refl}
 use native.Mathlib.Omega.{arith}
-use lib.ListN.{length, take, length-set}
+use lib.ListN.{length-set}
 use Rattle.rules.specs.Exact.{tab}
-use Rattle.records.specs.Bytes.{laid}
 use Rattle.records.proofs.Laid.{copy-none}
 use Rattle.turns.specs.Second.{holds_by}
 use Rattle.turns.proofs.Turns.{tab-store, tab-whole}

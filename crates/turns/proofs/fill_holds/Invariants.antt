@@ -1,13 +1,10 @@
 -- After k turns the first k settings have their holds.
-use mathlib.Core.Path.{◌≡◌, refl}
+use mathlib.Core.Path.{◌≡◌}
 use Prim.Native.Nat.{◌-◌, ◌≤◌}
-use native.Mathlib.Omega.{arith}
-use lib.ListN.{length, take, length-set}
+use lib.ListN.{length, take}
 use Rattle.rules.specs.Exact.{tab}
 use Rattle.records.specs.Bytes.{laid}
-use Rattle.records.proofs.Laid.{copy-none}
 use Rattle.turns.specs.Second.{holds_by}
-use Rattle.turns.proofs.Turns.{tab-store, tab-whole}
 use Rattle.turns.proofs.fill_holds.Given as goal
 
 abbrev pub invariant-loop-k : goal.invariant-loop-k

@@ -1,10 +1,8 @@
 -- After i turns the first i outputs are the setting's.
-use mathlib.Core.Path.{◌≡◌, refl}
-use Prim.Native.Nat.{◌-◌, ◌≤◌}
+use mathlib.Core.Path.{refl}
 use native.Mathlib.Omega.{arith}
-use lib.ListN.{length, take, length-set}
+use lib.ListN.{length, length-set}
 use Rattle.rules.specs.Exact.{tab}
-use Rattle.records.specs.Bytes.{laid}
 use Rattle.records.proofs.Laid.{copy-none}
 use Rattle.turns.specs.Second.{turn}
 use Rattle.turns.proofs.Turns.{tab-store, tab-whole}

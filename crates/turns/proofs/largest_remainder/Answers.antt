@@ -1,15 +1,10 @@
 -- After i turns it is the largest remainder of the setting's first i pairs.
-use mathlib.Core.Path.{◌≡◌, sym, ap, ◌∙◌}
-use mathlib.Core.Logic.{⊎_elim}
-use mathlib.Core.List.{List}
-use Prim.Native.Nat.{ℕ, ◌-◌, ◌%◌, ◌≤◌}
+use mathlib.Core.Path.{sym, ap, ◌∙◌}
+use Prim.Native.Nat.{ℕ, ◌%◌}
 use native.Mathlib.Omega.{arith}
 use Rattle.counting.specs.Sum.{most}
 use Rattle.counting.proofs.Most.{most-zero, most-next}
-use Rattle.switch.specs.Demand.{cell}
 use Rattle.rules.specs.Doubled.{tight}
-use Rattle.turns.specs.declared.Turning.{Turning}
-use Rattle.turns.specs.Second.{turn}
 use Rattle.turns.proofs.Holds.{pair_inside, pair-cell}
 use Rattle.turns.proofs.largest_remainder.Invariants.{left}
 use Rattle.turns.proofs.largest_remainder.Goals as goal

@@ -1,10 +1,7 @@
 -- Each turn lays one setting behind those before it.
-use mathlib.Core.Path.{◌≡◌, refl, ◌∙◌}
-use Prim.Native.Nat.{◌-◌, ◌≤◌}
+use mathlib.Core.Path.{refl, ◌∙◌}
 use native.Mathlib.Omega.{arith}
-use lib.ListN.{length, get_or}
-use Rattle.turns.specs.Second.{turn}
-use Rattle.turns.proofs.Turns.{Laying, laying-none, laying-room, laying-next, laying-all}
+use Rattle.turns.proofs.Turns.{laying-none, laying-room, laying-next, laying-all}
 use Rattle.turns.proofs.lay_all.Goals as goal
 
 pub loop-k-init : goal.loop-k-init

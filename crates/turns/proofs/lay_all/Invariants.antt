@@ -1,10 +1,9 @@
 -- Each turn lays one setting behind those before it.
-use mathlib.Core.Path.{◌≡◌, refl, ◌∙◌}
+use mathlib.Core.Path.{◌≡◌}
 use Prim.Native.Nat.{◌-◌, ◌≤◌}
-use native.Mathlib.Omega.{arith}
 use lib.ListN.{length, get_or}
 use Rattle.turns.specs.Second.{turn}
-use Rattle.turns.proofs.Turns.{Laying, laying-none, laying-room, laying-next, laying-all}
+use Rattle.turns.proofs.Turns.{Laying}
 use Rattle.turns.proofs.lay_all.Given as goal
 
 abbrev pub invariant-loop-k : goal.invariant-loop-k

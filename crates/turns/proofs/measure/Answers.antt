@@ -1,9 +1,8 @@
 -- Each turn counts one setting's records and adds its hold, whichever the settings are: the bounds are those of any one choice of them.
 use mathlib.Core.Path.{refl}
-use Prim.Native.Nat.{ℕ, ◌-◌, ◌≤◌}
+use Prim.Native.Nat.{◌≤◌}
 use native.Mathlib.Omega.{arith}
-use lib.ListN.{get_or}
-use Rattle.turns.proofs.Turns.{Counted, counted_none, counted_next, counted-all, one_at_most}
+use Rattle.turns.proofs.Turns.{counted_none, counted_next, counted-all, one_at_most}
 use Rattle.turns.proofs.measure.Goals as goal
 
 pub loop-k-init : goal.loop-k-init

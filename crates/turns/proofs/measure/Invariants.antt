@@ -1,9 +1,7 @@
 -- Each turn counts one setting's records and adds its hold, whichever the settings are: the bounds are those of any one choice of them.
-use mathlib.Core.Path.{refl}
 use Prim.Native.Nat.{ℕ, ◌-◌, ◌≤◌}
-use native.Mathlib.Omega.{arith}
 use lib.ListN.{get_or}
-use Rattle.turns.proofs.Turns.{Counted, counted_none, counted_next, counted-all, one_at_most}
+use Rattle.turns.proofs.Turns.{Counted}
 use Rattle.turns.proofs.measure.Given as goal
 
 abbrev pub invariant-loop-k : goal.invariant-loop-k

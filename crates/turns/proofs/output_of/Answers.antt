@@ -12,17 +12,14 @@ module _ (t : Turning) (n k i s : ℕ) (lk : k < n) (li : i < n) (start : s ≡ 
   turned : turn t n k i ≡ (s + k) % n
   turned = turn_in t n k i li ∙ ap (λ x. (x + k) % n) (sym start)
 
-
   stays : s + k < n → (s + k ≡ turn t n k i) × (s + k < n)
   stays l = (sym (turned ∙ mod-eq_of_lt l), l)
-
 
   once-off : n ≤ s + k → (s + k - n ≡ turn t n k i) × (s + k - n < n)
   once-off l = (sym (turned ∙ ap (λ x. x % n) (let e : s + k ≡ s + k - n + n = omega arith in e) ∙ add-mod_right (s + k - n) n ∙ mod-eq_of_lt inside), inside)
     where
       inside : s + k - n < n
       inside = omega (arith, start, ahead-most t n i li)
-
 
 pub overflow_add-on : goal.overflow_add-on
 overflow_add-on c = let a = c.args in omega (arith, c.start_of.ensures, c.requires, ahead-most a.way a.n a.i.0 c.requires.1)

@@ -1,10 +1,8 @@
 -- After k turns the first k cells are divided.
-use mathlib.Core.Path.{◌≡◌, refl}
-use Prim.Native.Nat.{◌-◌, ◌≤◌}
+use mathlib.Core.Path.{refl}
 use native.Mathlib.Omega.{arith}
-use lib.ListN.{length, take, length-set}
+use lib.ListN.{length-set}
 use Rattle.rules.specs.Doubled.{divide}
-use Rattle.records.specs.Bytes.{laid}
 use Rattle.records.proofs.Laid.{copy-none}
 use Rattle.turns.proofs.Dividing.{quotient-store, quotients-whole}
 use Rattle.turns.proofs.quotients.Goals as goal

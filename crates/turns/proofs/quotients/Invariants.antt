@@ -1,12 +1,9 @@
 -- After k turns the first k cells are divided.
-use mathlib.Core.Path.{◌≡◌, refl}
+use mathlib.Core.Path.{◌≡◌}
 use Prim.Native.Nat.{◌-◌, ◌≤◌}
-use native.Mathlib.Omega.{arith}
-use lib.ListN.{length, take, length-set}
+use lib.ListN.{length, take}
 use Rattle.rules.specs.Doubled.{divide}
 use Rattle.records.specs.Bytes.{laid}
-use Rattle.records.proofs.Laid.{copy-none}
-use Rattle.turns.proofs.Dividing.{quotient-store, quotients-whole}
 use Rattle.turns.proofs.quotients.Given as goal
 
 abbrev pub invariant-loop-k : goal.invariant-loop-k
