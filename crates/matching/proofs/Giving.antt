@@ -1,17 +1,16 @@
 -- What is met is come to through holders that do not keep their outputs; and whatever is come to with more inputs kept is come to with fewer.
-use mathlib.Core.Path.{◌≡◌, sym, subst, ◌∙◌}
+use mathlib.Core.Path.{◌≡◌, subst, ◌∙◌}
 use mathlib.Core.Logic.{◌⊎◌, inl, inr, ⊎_elim}
 use mathlib.Core.List.{List}
 use Prim.Native.Nat.{ℕ, ◌+◌, ◌-◌, ◌<◌, ◌≤◌}
 use native.Mathlib.Decide.{dec_le}
 use native.Mathlib.Omega.{arith}
-use lib.ListN.{get_or}
 use Rattle.sets.specs.Label.{In, Union, But, Cleared}
 use Rattle.labels.specs.Ports.{UntriedAt}
 use Rattle.labels.specs.declared.FoundOutput.{FoundOutput}
 use Rattle.labels.specs.declared.FoundOutput.TheVariants.{At, Nothing}
-use Rattle.search.specs.Tables.{Held, joined, Matching}
-use Rattle.search.specs.Search.{Free, Leads}
+use Rattle.search.specs.Tables.{Held, joined}
+use Rattle.search.specs.Search.{Leads}
 use Rattle.search.proofs.Tables.{one-holder}
 use Rattle.matching.specs.Chosen.{Reached, its_own, handed, Way, GivePre}
 

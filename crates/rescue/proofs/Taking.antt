@@ -31,7 +31,7 @@ use Rattle.plans.specs.Reading.{Readable}
 use Rattle.planner.specs.Planned.{shortage}
 use Rattle.planner.proofs.Planned.{fits-room, lacks-room}
 use Rattle.peel.specs.Standing.{Cells}
-use Rattle.rescue_rule.specs.Rescue.{kept, dropped_to, dropped, torn_tail, rest_of, added, rescued, entry_bytes}
+use Rattle.rescue_rule.specs.Rescue.{kept, dropped_to, dropped, torn_tail, rest_of, rescued, entry_bytes}
 use Rattle.rescue_rule.proofs.Kept.{kept-dropped}
 use Rattle.rescue_rule.proofs.Rescue.{rest-size, rest-longest, rescued-empty}
 use Rattle.rescue.specs.declared.Kept.{Kept}

@@ -12,7 +12,6 @@ use borrow.Author.Tests.{ltb-true}
 use Rattle.switch.specs.declared.Refusal.{Refusal}
 use Rattle.switch.specs.declared.Refusal.TheVariants.{Malformed, Named}
 use Rattle.wish.specs.declared.Wish.{Wish}
-use Rattle.wish.specs.declared.Wish.TheVariants as Wish
 use Rattle.wish.specs.Wish.{wish_bits, code_of}
 use Rattle.wishes.specs.declared.WishRecord.{WishRecord}
 use Rattle.wishes.specs.declared.Fault.{Fault}

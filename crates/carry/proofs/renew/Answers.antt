@@ -1,9 +1,7 @@
 -- The cells below k have had their turn; the others still hold what was granted.
-use mathlib.Core.Path.{◌≡◌, refl}
-use Prim.Native.Nat.{◌-◌, ◌≤◌}
+use mathlib.Core.Path.{refl}
 use native.Mathlib.Omega.{arith}
-use lib.ListN.{length}
-use Rattle.carry.proofs.Rest.{Turned, turned_none, turned-next, turned-all}
+use Rattle.carry.proofs.Rest.{turned_none, turned-next, turned-all}
 use Rattle.carry.proofs.renew.Goals as goal
 
 pub loop-k-init : goal.loop-k-init

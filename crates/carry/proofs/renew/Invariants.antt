@@ -1,9 +1,8 @@
 -- The cells below k have had their turn; the others still hold what was granted.
-use mathlib.Core.Path.{◌≡◌, refl}
+use mathlib.Core.Path.{◌≡◌}
 use Prim.Native.Nat.{◌-◌, ◌≤◌}
-use native.Mathlib.Omega.{arith}
 use lib.ListN.{length}
-use Rattle.carry.proofs.Rest.{Turned, turned_none, turned-next, turned-all}
+use Rattle.carry.proofs.Rest.{Turned}
 use Rattle.carry.proofs.renew.Given as goal
 
 abbrev pub invariant-loop-k : goal.invariant-loop-k

@@ -22,7 +22,7 @@ pub lay_parts-records-requires : goal.lay_parts-records-requires
 lay_parts-records-requires c =
     let v = c.requires.0 in
     let fits = c.needed-need.ensures.1 c.args.e.width (wide v) v.bounded.width in
-    let r = ready v c.measure-second.ensures c.args.plan.now fits c.if-room-need.false c.longest_line-first.ensures c.needed-need.ensures.0 in
+    let r = ready v c.measure-second.ensures c.args.plan.now fits (omega arith) c.longest_line-first.ensures c.needed-need.ensures.0 in
     (r.0, c.requires.1, r.1)
 
 pub overflow_mul-total : goal.overflow_mul-total
@@ -41,8 +41,7 @@ overflow_add-result c =
     let fits = c.needed-need.ensures.1 c.args.e.width (wide v) v.bounded.width in
     let m = c.measure-second.ensures in
     let l = c.longest_line-first.ensures in
-    let left = c.if-room-need.false in
-    let few = first-few v m c.args.plan.now fits left l c.needed-need.ensures.0 c.lay_parts-records.ensures.0 in
+    let few = first-few v m c.args.plan.now fits (omega arith) l c.needed-need.ensures.0 c.lay_parts-records.ensures.0 in
     omega (arith, few, small v l, m.few, (holding v).few)
 
 pub empty_slots-requires : goal.empty_slots-requires
@@ -50,7 +49,7 @@ empty_slots-requires c =
     let v = c.requires.0 in
     let fits = c.needed-need.ensures.1 c.args.e.width (wide v) v.bounded.width in
     let m = c.measure-second.ensures in
-    both-counted v m c.args.plan.now fits c.if-room-need.false c.longest_line-first.ensures c.needed-need.ensures.0 c.requires.2
+    both-counted v m c.args.plan.now fits (omega arith) c.longest_line-first.ensures c.needed-need.ensures.0 c.requires.2
 
 pub returns : goal.returns
 returns c =
@@ -58,4 +57,4 @@ returns c =
     let fits = c.needed-need.ensures.1 c.args.e.width (wide v) v.bounded.width in
     let m = c.measure-second.ensures in
     let l = c.lay_parts-records.ensures in
-    both-answer v m c.args.plan.now fits c.if-room-need.false c.longest_line-first.ensures c.needed-need.ensures.0 c.requires.2 l.0 l.1 c.empty_slots.ensures
+    both-answer v m c.args.plan.now fits (omega arith) c.longest_line-first.ensures c.needed-need.ensures.0 c.requires.2 l.0 l.1 c.empty_slots.ensures

@@ -11,10 +11,10 @@ use Rattle.rules.specs.Doubled.{stretch}
 use Rattle.rules.proofs.ExactFrom.{exact-end}
 use Rattle.records.specs.Bytes.{bytes}
 use Rattle.records.specs.Laying.{laid_if}
-use Rattle.records.proofs.Filling.{Filling, filling-none, filling-all, filling-room, filling-next}
-use Rattle.peel.specs.Standing.{left, rest, Standing}
+use Rattle.records.proofs.Filling.{filling-none, filling-all, filling-room, filling-next}
+use Rattle.peel.specs.Standing.{left}
 use Rattle.peel.proofs.Left.{record-long}
-use Rattle.peel.proofs.Starting.{standing, table-length}
+use Rattle.peel.proofs.Starting.{standing}
 use Rattle.exact.proofs.Turn.{parts-small, turn-within, turn-left, turn_small, turn-most, turn-less, turn-counted, one_fewer, goes-room, more-stretched}
 use Rattle.exact.proofs.peel_off.Goals as goal
 
@@ -79,8 +79,7 @@ loop-remains-preserved c =
     let a = c.args.job in
     let p = c.requires in
     let l = c.loop-remains in
-    let s = c.take_off-s.ensures in
-    (
+    let s = c.take_off-s.ensures in (
       s.standing,
       turn-left _ _ _ _ l.invariant.1 s.falls,
       turn-most _ _ _ _ l.invariant.1 s.falls _ _ l.invariant.2 s.some,

@@ -1,21 +1,11 @@
 -- Each turn takes the first record off what is left, which is counted and, where it is to be written, laid behind those before it.
-use mathlib.Core.Path.{◌≡◌, refl, sym, ap, ◌∙◌, subst}
-use mathlib.Core.List.{List, map}
+use mathlib.Core.Path.{◌≡◌}
+use mathlib.Core.List.{map}
 use Prim.Native.Nat.{ℕ, ◌+◌, ◌*◌, ◌≤◌}
-use native.Mathlib.Omega.{arith}
-use mir.Facts.{Fits-le, Fits-lit}
 use lib.ListN.{length}
-use Rattle.switch.specs.Plan.{Record}
-use Rattle.switch.specs.Demand.{cell}
 use Rattle.rules.specs.Doubled.{stretch}
-use Rattle.rules.proofs.ExactFrom.{exact-end}
-use Rattle.records.specs.Bytes.{bytes}
-use Rattle.records.specs.Laying.{laid_if}
-use Rattle.records.proofs.Filling.{Filling, filling-none, filling-all, filling-room, filling-next}
+use Rattle.records.proofs.Filling.{Filling}
 use Rattle.peel.specs.Standing.{left, rest, Standing}
-use Rattle.peel.proofs.Left.{record-long}
-use Rattle.peel.proofs.Starting.{standing, table-length}
-use Rattle.exact.proofs.Turn.{parts-small, turn-within, turn-left, turn_small, turn-most, turn-less, turn-counted, one_fewer, goes-room, more-stretched}
 use Rattle.exact.proofs.peel_off.Given as goal
 
 abbrev pub invariant-loop-remains : goal.invariant-loop-remains

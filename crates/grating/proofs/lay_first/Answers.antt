@@ -8,7 +8,7 @@ use lib.ListN.{length, take, drop}
 use Rattle.records.specs.Record.{hold, outputs}
 use Rattle.records.specs.Bytes.{record_at, laid, encode}
 use Rattle.grating.specs.Parts.{First}
-use Rattle.grating.proofs.First.{part-outputs, record-long, longer-small, Laying, laying-none, laying-room, laying-next, laying-all}
+use Rattle.grating.proofs.First.{part-outputs, record-long, longer-small, laying-none, laying-room, laying-next, laying-all}
 use Rattle.grating.proofs.lay_first.Goals as goal
 
 -- the record that is read, and the hold that is multiplied
@@ -16,22 +16,17 @@ module _ {W u : ℕ} {first : List ℕ} {m sum : ℕ} (f : First W u first m sum
   long : length rec ≡ W + 4
   long = ap length is ∙ record-long f k l
 
-
   outs : take (length rec - 4) (drop 4 rec) ≡ outputs (record_at W first k)
   outs = part-outputs rec ∙ ap outputs is
-
 
   longer-is : {h : ℕ} → h ≡ hold rec → h * u ≡ hold (record_at W first k) * u
   longer-is e = ap (λ (x : ℕ). x * u) (e ∙ ap hold is)
 
-
   fits : {h : ℕ} → h ≡ hold rec → h * u ≤ 65535
   fits e = omega (arith, longer-is e, longer-small f k l)
 
-
   inside : {room : ℕ} → m * (W + 4) ≤ room → k * (W + 4) ≤ room
   inside r = omega (arith, r, mul-le-mul_right (W + 4) (let h : k ≤ m = omega arith in h))
-
 
 pub loop-k-init : goal.loop-k-init
 loop-k-init c = (omega arith, laying-none c.requires.2 c.args.e.byte c.args.n c.args.plan.now c.requires.3)

@@ -1,14 +1,6 @@
 -- Each turn lays one record behind those before it, its hold multiplied by u.
-use mathlib.Core.Path.{◌≡◌, ap, ap₂, ◌∙◌}
-use mathlib.Core.List.{List}
-use Prim.Native.Nat.{ℕ, ◌+◌, ◌*◌, ◌-◌, ◌≤◌, ◌<◌}
-use native.Mathlib.Omega.{arith}
-use native.Mathlib.Nat.{mul-le-mul_right}
-use lib.ListN.{length, take, drop}
-use Rattle.records.specs.Record.{hold, outputs}
-use Rattle.records.specs.Bytes.{record_at, laid, encode}
-use Rattle.grating.specs.Parts.{First}
-use Rattle.grating.proofs.First.{part-outputs, record-long, longer-small, Laying, laying-none, laying-room, laying-next, laying-all}
+use Prim.Native.Nat.{◌-◌, ◌≤◌}
+use Rattle.grating.proofs.First.{Laying}
 use Rattle.grating.proofs.lay_first.Given as goal
 
 abbrev pub invariant-loop-k : goal.invariant-loop-k

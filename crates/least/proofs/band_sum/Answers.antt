@@ -1,6 +1,6 @@
 -- After i turns the sum is that of the first i inputs' cells, and at most i times the largest cell, so that it cannot wrap.
 use mathlib.Core.Path.{◌≡◌, sym, ap, ◌∙◌}
-use Prim.Native.Nat.{ℕ, ◌+◌, ◌*◌, ◌-◌, ◌%◌, ◌≤◌, ◌<◌}
+use Prim.Native.Nat.{ℕ, ◌+◌, ◌%◌, ◌<◌}
 use native.Mathlib.Nat.{mod-lt}
 use native.Mathlib.Omega.{arith}
 use lib.Arith.{digits_lt}
@@ -40,8 +40,7 @@ pub loop-i-preserved : goal.loop-i-preserved
 unfolding cell
 loop-i-preserved c =
     let a = c.args in
-    let l = c.loop-i in
-    (
+    let l = c.loop-i in (
       omega arith,
       omega (arith, c.long_of_word-sum.ensures.0, l.invariant.1, sum-next l.i (λ x. cell a.n a.cells.now x ((x + a.w) % a.n)), ap (λ (x : ℕ). get_or a.cells.now x 0) c.cell_at-at.ensures),
       omega (arith, c.long_of_word-sum.ensures.1),

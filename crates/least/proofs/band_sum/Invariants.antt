@@ -1,14 +1,8 @@
 -- After i turns the sum is that of the first i inputs' cells, and at most i times the largest cell, so that it cannot wrap.
-use mathlib.Core.Path.{◌≡◌, sym, ap, ◌∙◌}
-use Prim.Native.Nat.{ℕ, ◌+◌, ◌*◌, ◌-◌, ◌%◌, ◌≤◌, ◌<◌}
-use native.Mathlib.Nat.{mod-lt}
-use native.Mathlib.Omega.{arith}
-use lib.Arith.{digits_lt}
-use lib.ListN.{length, get_or}
+use mathlib.Core.Path.{◌≡◌}
+use Prim.Native.Nat.{◌+◌, ◌*◌, ◌-◌, ◌%◌, ◌≤◌}
 use Rattle.counting.specs.Sum.{sum}
-use Rattle.counting.proofs.Sum.{sum-zero, sum-next}
 use Rattle.switch.specs.Demand.{cell}
-use Rattle.quiet_rule.specs.Limit.{band}
 use Rattle.least.proofs.band_sum.Given as goal
 
 abbrev pub invariant-loop-i : goal.invariant-loop-i

@@ -1,6 +1,6 @@
 -- After w turns it is the most of the first w wavelengths.
 use mathlib.Core.Path.{◌≡◌, sym, ap, ap₂, ◌∙◌}
-use Prim.Native.Nat.{ℕ, ◌-◌, ◌≤◌, max}
+use Prim.Native.Nat.{ℕ, max}
 use native.Mathlib.Omega.{arith}
 use Rattle.counting.specs.Sum.{most}
 use Rattle.counting.proofs.Most.{most-zero, most-next}

@@ -1,11 +1,9 @@
 -- After w turns it is the most of the first w wavelengths.
-use mathlib.Core.Path.{◌≡◌, sym, ap, ap₂, ◌∙◌}
-use Prim.Native.Nat.{ℕ, ◌-◌, ◌≤◌, max}
-use native.Mathlib.Omega.{arith}
+use mathlib.Core.Path.{◌≡◌}
+use Prim.Native.Nat.{◌-◌, ◌≤◌}
 use Rattle.counting.specs.Sum.{most}
-use Rattle.counting.proofs.Most.{most-zero, most-next}
 use Rattle.switch.specs.Demand.{cell}
-use Rattle.quiet_rule.specs.Limit.{band, busiest}
+use Rattle.quiet_rule.specs.Limit.{band}
 use Rattle.least.proofs.busiest_sum.Given as goal
 
 abbrev pub invariant-loop-w : goal.invariant-loop-w

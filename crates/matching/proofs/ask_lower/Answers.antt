@@ -1,8 +1,8 @@
 -- Its own is spare once it is given up, and the one output that can be had at once; it takes it again where it is stuck.
-use mathlib.Core.Path.{sym, ap, subst, ◌∙◌}
+use mathlib.Core.Path.{sym, subst, ◌∙◌}
 use Prim.Native.Nat.{ℕ, ◌<◌}
 use native.Mathlib.Nat.{lt_of_lt_of_le}
-use lib.ListN.{length, length-set}
+use lib.ListN.{length}
 use Rattle.labels.specs.Ports.{outputs_of}
 use Rattle.search.specs.Tables.{tried_of, Allowed}
 use Rattle.search.specs.Search.{AskPost}
@@ -25,8 +25,7 @@ without-held-requires c =
 
 pub ask_outputs-a-requires : goal.ask_outputs-a-requires
 ask_outputs-a-requires c =
-    let a = c.args in
-    (
+    let a = c.args in (
       c.requires.0,
       rw c.release.ensures (lower-asks 128 (length a.lows.now) (Allowed a.lows.now a.highs.now) a.by.now a.out.now (tried_of a.dead) (outputs_of a.lower) a.own.0 a.i.0 c.requires.1 (outputs_of c.every.result) (outputs_of c.without-held.result) c.every.ensures c.without-held.ensures),
       lower-wave 128 (length a.lows.now) (Allowed a.lows.now a.highs.now) a.by.now a.out.now (tried_of a.dead) (outputs_of a.lower) a.own.0 a.i.0 c.requires.1 (outputs_of c.every.result) (outputs_of c.without-held.result) c.every.ensures c.without-held.ensures,

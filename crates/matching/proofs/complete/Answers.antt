@@ -1,18 +1,16 @@
 -- Each turn seats the first that waits and leaves the others where they are, until nobody waits or one is refused.
-use mathlib.Core.Path.{sym, subst, ◌∙◌}
+use mathlib.Core.Path.{subst}
 use mathlib.Core.Bool.{true≢false, false≢true}
-use Prim.Native.Nat.{◌-◌}
 use native.Mathlib.Omega.{arith}
 use lib.ListN.{length}
-use Rattle.sets.specs.Label.{Sub, Lowest, LowestAt, absent}
+use Rattle.sets.specs.Label.{Lowest, LowestAt}
 use Rattle.labels.specs.Ports.{outputs_of, inputs_of, input_found}
 use Rattle.labels.specs.declared.FoundInput.{FoundInput}
 use Rattle.sets.proofs.Digits.{fewer}
 use Rattle.search.specs.Tables.{tried_of, Allowed}
-use Rattle.search.specs.Search.{Around}
 use Rattle.search.proofs.Search.{around-same, around-through}
-use Rattle.matching.specs.Chosen.{Seating, SeatPost}
-use Rattle.matching.proofs.Completing.{seats-next, seats-more, none-through, seat-holders, seat-outputs}
+use Rattle.matching.specs.Chosen.{SeatPost}
+use Rattle.matching.proofs.Completing.{seats-next, seats-more, none-through}
 use Rattle.matching.proofs.complete.Goals as goal
 
 pub loop-i-init : goal.loop-i-init

@@ -1,18 +1,11 @@
 -- Each turn seats the first that waits and leaves the others where they are, until nobody waits or one is refused.
-use mathlib.Core.Path.{sym, subst, ◌∙◌}
-use mathlib.Core.Bool.{true≢false, false≢true}
 use Prim.Native.Nat.{◌-◌}
-use native.Mathlib.Omega.{arith}
 use lib.ListN.{length}
-use Rattle.sets.specs.Label.{Sub, Lowest, LowestAt, absent}
-use Rattle.labels.specs.Ports.{outputs_of, inputs_of, input_found}
-use Rattle.labels.specs.declared.FoundInput.{FoundInput}
-use Rattle.sets.proofs.Digits.{fewer}
+use Rattle.sets.specs.Label.{Sub, absent}
+use Rattle.labels.specs.Ports.{outputs_of, inputs_of}
 use Rattle.search.specs.Tables.{tried_of, Allowed}
 use Rattle.search.specs.Search.{Around}
-use Rattle.search.proofs.Search.{around-same, around-through}
-use Rattle.matching.specs.Chosen.{Seating, SeatPost}
-use Rattle.matching.proofs.Completing.{seats-next, seats-more, none-through, seat-holders, seat-outputs}
+use Rattle.matching.specs.Chosen.{Seating}
 use Rattle.matching.proofs.complete.Given as goal
 
 abbrev pub invariant-loop-i : goal.invariant-loop-i

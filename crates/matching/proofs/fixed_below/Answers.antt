@@ -1,5 +1,5 @@
 -- The outputs of the inputs passed are marked, and no others.
-use Prim.Native.Nat.{ℕ, ◌-◌, ◌≤◌}
+use Prim.Native.Nat.{ℕ}
 use mathlib.Core.Path.{subst}
 use native.Mathlib.Nat.{le_antisymm}
 use native.Mathlib.Omega.{arith}
@@ -20,8 +20,7 @@ mark-fixed-requires c = omega (arith, c.requires.1 c.loop-i.i (omega arith), c.o
 
 pub loop-i-preserved : goal.loop-i-preserved
 loop-i-preserved c =
-    let l = c.loop-i in
-    (
+    let l = c.loop-i in (
       omega arith,
       fixed_more c.args.out.now l.i (tried_of l.fixed) (tried_of c.mark-fixed.result) l.invariant.1
           (subst (λ (k : ℕ). Marked (tried_of l.fixed) k (tried_of c.mark-fixed.result)) c.output_of.ensures c.mark-fixed.ensures),

@@ -1,12 +1,7 @@
 -- The outputs of the inputs passed are marked, and no others.
-use Prim.Native.Nat.{ℕ, ◌-◌, ◌≤◌}
-use mathlib.Core.Path.{subst}
-use native.Mathlib.Nat.{le_antisymm}
-use native.Mathlib.Omega.{arith}
-use Rattle.sets.specs.Label.{Marked}
+use Prim.Native.Nat.{◌-◌, ◌≤◌}
 use Rattle.search.specs.Tables.{tried_of}
 use Rattle.matching.specs.Chosen.{Fixed}
-use Rattle.matching.proofs.Completing.{fixed-none, fixed_more}
 use Rattle.matching.proofs.fixed_below.Given as goal
 
 abbrev pub invariant-loop-i : goal.invariant-loop-i

@@ -1,17 +1,17 @@
 -- Each turn keeps one input fewer, or follows outputs that were not seen: so it ends; and what it follows is come to with those kept.
 use mathlib.Core.Path.{subst}
-use mathlib.Core.Logic.{inl, inr}
-use Prim.Native.Nat.{ℕ, ◌+◌, ◌*◌, ◌<◌}
+use mathlib.Core.Logic.{inr}
+use Prim.Native.Nat.{ℕ, ◌<◌}
 use native.Mathlib.Omega.{arith}
 use lib.ListN.{length}
-use Rattle.sets.specs.Label.{Lowest, absent}
+use Rattle.sets.specs.Label.{Lowest}
 use Rattle.labels.specs.Ports.{outputs_of, output_found}
 use Rattle.labels.specs.declared.FoundOutput.{FoundOutput}
 use Rattle.sets.proofs.Digits.{absent-most, absent-less}
 use Rattle.search.specs.Tables.{tried_of, Allowed, joined}
 use Rattle.search.proofs.Tables.{place}
 use Rattle.search.proofs.Search.{ports-of, lowest-at}
-use Rattle.matching.proofs.Giving.{Giving, giving-start, giving-fewer, giving-way, giving-on}
+use Rattle.matching.proofs.Giving.{giving-start, giving-fewer, giving-way, giving-on}
 use Rattle.matching.proofs.give_way.Goals as goal
 
 pub overflow_sub-firm : goal.overflow_sub-firm
@@ -29,12 +29,6 @@ loop-firm-init c =
     let a = c.args in
     giving-start 128 (length a.lows.now) (Allowed a.lows.now a.highs.now) a.by.now a.out.now (outputs_of a.s.held) (tried_of a.fixed) (outputs_of a.s.met) a.from c.requires.1 _ _ c.output_of.ensures c.without-seen.ensures
 
-pub returns-then-firm-eq0 : goal.returns-then-firm-eq0
-returns-then-firm-eq0 c = record { less = c.loop-firm.invariant.less; way = inl (omega (arith, c.if-firm-eq0.true)) }
-
-pub overflow_sub-firm-in-Nothing : goal.overflow_sub-firm-in-Nothing
-overflow_sub-firm-in-Nothing c = omega (arith, c.if-firm-eq0.false)
-
 pub output_of-requires-in-Nothing : goal.output_of-requires-in-Nothing
 output_of-requires-in-Nothing c = let p = c.requires.1 in omega (arith, c.loop-firm.invariant.less, p.short, p.good.outputs)
 
@@ -43,14 +37,14 @@ without-seen-requires-in-Nothing c = let inside : (m : ℕ) → m < c.args.from 
     rw c.output_of-in-Nothing.ensures (inside _ (omega (arith, c.loop-firm.invariant.less)))
 
 pub loop-firm-smaller-in-Nothing : goal.loop-firm-smaller-in-Nothing
-loop-firm-smaller-in-Nothing c = omega (arith, c.if-firm-eq0.false, absent-most 128 (outputs_of c.without-seen-in-Nothing.result))
+loop-firm-smaller-in-Nothing c = omega (arith, absent-most 128 (outputs_of c.without-seen-in-Nothing.result))
 
 pub loop-firm-preserved-in-Nothing : goal.loop-firm-preserved-in-Nothing
 loop-firm-preserved-in-Nothing c =
     let a = c.args in
     let l = c.loop-firm in
     giving-fewer 128 (length a.lows.now) (Allowed a.lows.now a.highs.now) a.by.now a.out.now (outputs_of a.s.held) (tried_of a.fixed) (outputs_of a.s.met) a.from c.requires.1
-    (outputs_of l.met) l.firm (outputs_of l.seen) l.invariant _ _ (omega (arith, c.if-firm-eq0.false)) c.output_of-in-Nothing.ensures c.without-seen-in-Nothing.ensures
+    (outputs_of l.met) l.firm (outputs_of l.seen) l.invariant _ _ (omega arith) c.output_of-in-Nothing.ensures c.without-seen-in-Nothing.ensures
 
 pub leads_to-w-requires : goal.leads_to-w-requires
 leads_to-w-requires c =

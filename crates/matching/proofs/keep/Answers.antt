@@ -1,8 +1,7 @@
 -- After k turns the first k outputs are copied.
-use mathlib.Core.Path.{◌≡◌, refl, sym, ◌∙◌}
-use Prim.Native.Nat.{ℕ, ◌-◌, ◌<◌, ◌≤◌}
+use mathlib.Core.Path.{refl, sym, ◌∙◌}
 use native.Mathlib.Omega.{arith}
-use lib.ListN.{length, get_or, length-set}
+use lib.ListN.{length-set}
 use lib.Seq.{ext_get_or}
 use Rattle.matching.proofs.Waiting.{copied_more}
 use Rattle.matching.proofs.keep.Goals as goal

@@ -1,10 +1,7 @@
 -- After k turns the first k outputs are copied.
-use mathlib.Core.Path.{◌≡◌, refl, sym, ◌∙◌}
+use mathlib.Core.Path.{◌≡◌}
 use Prim.Native.Nat.{ℕ, ◌-◌, ◌<◌, ◌≤◌}
-use native.Mathlib.Omega.{arith}
-use lib.ListN.{length, get_or, length-set}
-use lib.Seq.{ext_get_or}
-use Rattle.matching.proofs.Waiting.{copied_more}
+use lib.ListN.{length, get_or}
 use Rattle.matching.proofs.keep.Given as goal
 
 abbrev pub invariant-loop-k : goal.invariant-loop-k

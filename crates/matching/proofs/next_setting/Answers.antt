@@ -4,7 +4,7 @@ use native.Mathlib.Omega.{arith}
 use lib.ListN.{length}
 use Rattle.labels.specs.Ports.{outputs_of, inputs_of}
 use Rattle.search.specs.Tables.{tried_of, Allowed}
-use Rattle.matching.proofs.Firm.{Firm, firm-start, firm-place, all_held, firm-before, firm-settles, firm-gives, firm-less, firm-ends, behind}
+use Rattle.matching.proofs.Firm.{firm-start, firm-place, all_held, firm-before, firm-settles, firm-gives, firm-less, firm-ends, behind}
 use Rattle.matching.proofs.next_setting.Goals as goal
 
 pub slice_bounds-keep-end : goal.slice_bounds-keep-end

@@ -1,10 +1,8 @@
 -- As many inputs in front as can be keep their outputs; the others are seated around them and settled.
-use mathlib.Core.Path.{refl, sym, ap, ◌∙◌}
-use native.Mathlib.Omega.{arith}
 use lib.ListN.{length}
 use Rattle.labels.specs.Ports.{outputs_of, inputs_of}
-use Rattle.search.specs.Tables.{tried_of, Allowed}
-use Rattle.matching.proofs.Firm.{Firm, firm-start, firm-place, all_held, firm-before, firm-settles, firm-gives, firm-less, firm-ends, behind}
+use Rattle.search.specs.Tables.{Allowed}
+use Rattle.matching.proofs.Firm.{Firm}
 use Rattle.matching.proofs.next_setting.Given as goal
 
 abbrev pub invariant-loop-s : goal.invariant-loop-s

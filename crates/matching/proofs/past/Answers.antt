@@ -1,13 +1,12 @@
 -- Each turn passes the lowest of the rest, so that what is passed last is the last.
 use mathlib.Core.Path.{subst}
 use mathlib.Core.Logic.{inl}
-use Prim.Native.Nat.{◌-◌}
 use native.Mathlib.Omega.{arith}
-use Rattle.sets.specs.Label.{Lowest, LowestAt, absent}
+use Rattle.sets.specs.Label.{Lowest, LowestAt}
 use Rattle.labels.specs.Ports.{inputs_of, input_found}
 use Rattle.labels.specs.declared.FoundInput.{FoundInput}
 use Rattle.sets.proofs.Digits.{fewer}
-use Rattle.matching.proofs.Waiting.{Passed, passed-more, passed-all}
+use Rattle.matching.proofs.Waiting.{passed-more, passed-all}
 use Rattle.matching.proofs.past.Goals as goal
 
 pub loop-i-init : goal.loop-i-init

@@ -1,6 +1,6 @@
 -- Each turn gives one input its output of before; no two of them had the same.
 use mathlib.Core.Path.{ap, subst, ◌∙◌}
-use Prim.Native.Nat.{ℕ, ◌+◌, ◌-◌, ◌≤◌}
+use Prim.Native.Nat.{ℕ, ◌+◌}
 use native.Mathlib.Nat.{le_antisymm}
 use native.Mathlib.Omega.{arith}
 use lib.ListN.{set}

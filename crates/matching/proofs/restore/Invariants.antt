@@ -1,11 +1,6 @@
 -- Each turn gives one input its output of before; no two of them had the same.
-use mathlib.Core.Path.{ap, subst, ◌∙◌}
-use Prim.Native.Nat.{ℕ, ◌+◌, ◌-◌, ◌≤◌}
-use native.Mathlib.Nat.{le_antisymm}
-use native.Mathlib.Omega.{arith}
-use lib.ListN.{set}
+use Prim.Native.Nat.{◌-◌, ◌≤◌}
 use Rattle.matching.specs.Chosen.{Restored}
-use Rattle.matching.proofs.Behind.{restored-start, restored-more}
 use Rattle.matching.proofs.restore.Given as goal
 
 abbrev pub invariant-loop-k : goal.invariant-loop-k

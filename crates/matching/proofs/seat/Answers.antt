@@ -1,14 +1,14 @@
 -- An output that is not held is there to be taken; where there is none, the input has to ask.
-use mathlib.Core.Path.{sym, ap, subst, ◌∙◌}
+use mathlib.Core.Path.{sym, subst}
 use Prim.Native.Nat.{ℕ}
 use native.Mathlib.Nat.{lt_of_lt_of_le}
 use native.Mathlib.Omega.{arith}
-use lib.ListN.{length, length-set}
+use lib.ListN.{length}
 use Rattle.sets.specs.Label.{In}
 use Rattle.labels.specs.Ports.{outputs_of}
 use Rattle.search.specs.Tables.{tried_of, Allowed}
 use Rattle.search.proofs.Search.{lowest-at, none_left, spare-moved}
-use Rattle.matching.proofs.Completing.{seat-asks, seat-taken, seat-holders, seat-outputs}
+use Rattle.matching.proofs.Completing.{seat-asks, seat-taken}
 use Rattle.matching.proofs.seat.Goals as goal
 
 pub row_of-row-requires : goal.row_of-row-requires

@@ -1,14 +1,14 @@
 -- Outputs that are not fixed are a wave, and what comes of asking them is what comes of asking all that the input may take.
-use mathlib.Core.Path.{sym, ap, subst, ◌∙◌}
+use mathlib.Core.Path.{sym, subst}
 use Prim.Native.Nat.{ℕ}
 use native.Mathlib.Nat.{lt_of_lt_of_le}
 use native.Mathlib.Omega.{arith}
-use lib.ListN.{length, length-set}
+use lib.ListN.{length}
 use Rattle.sets.specs.Label.{In, Sub}
 use Rattle.labels.specs.Ports.{outputs_of}
 use Rattle.search.specs.Tables.{tried_of, Allowed}
 use Rattle.search.specs.Search.{AskPost}
-use Rattle.search.proofs.Search.{lowest-at, none_left, wave-of, wave-post, tried-unmoved, same-holders, same-outputs}
+use Rattle.search.proofs.Search.{lowest-at, none_left, wave-of, wave-post, tried-unmoved}
 use Rattle.matching.proofs.Completing.{seat-asks, seat-stuck, seat-taken}
 use Rattle.matching.proofs.seat_around.Goals as goal
 

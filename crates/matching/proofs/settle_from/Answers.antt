@@ -1,11 +1,11 @@
 -- Every input that is passed is settled, and stays so; where the inputs passed have the outputs of before among them, the others take theirs again.
-use mathlib.Core.Path.{sym, subst, ◌∙◌}
-use Prim.Native.Nat.{ℕ, ◌+◌, ◌-◌, ◌<◌, ◌≤◌}
+use mathlib.Core.Path.{subst}
+use Prim.Native.Nat.{ℕ, ◌+◌}
 use native.Mathlib.Nat.{le_antisymm}
 use native.Mathlib.Omega.{arith}
 use lib.ListN.{length}
 use Rattle.search.specs.Tables.{tried_of, Allowed}
-use Rattle.matching.specs.Chosen.{Fixed, SettledPost, Dead}
+use Rattle.matching.specs.Chosen.{SettledPost}
 use Rattle.matching.proofs.Completing.{fixed_more}
 use Rattle.matching.proofs.Settling.{settled-start, settled-more, settled-all, dead-start}
 use Rattle.matching.proofs.Behind.{behind-settles}
@@ -47,8 +47,7 @@ pub loop-i-preserved : goal.loop-i-preserved
 loop-i-preserved c =
     let a = c.args in
     let l = c.loop-i in
-    let t = c.loop-i-test.true in
-    (
+    let t = c.loop-i-test.true in (
       omega (arith, t),
       settled-more 128 (length a.lows.now) (Allowed a.lows.now a.highs.now) a.out.now l.by l.out c.settle-firm.new.by c.settle-firm.new.out (tried_of l.firm.fixed) l.i (tried_of c.settle-firm.result.fixed) (l.i + 1) l.invariant.1 c.settle-firm.ensures.0,
       c.settle-firm.ensures.1,

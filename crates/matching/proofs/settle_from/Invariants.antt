@@ -1,14 +1,8 @@
 -- Every input that is passed is settled, and stays so; where the inputs passed have the outputs of before among them, the others take theirs again.
-use mathlib.Core.Path.{sym, subst, ◌∙◌}
-use Prim.Native.Nat.{ℕ, ◌+◌, ◌-◌, ◌<◌, ◌≤◌}
-use native.Mathlib.Nat.{le_antisymm}
-use native.Mathlib.Omega.{arith}
+use Prim.Native.Nat.{ℕ, ◌-◌, ◌<◌, ◌≤◌}
 use lib.ListN.{length}
 use Rattle.search.specs.Tables.{tried_of, Allowed}
 use Rattle.matching.specs.Chosen.{Fixed, SettledPost, Dead}
-use Rattle.matching.proofs.Completing.{fixed_more}
-use Rattle.matching.proofs.Settling.{settled-start, settled-more, settled-all, dead-start}
-use Rattle.matching.proofs.Behind.{behind-settles}
 use Rattle.matching.proofs.settle_from.Given as goal
 
 abbrev pub invariant-loop-i : goal.invariant-loop-i

@@ -1,10 +1,10 @@
 -- Each turn the first of those that are left gives its output up.
 use mathlib.Core.Path.{sym, ap, subst, ◌∙◌, ◌≡◌}
 use mathlib.Core.List.{List}
-use Prim.Native.Nat.{ℕ, ◌-◌, ◌<◌}
+use Prim.Native.Nat.{ℕ, ◌<◌}
 use native.Mathlib.Omega.{arith}
 use lib.ListN.{get_or, set}
-use Rattle.sets.specs.Label.{Cleared, Lowest, LowestAt, absent}
+use Rattle.sets.specs.Label.{Cleared, Lowest, LowestAt}
 use Rattle.sets.proofs.Digits.{fewer}
 use Rattle.labels.specs.Ports.{outputs_of, inputs_of, input_found}
 use Rattle.labels.specs.declared.FoundInput.{FoundInput}

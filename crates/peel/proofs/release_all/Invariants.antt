@@ -1,16 +1,8 @@
 -- Each turn the first of those that are left gives its output up.
-use mathlib.Core.Path.{sym, ap, subst, ◌∙◌, ◌≡◌}
-use mathlib.Core.List.{List}
-use Prim.Native.Nat.{ℕ, ◌-◌, ◌<◌}
-use native.Mathlib.Omega.{arith}
-use lib.ListN.{get_or, set}
-use Rattle.sets.specs.Label.{Cleared, Lowest, LowestAt, absent}
-use Rattle.sets.proofs.Digits.{fewer}
-use Rattle.labels.specs.Ports.{outputs_of, inputs_of, input_found}
-use Rattle.labels.specs.declared.FoundInput.{FoundInput}
-use Rattle.search.specs.Tables.{joined}
-use Rattle.search.proofs.Tables.{in-range}
-use Rattle.peel.proofs.Release.{Partly, partly-start, given-place, partly_more, partly-all}
+use Prim.Native.Nat.{◌-◌}
+use Rattle.sets.specs.Label.{absent}
+use Rattle.labels.specs.Ports.{outputs_of, inputs_of}
+use Rattle.peel.proofs.Release.{Partly}
 use Rattle.peel.proofs.release_all.Given as goal
 
 abbrev pub invariant-loop-i : goal.invariant-loop-i

@@ -1,5 +1,4 @@
 -- The next setting is the first over the cells; its smallest cell is taken off, and the pairs that this empties are released.
-use mathlib.Core.Path.{sym, ◌∙◌}
 use Rattle.peel.proofs.Left.{rows, ready, uses, hold-below, giving, taken}
 use Rattle.peel.proofs.take_off.Goals as goal
 

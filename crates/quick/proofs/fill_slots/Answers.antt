@@ -1,12 +1,12 @@
 -- Each turn of the loop does one of the slots still to come, and its record goes behind those before it.
-use mathlib.Core.Path.{◌≡◌, refl, sym, ap, ◌∙◌}
+use mathlib.Core.Path.{◌≡◌, refl, ap, ◌∙◌}
 use mathlib.Core.List.{◌∷◌}
 use Prim.Native.Nat.{◌+◌}
 use native.Mathlib.Omega.{arith}
 use lib.ListN.{length}
 use Rattle.slot.specs.Filled.{leftover}
-use Rattle.quick.proofs.Standing.{left-few, leftover-short, Standing, standing-end, standing-more, standing-next}
-use Rattle.quick.proofs.Filling.{Filling, filling-none, filling-all, filling-room, filling-next}
+use Rattle.quick.proofs.Standing.{left-few, leftover-short, standing-end, standing-more, standing-next}
+use Rattle.quick.proofs.Filling.{filling-none, filling-all, filling-room, filling-next}
 use Rattle.quick.proofs.fill_slots.Goals as goal
 
 pub load-rest-requires : goal.load-rest-requires
@@ -42,8 +42,7 @@ loop-rest-smaller c = let more : leftover (length c.args.out.now) c.args.n c.loo
 pub loop-rest-preserved : goal.loop-rest-preserved
 loop-rest-preserved c =
     let more : leftover (length c.args.out.now) c.args.n c.loop-rest.s c.loop-rest.work ≡ record { hold = 1; outputs = c.fill_slot-rest.new.out } ∷ leftover (length c.args.out.now) c.args.n (c.loop-rest.s + 1) c.fill_slot-rest.new.work = standing-more _ _ _ _ _ _ _ c.loop-rest.invariant.0 _ _ _ _ _ _ c.fill_slot-rest.ensures c.fill_slot-rest.auto.out in
-    let l = c.loop-rest in
-    (
+    let l = c.loop-rest in (
       standing-next _ _ _ _ _ _ _ l.invariant.0 _ _ _ _ _ _ c.fill_slot-rest.ensures c.fill_slot-rest.auto.out,
       filling-next _ _ _ _ _ _ _ _ _ l.invariant.1 _ _ more c.lay-at.new.plan c.lay-at.result c.lay-at.auto.plan c.lay-at.ensures,
       c.fill_slot-rest.auto.work ∙ l.invariant.2,

@@ -1,12 +1,9 @@
 -- Each turn of the loop does one of the slots still to come, and its record goes behind those before it.
-use mathlib.Core.Path.{◌≡◌, refl, sym, ap, ◌∙◌}
-use mathlib.Core.List.{◌∷◌}
-use Prim.Native.Nat.{◌+◌}
-use native.Mathlib.Omega.{arith}
+use mathlib.Core.Path.{◌≡◌}
 use lib.ListN.{length}
 use Rattle.slot.specs.Filled.{leftover}
-use Rattle.quick.proofs.Standing.{left-few, leftover-short, Standing, standing-end, standing-more, standing-next}
-use Rattle.quick.proofs.Filling.{Filling, filling-none, filling-all, filling-room, filling-next}
+use Rattle.quick.proofs.Standing.{Standing}
+use Rattle.quick.proofs.Filling.{Filling}
 use Rattle.quick.proofs.fill_slots.Given as goal
 
 abbrev pub invariant-loop-rest : goal.invariant-loop-rest

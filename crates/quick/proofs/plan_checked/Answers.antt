@@ -33,8 +33,7 @@ fill_slots-records-requires c =
     let fits : c.short_of-need.result ≡ 0 → length (quick_plan c.args.e.width c.args.n c.args.cells.now) ≤ whole c.args.e.width c.args.plan.now = (λ z. shortage-none _ _ (sym c.short_of-need.ensures.lacks ∙ z)) in
     let a = c.args in
     let p = c.requires.1 in
-    let z = c.if-need-ne0.false in
-    (
+    let z = c.if-need-ne0.false in (
       copied-short a.e.ports _ _ _ sized (c.short_of-need.ensures.copied z) _ (fine-asked _ _ _ _ c.requires.0.fine),
       record { sized = sized; low = c.short_of-need.auto.lows ∙ p.low; high = c.short_of-need.auto.highs ∙ p.high; wide = omega (arith, p.wide, c.short_of-need.auto.out); seats = omega (arith, p.seats, c.short_of-need.auto.out) },
       λ _. subst (λ (q : List Record). length (bytes a.e.byte a.n q) ≤ length c.short_of-need.new.plan) (sym (plan z))

@@ -1,15 +1,10 @@
 -- After j turns the outputs below j are counted whose cells are not zero.
-use mathlib.Core.Path.{◌≡◌, sym, ap, ◌∙◌}
-use Prim.Native.Nat.{ℕ, ◌+◌, ◌*◌, ◌-◌, ◌≤◌}
-use native.Mathlib.Omega.{arith}
+use mathlib.Core.Path.{◌≡◌}
+use Prim.Native.Nat.{◌+◌, ◌-◌, ◌≤◌}
 use lib.ListN.{get_or}
 use lib.Dec.{ltb}
 use Rattle.counting.specs.Sum.{sum}
-use Rattle.counting.specs.Count.{ind, count}
-use Rattle.counting.proofs.Sum.{sum-zero, sum-next}
-use Rattle.counting.proofs.Count.{ind-le}
-use Rattle.switch.specs.Demand.{cell}
-use Rattle.board.proofs.Cells.{index_in}
+use Rattle.counting.specs.Count.{ind}
 use Rattle.quiet.proofs.asked_of.Given as goal
 
 abbrev pub invariant-loop-j : goal.invariant-loop-j

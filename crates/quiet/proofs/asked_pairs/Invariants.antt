@@ -1,14 +1,10 @@
 -- Row by row the count grows by a row's.
-use mathlib.Core.Path.{◌≡◌, sym, ap, ◌∙◌}
-use Prim.Native.Nat.{ℕ, ◌*◌, ◌-◌, ◌≤◌}
-use native.Mathlib.Omega.{arith}
+use mathlib.Core.Path.{◌≡◌}
+use Prim.Native.Nat.{◌*◌, ◌-◌, ◌≤◌}
 use lib.Dec.{ltb}
 use Rattle.counting.specs.Sum.{sum}
 use Rattle.counting.specs.Count.{count}
-use Rattle.counting.proofs.Sum.{sum-zero, sum-next}
 use Rattle.switch.specs.Demand.{cell}
-use Rattle.rules.proofs.Ports.{count-le}
-use Rattle.quiet_rule.specs.Quiet.{pairs}
 use Rattle.quiet.proofs.asked_pairs.Given as goal
 
 abbrev pub invariant-loop-i : goal.invariant-loop-i

@@ -1,9 +1,8 @@
 -- Each turn takes one record off, and those that are done and those that are still to come are the whole plan.
-use mathlib.Core.Path.{◌≡◌, refl, sym, ◌∙◌}
+use mathlib.Core.Path.{refl, sym, ◌∙◌}
 use native.Mathlib.Omega.{arith}
-use lib.ListN.{length}
 use Rattle.quiet.specs.Taking.{leftover}
-use Rattle.quiet.proofs.Running.{Running, running-first, running-last, running-less, running-small, running-next}
+use Rattle.quiet.proofs.Running.{running-first, running-last, running-less, running-small, running-next}
 use Rattle.quiet.proofs.count_records.Goals as goal
 
 pub loop-out-init : goal.loop-out-init

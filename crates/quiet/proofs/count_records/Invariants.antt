@@ -1,9 +1,8 @@
 -- Each turn takes one record off, and those that are done and those that are still to come are the whole plan.
-use mathlib.Core.Path.{◌≡◌, refl, sym, ◌∙◌}
-use native.Mathlib.Omega.{arith}
+use mathlib.Core.Path.{◌≡◌}
 use lib.ListN.{length}
 use Rattle.quiet.specs.Taking.{leftover}
-use Rattle.quiet.proofs.Running.{Running, running-first, running-last, running-less, running-small, running-next}
+use Rattle.quiet.proofs.Running.{Running}
 use Rattle.quiet.proofs.count_records.Given as goal
 
 abbrev pub invariant-loop-out : goal.invariant-loop-out

@@ -1,6 +1,6 @@
 -- After i turns it is the smallest of the joined cells of the inputs below i.
 use mathlib.Core.Path.{◌≡◌, sym, ap, ap₂, ◌∙◌}
-use Prim.Native.Nat.{ℕ, ◌-◌, ◌≤◌}
+use Prim.Native.Nat.{ℕ}
 use native.Mathlib.Omega.{arith}
 use Rattle.switch.specs.Demand.{cell}
 use Rattle.board.specs.Level.{out_of}

@@ -1,11 +1,9 @@
 -- After i turns it is the smallest of the joined cells of the inputs below i.
-use mathlib.Core.Path.{◌≡◌, sym, ap, ap₂, ◌∙◌}
-use Prim.Native.Nat.{ℕ, ◌-◌, ◌≤◌}
-use native.Mathlib.Omega.{arith}
+use mathlib.Core.Path.{◌≡◌}
+use Prim.Native.Nat.{◌-◌, ◌≤◌}
 use Rattle.switch.specs.Demand.{cell}
 use Rattle.board.specs.Level.{out_of}
-use Rattle.quiet_rule.specs.Quiet.{lesser, smallest, joined_cell}
-use Rattle.quiet_rule.proofs.QuietFrom.{smallest-zero, smallest-next}
+use Rattle.quiet_rule.specs.Quiet.{smallest, joined_cell}
 use Rattle.quiet.proofs.hold_of.Given as goal
 
 abbrev pub invariant-loop-i : goal.invariant-loop-i

@@ -4,7 +4,7 @@ use Prim.Native.Nat.{◌+◌, ◌<◌}
 use native.Mathlib.Omega.{arith}
 use lib.ListN.{length}
 use Rattle.quiet.specs.Taking.{leftover}
-use Rattle.quiet.proofs.Running.{Running, running-first, running-last, running-less, running-small, running-next, Laying, laying-first, laying-last, laying-hold, laying-room, laying-small, laying-next}
+use Rattle.quiet.proofs.Running.{running-first, running-last, running-less, running-small, running-next, laying-first, laying-last, laying-hold, laying-room, laying-small, laying-next}
 use Rattle.quiet.proofs.lay_records.Goals as goal
 
 pub loop-out-init : goal.loop-out-init
@@ -86,8 +86,7 @@ loop-out-preserved c =
     let some : 0 < c.next_record-hold.result = omega (arith, c.if-hold-eq0.false) in
     let l = c.loop-out in
     let a = c.args in
-    let p₀ = leftover a.n a.limit a.work.now in
-    (
+    let p₀ = leftover a.n a.limit a.work.now in (
       running-next a.n a.limit p₀ l.work l.lows l.highs l.records l.invariant.0 c.next_record-hold.new.work c.next_record-hold.new.lows c.next_record-hold.new.highs c.next_record-hold.new.out c.next_record-hold.result c.next_record-hold.ensures some,
       laying-next a.n a.limit p₀ a.plan.now l.work l.plan l.records l.at l.held l.invariant.1 c.next_record-hold.new.work c.next_record-hold.new.lows c.next_record-hold.new.highs c.next_record-hold.new.out c.next_record-hold.result c.next_record-hold.ensures long some
           c.put_record.new.plan c.put_record.ensures _ refl _ refl,

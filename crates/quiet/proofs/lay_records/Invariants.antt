@@ -1,10 +1,8 @@
 -- Each turn lays the record that it takes off behind those before it.
-use mathlib.Core.Path.{◌≡◌, refl, sym, ◌∙◌}
-use Prim.Native.Nat.{◌+◌, ◌<◌}
-use native.Mathlib.Omega.{arith}
+use mathlib.Core.Path.{◌≡◌}
 use lib.ListN.{length}
 use Rattle.quiet.specs.Taking.{leftover}
-use Rattle.quiet.proofs.Running.{Running, running-first, running-last, running-less, running-small, running-next, Laying, laying-first, laying-last, laying-hold, laying-room, laying-small, laying-next}
+use Rattle.quiet.proofs.Running.{Running, Laying}
 use Rattle.quiet.proofs.lay_records.Given as goal
 
 abbrev pub invariant-loop-out : goal.invariant-loop-out

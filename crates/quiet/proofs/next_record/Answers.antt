@@ -18,8 +18,7 @@ hold_of-hold-requires c = (c.requires.0.copy.sized, omega (arith, c.requires.1, 
 pub subtract-requires : goal.subtract-requires
 subtract-requires c =
     let words : (i : ℕ) → get_or c.args.lows.now i 0 < 2 ^ 64 = (λ i. omega (arith, c.slice_known-2-1.given i)) in
-    let a = c.args in
-    (
+    let a = c.args in (
       c.requires.0.copy,
       omega (arith, c.requires.1, c.requires.0.few, c.choose.auto.out),
       step-enough a.n a.limit a.work.now a.lows.now a.highs.now c.requires.0 words c.choose.new.out (c.choose.auto.out ∙ c.requires.1) c.choose.ensures _ c.hold_of-hold.ensures,

@@ -1,5 +1,4 @@
 -- Not zero is above zero.
-use mathlib.Core.Path.{◌≡◌}
 use native.Mathlib.Omega.{arith}
 use borrow.Author.Tests.{lt-ltb, le-ltb}
 use Rattle.counting.specs.Count.{ind}

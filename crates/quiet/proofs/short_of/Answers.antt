@@ -36,10 +36,10 @@ returns-then-room-need c =
 
 pub load-requires-2 : goal.load-requires-2
 load-requires-2 c = let again : Space c.args.n c.count_records-need.new.work c.count_records-need.new.lows c.count_records-need.new.highs = record {
-      sized = sized-as c.args.n c.args.work.now c.count_records-need.new.work (c.count_records-need.auto.work ∙ c.load.auto.work) c.requires.2.sized;
-      low = c.count_records-need.auto.lows ∙ c.load.auto.lows ∙ c.requires.2.low;
-      high = c.count_records-need.auto.highs ∙ c.load.auto.highs ∙ c.requires.2.high;
-    } in
+  sized = sized-as c.args.n c.args.work.now c.count_records-need.new.work (c.count_records-need.auto.work ∙ c.load.auto.work) c.requires.2.sized;
+  low = c.count_records-need.auto.lows ∙ c.load.auto.lows ∙ c.requires.2.low;
+  high = c.count_records-need.auto.highs ∙ c.load.auto.highs ∙ c.requires.2.high;
+} in
     (c.requires.1, again)
 
 pub returns : goal.returns

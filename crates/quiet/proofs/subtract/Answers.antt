@@ -1,12 +1,10 @@
 -- After i turns the inputs below i have given up the hold.
-use mathlib.Core.Path.{◌≡◌, sym, ap, ◌∙◌}
-use Prim.Native.Nat.{◌-◌, ◌≤◌}
+use mathlib.Core.Path.{◌≡◌, ap, ◌∙◌}
 use native.Mathlib.Omega.{arith}
 use Rattle.rules.specs.Peel.{peel_to}
 use Rattle.rules.proofs.Peel.{peel_to-zero}
 use Rattle.board.specs.Level.{out_of}
-use Rattle.quiet.specs.Taking.{Loaded}
-use Rattle.quiet.proofs.Taking.{still-whole, peeled-length, peeled-next}
+use Rattle.quiet.proofs.Taking.{still-whole, peeled-next}
 use Rattle.quiet.proofs.subtract.Goals as goal
 
 pub loop-i-init : goal.loop-i-init

@@ -1,17 +1,13 @@
 -- Input by input the setting in the making is what the rule's visits give.
-use mathlib.Core.Path.{◌≡◌, refl, sym, ◌∙◌}
-use Prim.Native.Nat.{◌≤◌, ◌-◌}
+use mathlib.Core.Path.{refl, sym, ◌∙◌}
 use native.Mathlib.Omega.{arith}
-use lib.ListN.{length}
 use Rattle.switch.proofs.Demand.{blank-zeros}
-use Rattle.quiet_setting.specs.Choosing.{Choosing}
 use Rattle.quiet_setting.proofs.Visiting.{visit-first, visit-last}
 use Rattle.quiet_setting.proofs.choose.Goals as goal
 
 pub loop-i-init : goal.loop-i-init
 loop-i-init c =
-    let a = c.args in
-    (
+    let a = c.args in (
       omega arith,
       visit-first a.n a.limit a.lows.now _ _ _ c.requires.0 c.requires.1.few (omega (arith, c.requires.2, c.idle_all.auto)) (omega (arith, c.requires.1.few, (blank-zeros 64).room)) c.idle_all.ensures (blank-zeros 64).clear c.none.ensures c.none-2.ensures,
       refl,

@@ -1,11 +1,8 @@
 -- Input by input the setting in the making is what the rule's visits give.
-use mathlib.Core.Path.{◌≡◌, refl, sym, ◌∙◌}
+use mathlib.Core.Path.{◌≡◌}
 use Prim.Native.Nat.{◌≤◌, ◌-◌}
-use native.Mathlib.Omega.{arith}
 use lib.ListN.{length}
-use Rattle.switch.proofs.Demand.{blank-zeros}
 use Rattle.quiet_setting.specs.Choosing.{Choosing}
-use Rattle.quiet_setting.proofs.Visiting.{visit-first, visit-last}
 use Rattle.quiet_setting.proofs.choose.Given as goal
 
 abbrev pub invariant-loop-i : goal.invariant-loop-i

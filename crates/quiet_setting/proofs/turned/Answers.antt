@@ -1,5 +1,5 @@
 -- 1 << (n - 1) is the last place, so the two parts are what stands below it and what stands there.
-use Prim.Native.Nat.{ℕ, ◌+◌, ◌-◌, ◌*◌, ◌/◌, ◌%◌, ◌^◌, ◌<◌}
+use Prim.Native.Nat.{◌+◌, ◌-◌, ◌*◌, ◌/◌, ◌%◌, ◌^◌, ◌<◌}
 use native.Mathlib.Omega.{arith}
 use Rattle.sets.proofs.Digits.{one_shifted}
 use Rattle.quiet_setting.specs.Choosing.{Around}

@@ -1,6 +1,6 @@
 -- The lowest output of the input's label that is neither taken nor full is what the rule gives it, and its wavelength is counted.
 use mathlib.Core.Path.{refl, subst}
-use Prim.Native.Nat.{ℕ, ◌<◌}
+use Prim.Native.Nat.{◌<◌}
 use native.Mathlib.Omega.{arith}
 use lib.ListN.{get_or}
 use Rattle.sets.specs.declared.Found.{Found}

@@ -1,10 +1,8 @@
 -- All records before k have been gone over.
-use mathlib.Core.Path.{◌≡◌, refl, ◌∙◌}
+use mathlib.Core.Path.{◌≡◌}
 use Prim.Native.Nat.{◌-◌, ◌≤◌}
-use native.Mathlib.Omega.{arith}
 use lib.ListN.{length}
 use Rattle.rescue.specs.Keeping.{Keeping}
-use Rattle.rescue.proofs.Keep.{keeping_none}
 use Rattle.rescue.proofs.keep_records.Given as goal
 
 abbrev pub invariant-loop-k : goal.invariant-loop-k

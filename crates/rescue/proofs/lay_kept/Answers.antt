@@ -1,10 +1,7 @@
 -- All records before k have been gone over, and what is kept of them is laid.
 use mathlib.Core.Path.{◌≡◌}
-use Prim.Native.Nat.{◌-◌}
 use native.Mathlib.Omega.{arith}
-use Rattle.records.specs.Bytes.{bytes}
-use Rattle.rescue_rule.specs.Rescue.{kept_to, kept_at}
-use Rattle.rescue_rule.proofs.Pieces.{Laying, laying-none, laying-room, laying-more}
+use Rattle.rescue_rule.proofs.Pieces.{laying-none, laying-room, laying-more}
 use Rattle.rescue.proofs.Laying.{no_bytes, next-bytes}
 use Rattle.rescue.proofs.lay_kept.Goals as goal
 

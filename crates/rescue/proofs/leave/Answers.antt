@@ -1,9 +1,7 @@
 -- The cells before k have had their turn, those from k on have not.
-use mathlib.Core.Path.{◌≡◌, refl}
-use Prim.Native.Nat.{◌-◌, ◌≤◌}
+use mathlib.Core.Path.{refl}
 use native.Mathlib.Omega.{arith}
-use lib.ListN.{length}
-use Rattle.rescue.proofs.Uncovered.{Leaving, leaving-none, leaving-more, leaving-all}
+use Rattle.rescue.proofs.Uncovered.{leaving-none, leaving-more, leaving-all}
 use Rattle.rescue.proofs.leave.Goals as goal
 
 pub loop-k-init : goal.loop-k-init

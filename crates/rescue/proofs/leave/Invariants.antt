@@ -1,9 +1,8 @@
 -- The cells before k have had their turn, those from k on have not.
-use mathlib.Core.Path.{◌≡◌, refl}
+use mathlib.Core.Path.{◌≡◌}
 use Prim.Native.Nat.{◌-◌, ◌≤◌}
-use native.Mathlib.Omega.{arith}
 use lib.ListN.{length}
-use Rattle.rescue.proofs.Uncovered.{Leaving, leaving-none, leaving-more, leaving-all}
+use Rattle.rescue.proofs.Uncovered.{Leaving}
 use Rattle.rescue.proofs.leave.Given as goal
 
 abbrev pub invariant-loop-k : goal.invariant-loop-k

@@ -1,12 +1,8 @@
 -- Up to k the slots granted beyond what is asked are summed, each below 2^32, so that 16,384 of them cannot wrap.
-use mathlib.Core.Path.{◌≡◌, refl, sym, ap, ◌∙◌}
-use Prim.Native.Nat.{ℕ, ◌*◌, ◌-◌, ◌≤◌}
-use native.Mathlib.Nat.{mul-le-mul}
-use native.Mathlib.Omega.{arith}
+use mathlib.Core.Path.{◌≡◌}
+use Prim.Native.Nat.{◌*◌, ◌-◌, ◌≤◌}
 use lib.ListN.{length, get_or}
 use Rattle.counting.specs.Sum.{sum}
-use Rattle.counting.proofs.Sum.{sum-zero, sum-next}
-use Rattle.switch.proofs.Empty.{beyond-cells}
 use Rattle.rescue.proofs.surplus.Given as goal
 
 abbrev pub invariant-loop-k : goal.invariant-loop-k

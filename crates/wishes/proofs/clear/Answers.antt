@@ -1,10 +1,9 @@
 -- The length is kept, and what the loop has passed is 0.
-use Prim.Native.Nat.{ℕ, ◌≤◌, ◌<◌, ◌-◌}
 use native.Mathlib.Omega.{arith}
 use native.Mathlib.Nat.{ne_of_lt}
-use mathlib.Core.Path.{◌≡◌, ◌∙◌}
+use mathlib.Core.Path.{◌∙◌}
 use borrow.Author.Count.{below_more}
-use lib.ListN.{length, get_or, length-set}
+use lib.ListN.{length-set}
 use lib.Seq.{get_or-set_same, get_or-set_other}
 use Rattle.wishes.proofs.Cells.{zeros}
 use Rattle.wishes.proofs.clear.Goals as goal

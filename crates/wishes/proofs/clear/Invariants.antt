@@ -1,12 +1,7 @@
 -- The length is kept, and what the loop has passed is 0.
 use Prim.Native.Nat.{ℕ, ◌≤◌, ◌<◌, ◌-◌}
-use native.Mathlib.Omega.{arith}
-use native.Mathlib.Nat.{ne_of_lt}
-use mathlib.Core.Path.{◌≡◌, ◌∙◌}
-use borrow.Author.Count.{below_more}
-use lib.ListN.{length, get_or, length-set}
-use lib.Seq.{get_or-set_same, get_or-set_other}
-use Rattle.wishes.proofs.Cells.{zeros}
+use mathlib.Core.Path.{◌≡◌}
+use lib.ListN.{length, get_or}
 use Rattle.wishes.proofs.clear.Given as goal
 
 abbrev pub invariant-loop-at : goal.invariant-loop-at

@@ -1,6 +1,5 @@
 -- Each return is the first of the faults of §4.7 that the record has, in their order.
 use mathlib.Core.Path.{sym, ap, ◌∙◌}
-use borrow.Author.Tests.{not-true, not-false}
 use Rattle.wishes.specs.Fault.{wish_fault}
 use Rattle.wishes.proofs.Faults.{malformed, twice, its-wish, inside}
 use Rattle.wishes.proofs.fault_of.Goals as goal

@@ -2,9 +2,9 @@
 use native.Mathlib.Omega.{arith}
 use native.Mathlib.Nat.{le_refl}
 use mathlib.Core.Path.{◌≡◌, sym, ◌∙◌, ap}
-use Prim.Native.Nat.{ℕ, ◌-◌, ◌≤◌}
-use lib.ListN.{length, replicate}
-use Rattle.wishes.specs.Wishes.{put, demand_of}
+use Prim.Native.Nat.{ℕ}
+use lib.ListN.{replicate}
+use Rattle.wishes.specs.Wishes.{demand_of}
 use Rattle.wishes.proofs.Faults.{all_sound}
 use Rattle.wishes.proofs.Cells.{demand-none, demand-next, demand-length}
 use Rattle.wishes.proofs.fill.Goals as goal

@@ -1,11 +1,9 @@
 -- No record passed has a fault, and the pairs that those records name are marked; so the next record is judged as the definition judges it.
 use native.Mathlib.Omega.{arith}
 use mathlib.Core.Path.{◌≡◌, refl, sym, ◌∙◌, ap}
-use Prim.Native.Nat.{◌+◌, ◌*◌, ◌-◌, ◌≤◌}
+use Prim.Native.Nat.{◌+◌, ◌*◌, ◌≤◌}
 use lib.ListN.{length}
-use Rattle.wishes.specs.declared.Fault.TheVariants.{Nothing}
 use Rattle.wishes.specs.Fault.{first_fault}
-use Rattle.wishes.specs.Seen.{Seen}
 use Rattle.wishes.proofs.Faults.{Inside, sound, inside, fault-none, fault-next, fault-stays}
 use Rattle.wishes.proofs.Pairs.{seen_none, seen_more, judged}
 use Rattle.wishes.proofs.first_fault.Goals as goal
@@ -36,8 +34,7 @@ loop-k-preserved c =
     let found : (let a = c.args in c.fault_of-fault.result ≡ first_fault a.n a.list.now (c.loop-k.k + 1)) = let l = c.loop-k in
     c.fault_of-fault.ensures ∙ judged _ _ _ _ c.record_at-wanted.ensures _ l.invariant.2 ∙ sym (fault-next _ _ _ l.invariant.3) in
     let passed : Inside c.args.n c.record_at-wanted.result = inside _ _ (sound _ _ _ _ (sym c.fault_of-fault.ensures ∙ c.in_default.is)).formed in
-    let m = c.mark.ensures in
-    (
+    let m = c.mark.ensures in (
       omega arith,
       m.size ∙ c.loop-k.invariant.1,
       seen_more _ _ _ _ c.record_at-wanted.ensures _ c.loop-k.invariant.2 _ passed m,

@@ -1,13 +1,10 @@
 -- No record passed has a fault, and the pairs that those records name are marked; so the next record is judged as the definition judges it.
-use native.Mathlib.Omega.{arith}
-use mathlib.Core.Path.{◌≡◌, refl, sym, ◌∙◌, ap}
-use Prim.Native.Nat.{◌+◌, ◌*◌, ◌-◌, ◌≤◌}
+use mathlib.Core.Path.{◌≡◌}
+use Prim.Native.Nat.{◌-◌, ◌≤◌}
 use lib.ListN.{length}
 use Rattle.wishes.specs.declared.Fault.TheVariants.{Nothing}
 use Rattle.wishes.specs.Fault.{first_fault}
 use Rattle.wishes.specs.Seen.{Seen}
-use Rattle.wishes.proofs.Faults.{Inside, sound, inside, fault-none, fault-next, fault-stays}
-use Rattle.wishes.proofs.Pairs.{seen_none, seen_more, judged}
 use Rattle.wishes.proofs.first_fault.Given as goal
 
 abbrev pub invariant-loop-k : goal.invariant-loop-k

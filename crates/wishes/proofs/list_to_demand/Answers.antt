@@ -10,7 +10,6 @@ use Rattle.wishes.specs.Fault.{first_fault}
 use Rattle.wishes.specs.Wishes.{of_fault, outcome}
 use Rattle.wishes.proofs.Pairs.{empty-less}
 use Rattle.wishes.proofs.Answers.{result, bad-ports, bad-cells, torn, searched}
-use Rattle.std.proofs.Common.{rules}
 use Rattle.wishes.proofs.list_to_demand.Goals as goal
 
 pub returns-then-n-eq0 : goal.returns-then-n-eq0

@@ -1,6 +1,4 @@
 -- The fields are the bytes at their places.
-use Prim.Native.Nat.{◌+◌, ◌*◌}
-use native.Mathlib.Omega.{arith}
 use Rattle.wishes.specs.Record.{record_at}
 use Rattle.wishes.proofs.record_at.Goals as goal
 
