@@ -4,11 +4,10 @@ use mathlib.Core.Path.{◌≡◌, refl, sym, ap, ◌∙◌}
 use Prim.Native.Nat.{ℕ, ◌*◌, ◌-◌, ◌≤◌}
 use native.Mathlib.Nat.{mul-le-mul}
 use native.Mathlib.Omega.{arith}
-use lib.ListN.{length, get_or}
+use lib.ListN.{get_or}
 use Rattle.counting.specs.Sum.{sum}
 use Rattle.counting.proofs.Sum.{sum-zero, sum-next}
 use Rattle.switch.specs.Demand.{cell}
-use Rattle.demand.specs.Lines.{over}
 use Rattle.demand.proofs.Lines.{over-here, over-next, over-end, over-start}
 use Rattle.grants.proofs.Grant.{cell-index}
 use Rattle.checker.specs.Check.{missing, uncovered}

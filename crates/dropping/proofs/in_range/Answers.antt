@@ -1,9 +1,6 @@
 -- Each turn of the loop judges one output more.
 use mathlib.Core.Path.{◌≡◌, refl, sym, ◌∙◌}
-use mathlib.Core.Bool.{true}
-use Prim.Native.Nat.{◌-◌, ◌≤◌}
 use native.Mathlib.Omega.{arith}
-use borrow.Author.Tests.{not-true, not-false}
 use Rattle.records.specs.Record.{all, inside}
 use Rattle.records.proofs.Every.{all_more, all-fails}
 use Rattle.dropping.proofs.in_range.Goals as goal

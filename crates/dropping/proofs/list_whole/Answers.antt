@@ -1,9 +1,7 @@
 -- All records before k have been gone over, and the entries of those dropped are laid.
 use mathlib.Core.Path.{◌≡◌}
-use Prim.Native.Nat.{◌-◌}
 use native.Mathlib.Omega.{arith}
-use Rattle.rescue_rule.specs.Rescue.{dropped_to, dropped_at, entry_bytes}
-use Rattle.rescue_rule.proofs.Pieces.{Laying, laying-none, laying-room, laying-more}
+use Rattle.rescue_rule.proofs.Pieces.{laying-none, laying-room, laying-more}
 use Rattle.dropping.proofs.Listing.{no-entries, next-entries}
 use Rattle.dropping.proofs.list_whole.Goals as goal
 

@@ -1,10 +1,7 @@
 -- All records before k have been gone over, and the entries of those dropped are laid.
-use mathlib.Core.Path.{◌≡◌}
 use Prim.Native.Nat.{◌-◌}
-use native.Mathlib.Omega.{arith}
 use Rattle.rescue_rule.specs.Rescue.{dropped_to, dropped_at, entry_bytes}
-use Rattle.rescue_rule.proofs.Pieces.{Laying, laying-none, laying-room, laying-more}
-use Rattle.dropping.proofs.Listing.{no-entries, next-entries}
+use Rattle.rescue_rule.proofs.Pieces.{Laying}
 use Rattle.dropping.proofs.list_whole.Given as goal
 
 abbrev pub invariant-loop-k : goal.invariant-loop-k

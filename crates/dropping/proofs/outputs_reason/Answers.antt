@@ -1,6 +1,5 @@
 -- Each return is the test that fails; the last is the one that is left.
 use mathlib.Core.Path.{sym, ◌∙◌}
-use borrow.Author.Tests.{not-true, not-false}
 use Rattle.rescue_rule.proofs.Reason.{outputs-range}
 use Rattle.dropping.proofs.Outputs.{twice-first, past_first}
 use Rattle.dropping.proofs.outputs_reason.Goals as goal
