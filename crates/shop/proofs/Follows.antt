@@ -19,7 +19,7 @@ use Rattle.rules.specs.Search.{put}
 use Rattle.rules.specs.Quick.{lowest}
 use Rattle.rules.proofs.Ports.{put_same, put_other}
 use Rattle.rules.proofs.Slot.{lowest-at, lowest-none}
-use Rattle.shop_rule.specs.Task.{Task, latest}
+use Rattle.shop_rule.specs.Task.{Task}
 use Rattle.shop_rule.specs.Shop.{Shop, ready, begin, take, turn}
 use Rattle.shop_rule.proofs.Task.{latest-last}
 use Rattle.shop_rule.proofs.Begin.{without, without_at, without-row, without-col}

@@ -1,13 +1,9 @@
 -- After k turns the count is that of the first k cells.
-use mathlib.Core.Path.{◌≡◌, refl, sym, ap, ◌∙◌}
-use mathlib.Core.Logic.{⊎_elim}
+use mathlib.Core.Path.{◌≡◌}
 use Prim.Native.Nat.{ℕ, ◌-◌, ◌≤◌}
-use native.Mathlib.Omega.{arith}
 use lib.ListN.{length, get_or}
 use Rattle.counting.specs.Sum.{sum}
-use Rattle.counting.proofs.Sum.{sum-zero}
 use Rattle.shop_rule.specs.Shop.{pairs}
-use Rattle.shop.proofs.Columns.{count-one, count-skip}
 use Rattle.shop.proofs.count_tasks.Given as goal
 
 abbrev pub invariant-loop-k : goal.invariant-loop-k

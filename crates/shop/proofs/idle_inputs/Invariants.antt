@@ -1,12 +1,7 @@
 -- After i turns the set has the inputs below i that are idle.
-use mathlib.Core.Path.{◌≡◌, sym, subst}
-use mathlib.Core.Logic.{⊎_elim}
-use Prim.Native.Nat.{ℕ, ◌+◌, ◌-◌, ◌≤◌}
-use native.Mathlib.Omega.{arith}
-use Rattle.shop.specs.declared.InputSet.{InputSet}
+use Prim.Native.Nat.{◌-◌, ◌≤◌}
 use Rattle.shop.specs.Sets.{numbers_of}
 use Rattle.shop.specs.Kept.{Idle}
-use Rattle.shop.proofs.Scans.{idle-none, idle-mark, idle-skip}
 use Rattle.shop.proofs.idle_inputs.Given as goal
 
 abbrev pub invariant-loop-i : goal.invariant-loop-i

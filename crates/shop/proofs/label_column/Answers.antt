@@ -1,7 +1,6 @@
 -- After i turns the set has the inputs below i with slots for the output.
 use mathlib.Core.Path.{◌≡◌, sym, subst, ◌∙◌}
-use mathlib.Core.Logic.{⊎_elim}
-use Prim.Native.Nat.{ℕ, ◌+◌, ◌-◌, ◌≤◌}
+use Prim.Native.Nat.{ℕ, ◌+◌}
 use native.Mathlib.Omega.{arith}
 use Rattle.shop.specs.declared.InputSet.{InputSet}
 use Rattle.shop.specs.Sets.{numbers_of}

@@ -1,13 +1,7 @@
 -- After i turns the set has the inputs below i with slots for the output.
-use mathlib.Core.Path.{◌≡◌, sym, subst, ◌∙◌}
-use mathlib.Core.Logic.{⊎_elim}
-use Prim.Native.Nat.{ℕ, ◌+◌, ◌-◌, ◌≤◌}
-use native.Mathlib.Omega.{arith}
-use Rattle.shop.specs.declared.InputSet.{InputSet}
+use Prim.Native.Nat.{◌-◌, ◌≤◌}
 use Rattle.shop.specs.Sets.{numbers_of}
 use Rattle.shop.specs.Kept.{Column}
-use Rattle.shop.proofs.Follows.{pair-in, pair-cell}
-use Rattle.shop.proofs.Columns.{column-none, column-mark, column-skip}
 use Rattle.shop.proofs.label_column.Given as goal
 
 abbrev pub invariant-loop-i : goal.invariant-loop-i

@@ -1,9 +1,6 @@
 -- After j turns the sets of the outputs below j are theirs.
-use mathlib.Core.Path.{◌≡◌, sym, ◌∙◌}
-use Prim.Native.Nat.{ℕ, ◌-◌, ◌≤◌, ◌<◌}
 use native.Mathlib.Omega.{arith}
-use lib.ListN.{length, get_or, length-set}
-use Rattle.shop.specs.Kept.{Column}
+use lib.ListN.{length-set}
 use Rattle.shop.proofs.Columns.{columns-more}
 use Rattle.shop.proofs.label_columns.Goals as goal
 

@@ -1,10 +1,8 @@
 -- After j turns the sets of the outputs below j are theirs.
-use mathlib.Core.Path.{◌≡◌, sym, ◌∙◌}
+use mathlib.Core.Path.{◌≡◌}
 use Prim.Native.Nat.{ℕ, ◌-◌, ◌≤◌, ◌<◌}
-use native.Mathlib.Omega.{arith}
-use lib.ListN.{length, get_or, length-set}
+use lib.ListN.{length, get_or}
 use Rattle.shop.specs.Kept.{Column}
-use Rattle.shop.proofs.Columns.{columns-more}
 use Rattle.shop.proofs.label_columns.Given as goal
 
 abbrev pub invariant-loop-j : goal.invariant-loop-j

@@ -1,9 +1,7 @@
 -- After j turns what is kept is the shop after the turns of the outputs below j.
 use mathlib.Core.Path.{◌≡◌, refl, sym, ◌∙◌}
-use Prim.Native.Nat.{◌-◌, ◌≤◌}
 use native.Mathlib.Omega.{arith}
-use lib.ListN.{length}
-use Rattle.shop.proofs.Moments.{Kept, kept-none, kept_more, kept-all, turn-pre, wrote-size}
+use Rattle.shop.proofs.Moments.{kept-none, kept_more, kept-all, turn-pre}
 use Rattle.shop.proofs.moment.Goals as goal
 
 pub idle_inputs-requires : goal.idle_inputs-requires

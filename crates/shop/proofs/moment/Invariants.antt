@@ -1,9 +1,8 @@
 -- After j turns what is kept is the shop after the turns of the outputs below j.
-use mathlib.Core.Path.{◌≡◌, refl, sym, ◌∙◌}
+use mathlib.Core.Path.{◌≡◌}
 use Prim.Native.Nat.{◌-◌, ◌≤◌}
-use native.Mathlib.Omega.{arith}
 use lib.ListN.{length}
-use Rattle.shop.proofs.Moments.{Kept, kept-none, kept_more, kept-all, turn-pre, wrote-size}
+use Rattle.shop.proofs.Moments.{Kept}
 use Rattle.shop.proofs.moment.Given as goal
 
 abbrev pub invariant-loop-j : goal.invariant-loop-j

@@ -1,6 +1,6 @@
 -- After j turns it is the next finish of the first j outputs.
 use mathlib.Core.Path.{◌≡◌, ap, ◌∙◌}
-use Prim.Native.Nat.{ℕ, ◌-◌, ◌≤◌}
+use Prim.Native.Nat.{ℕ}
 use native.Mathlib.Omega.{arith}
 use lib.ListN.{get_or}
 use Rattle.shop_rule.specs.Shop.{sooner, next}

@@ -1,10 +1,8 @@
 -- After j turns it is the next finish of the first j outputs.
-use mathlib.Core.Path.{◌≡◌, ap, ◌∙◌}
+use mathlib.Core.Path.{◌≡◌}
 use Prim.Native.Nat.{ℕ, ◌-◌, ◌≤◌}
-use native.Mathlib.Omega.{arith}
 use lib.ListN.{get_or}
-use Rattle.shop_rule.specs.Shop.{sooner, next}
-use Rattle.shop.proofs.Scans.{next-none, next_more}
+use Rattle.shop_rule.specs.Shop.{next}
 use Rattle.shop.proofs.next_finish.Given as goal
 
 abbrev pub invariant-loop-j : goal.invariant-loop-j

@@ -1,8 +1,6 @@
 -- Between two moments what is left to plan is the plan's; the time grows with each, so there is an end.
-use mathlib.Core.Path.{sym, ◌∙◌}
-use Prim.Native.Nat.{◌-◌}
 use native.Mathlib.Omega.{arith}
-use Rattle.shop.proofs.Runs.{Running, running_none, moment-pre, run-size, run-done, run_more}
+use Rattle.shop.proofs.Runs.{running_none, moment-pre, run-done, run_more}
 use Rattle.shop.proofs.run.Goals as goal
 
 pub loop-t-init : goal.loop-t-init

@@ -1,6 +1,6 @@
 -- The lowest idle input of the output's set is what the rule gives it; its task is written, and what is kept follows.
 use mathlib.Core.Path.{subst}
-use Prim.Native.Nat.{ℕ, ◌+◌, ◌*◌, ◌<◌, ◌≤◌}
+use Prim.Native.Nat.{◌+◌, ◌*◌, ◌<◌, ◌≤◌}
 use native.Mathlib.Omega.{arith}
 use lib.ListN.{length, get_or, length-set}
 use Rattle.shop.specs.Sets.{numbers_of, CommonAt, LowestCommon}

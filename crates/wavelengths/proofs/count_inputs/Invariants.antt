@@ -1,12 +1,9 @@
 -- Input by input the count of its wavelength grows by 1, and an idle input has none.
-use mathlib.Core.Path.{◌≡◌, refl, sym, ap, ◌∙◌}
-use mathlib.Core.Logic.{⊎_elim}
+use mathlib.Core.Path.{◌≡◌}
 use Prim.Native.Nat.{◌-◌, ◌≤◌}
-use native.Mathlib.Omega.{arith}
-use lib.ListN.{length, length-set}
+use lib.ListN.{length}
 use Rattle.records.specs.Record.{decoded}
-use Rattle.records.proofs.Meaning.{output-byte}
-use Rattle.wavelengths.proofs.Shared.{Counted, counted_none, counted-all, counted-idle, place-small, counted-joined}
+use Rattle.wavelengths.proofs.Shared.{Counted}
 use Rattle.wavelengths.proofs.count_inputs.Given as goal
 
 abbrev pub invariant-loop-i : goal.invariant-loop-i

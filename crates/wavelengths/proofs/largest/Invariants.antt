@@ -1,11 +1,8 @@
 -- After k turns it is the largest of the first k numbers.
-use mathlib.Core.Path.{◌≡◌, refl, sym, ap, ◌∙◌}
-use mathlib.Core.Logic.{⊎_elim}
-use Prim.Native.Nat.{ℕ, ◌-◌, ◌≤◌}
-use native.Mathlib.Omega.{arith}
+use mathlib.Core.Path.{◌≡◌}
+use Prim.Native.Nat.{◌-◌, ◌≤◌}
 use lib.ListN.{length, get_or}
 use Rattle.counting.specs.Sum.{most}
-use Rattle.counting.proofs.Most.{most-zero, most-next}
 use Rattle.wavelengths.proofs.largest.Given as goal
 
 abbrev pub invariant-loop-k : goal.invariant-loop-k

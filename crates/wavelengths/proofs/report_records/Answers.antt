@@ -1,11 +1,11 @@
 -- After k turns the first k bytes are the numbers of the first k records.
-use mathlib.Core.Path.{◌≡◌, refl, ap, ◌∙◌}
+use mathlib.Core.Path.{refl, ap, ◌∙◌}
 use mathlib.Core.List.{List}
-use Prim.Native.Nat.{ℕ, ◌-◌, ◌≤◌}
+use Prim.Native.Nat.{ℕ}
 use native.Mathlib.Omega.{arith}
-use lib.ListN.{length, take, length-set}
+use lib.ListN.{length, length-set}
 use Rattle.records.specs.Record.{decoded}
-use Rattle.records.specs.Bytes.{plan_from, laid}
+use Rattle.records.specs.Bytes.{plan_from}
 use Rattle.records.proofs.Laid.{copy-none}
 use Rattle.wavelengths.specs.Shared.{most_shared, grating_report}
 use Rattle.wavelengths.proofs.Report.{read-size, report-more, report-all}
