@@ -3,19 +3,23 @@ ghost use Rattle.std.specs.Prelude.{◌≤◌};
 
 use crate::tape::Step;
 use crate::{show, tape};
+use std::io;
 use switch::Outcome;
 
 // The most cells that are lent.
 const CELLS: usize = 16641;
 
 // Checks a plan against a demand: of what is laid, so many cells come first.
-pub fn check(step: Step, laid: &[u8])
+pub fn check(rt: &impl Print, step: Step, laid: &[u8]) -> io::Result<()>
     requires { step.second ≤ 65535 }
 {
     let mut cells = [0u32; CELLS];
     let split = tape::within(tape::CELL * step.second, laid);
     let lent = tape::load_cells(&laid[..split], &mut cells);
-    show::line(checked(step.letter, step.first, &cells[..lent], &laid[split..]));
+    show::line(
+        rt,
+        checked(step.letter, step.first, &cells[..lent], &laid[split..]),
+    )
 }
 
 // The checker that the letter stands for.
@@ -27,10 +31,13 @@ fn checked(letter: u8, n: usize, cells: &[u32], plan: &[u8]) -> Outcome {
 }
 
 // The length of the plan that is laid, at the switching time that the step says.
-pub fn length(step: Step, plan: &[u8])
+pub fn length(rt: &impl Print, step: Step, plan: &[u8]) -> io::Result<()>
     requires { step.second ≤ 65535 }
 {
-    show::line(measured(step.letter, step.first, plan, step.second as u16));
+    show::line(
+        rt,
+        measured(step.letter, step.first, plan, step.second as u16),
+    )
 }
 
 // The length by the call that the letter stands for.

@@ -5,6 +5,7 @@ use crate::tape::Step;
 use crate::{show, tape};
 use carry::Carried;
 use records::RECORD;
+use std::io;
 use switch::{About, Outcome};
 
 // The bytes of a slot, and those before a carry-over's cells.
@@ -23,104 +24,136 @@ const CELLS: usize = 4225;
 const BEFORE: u32 = 7;
 
 // The record in force at the slot that is laid first. Of the plans behind it tonight's has as many records, and bytes more, as the step says.
-pub fn in_force(step: Step, laid: &[u8])
+pub fn in_force(rt: &impl Print, step: Step, laid: &[u8]) -> io::Result<()>
     requires { (step.small ≤ 255) × (step.second ≤ 65535) }
 {
     let from = tape::within(SLOT, laid);
     let size = step.second * RECORD + step.small;
-    look_up(step.first, &laid[from..], size, tape::long_at(laid, 0));
+    look_up(rt, step.first, &laid[from..], size, tape::long_at(laid, 0))
 }
 
 // The same, of plans one behind the other of which the first has so many bytes.
-fn look_up(n: usize, plans: &[u8], size: usize, slot: u64) {
+fn look_up(rt: &impl Print, n: usize, plans: &[u8], size: usize, slot: u64) -> io::Result<()> {
     let split = tape::within(size, plans);
-    find(n, &plans[..split], &plans[split..], slot);
-    part(n, &plans[..split], &plans[split..], slot);
+    find(rt, n, &plans[..split], &plans[split..], slot)?;
+    part(rt, n, &plans[..split], &plans[split..], slot)
 }
 
 // The lookup's answer in numbers.
-fn find(n: usize, tonight: &[u8], standby: &[u8], slot: u64) {
+fn find(rt: &impl Print, n: usize, tonight: &[u8], standby: &[u8], slot: u64) -> io::Result<()> {
     let found = lookup::find(n, tonight, standby, slot);
     let outcome = found.outcome;
     let about = found.about;
-    named(outcome, about);
-    show::field(b" plan ", found.plan);
-    show::field(b" start ", found.start as u64);
-    show::field(b" size ", found.size as u64);
+    named(rt, outcome, about)?;
+    show::field(rt, b" plan ", found.plan)?;
+    show::field(rt, b" start ", found.start as u64)?;
+    show::field(rt, b" size ", found.size as u64)
 }
 
 // A checksum of the part that is lent out.
-fn part<'a>(n: usize, tonight: &'a [u8], standby: &'a [u8], slot: u64) {
-    show::sum(lookup::part_in_force(n, tonight, standby, slot));
-    show::end();
+fn part<'a>(
+    rt: &impl Print,
+    n: usize,
+    tonight: &'a [u8],
+    standby: &'a [u8],
+    slot: u64,
+) -> io::Result<()> {
+    show::sum(rt, lookup::part_in_force(n, tonight, standby, slot))?;
+    show::end(rt)
 }
 
 // An answer and what it is about.
-fn named(o: Outcome, about: About) {
-    show::answer(o);
-    show::field(b" about ", switch::about_number(about));
+fn named(rt: &impl Print, o: Outcome, about: About) -> io::Result<()> {
+    show::answer(rt, o)?;
+    show::field(rt, b" about ", switch::about_number(about))
 }
 
 // A carry-over into as many cells as the step says. The number of first records and how many cells were asked and are wished are laid
 // first, then those cells and the plan.
-pub fn carry_over(step: Step, laid: &[u8]) {
+pub fn carry_over(rt: &impl Print, step: Step, laid: &[u8]) -> io::Result<()> {
     let from = tape::within(HEAD, laid);
     carry_asked(
+        rt,
         step.first,
         &laid[from..],
         tape::half_at(laid, ASKED),
         tape::half_at(laid, WISHED),
         tape::long_at(laid, 0) as usize,
         step.second,
-    );
+    )
 }
 
 // The same, the cells that were asked being the first of what is laid.
-fn carry_asked(n: usize, laid: &[u8], asks: usize, wishes: usize, first: usize, size: usize)
+fn carry_asked(
+    rt: &impl Print,
+    n: usize,
+    laid: &[u8],
+    asks: usize,
+    wishes: usize,
+    first: usize,
+    size: usize,
+) -> io::Result<()>
     requires { (asks ≤ 65535) × (wishes ≤ 65535) }
 {
     let mut asked = [0u32; CELLS];
     let split = tape::within(tape::CELL * asks, laid);
     let count = tape::load_cells(&laid[..split], &mut asked);
-    carry_wished(n, &asked[..count], &laid[split..], wishes, first, size);
+    carry_wished(rt, n, &asked[..count], &laid[split..], wishes, first, size)
 }
 
 // The same, the new wishes being the first of what is laid, and the plan the rest.
-fn carry_wished(n: usize, asked: &[u32], laid: &[u8], wishes: usize, first: usize, size: usize)
+fn carry_wished(
+    rt: &impl Print,
+    n: usize,
+    asked: &[u32],
+    laid: &[u8],
+    wishes: usize,
+    first: usize,
+    size: usize,
+) -> io::Result<()>
     requires { wishes ≤ 65535 }
 {
     let mut wished = [0u32; CELLS];
     let split = tape::within(tape::CELL * wishes, laid);
     let count = tape::load_cells(&laid[..split], &mut wished);
-    carry_within(n, asked, &laid[split..], first, &wished[..count], size);
+    carry_within(rt, n, asked, &laid[split..], first, &wished[..count], size)
 }
 
 // The same into so many cells.
-fn carry_within(n: usize, asked: &[u32], plan: &[u8], first: usize, wished: &[u32], size: usize) {
+fn carry_within(
+    rt: &impl Print,
+    n: usize,
+    asked: &[u32],
+    plan: &[u8],
+    first: usize,
+    wished: &[u32],
+    size: usize,
+) -> io::Result<()> {
     let mut cells = [BEFORE; CELLS];
     let lent = tape::least(size, CELLS);
-    carry_into(n, asked, plan, first, wished, &mut cells[..lent]);
+    carry_into(rt, n, asked, plan, first, wished, &mut cells[..lent])
 }
 
 // The call's answer in a line, and the cells after it in another.
 fn carry_into(
+    rt: &impl Print,
     n: usize,
     asked: &[u32],
     plan: &[u8],
     first: usize,
     wished: &[u32],
     cells: &mut [u32],
-) {
-    carried(carry::carry_over(n, asked, plan, first, wished, cells));
-    show::end();
-    show::cells(cells);
-    show::end();
+) -> io::Result<()> {
+    carried(rt, carry::carry_over(n, asked, plan, first, wished, cells))?;
+    show::end(rt)?;
+    show::cells(rt, cells)?;
+    show::end(rt)
 }
 
 // A carry-over's answer: nothing is counted.
-fn carried(answer: Carried) {
+fn carried(rt: &impl Print, answer: Carried) -> io::Result<()> {
     match answer {
-        Carried::Done => named(Outcome::Done(plans::counted(0, 0, 0)), About::Nothing),
-        Carried::Refused(about, r) => named(Outcome::Refused(r), about),
+        Carried::Done => named(rt, Outcome::Done(plans::counted(0, 0, 0)), About::Nothing),
+        Carried::Refused(about, r) => named(rt, Outcome::Refused(r), about),
     }
 }

@@ -3,6 +3,7 @@ ghost use Rattle.std.specs.Prelude.{◌*◌, ◌≤◌};
 
 use crate::show;
 use crate::tape::Step;
+use std::io;
 use switch::Outcome;
 
 // The bytes of a record of the second edition.
@@ -35,9 +36,15 @@ fn is_second(letter: u8) -> bool {
 }
 
 // Prints a short plan that was written, if it is of the first edition; of the second's the checksum tells enough.
-pub fn show_plan(letter: u8, n: usize, outcome: Outcome, bytes: &[u8]) {
+pub fn show_plan(
+    rt: &impl Print,
+    letter: u8,
+    n: usize,
+    outcome: Outcome,
+    bytes: &[u8],
+) -> io::Result<()> {
     if is_second(letter) {
-        return;
+        return Ok(());
     }
-    show::plan(n, outcome, bytes);
+    show::plan(rt, n, outcome, bytes)
 }

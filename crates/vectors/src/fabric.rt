@@ -4,6 +4,7 @@ ghost use Rattle.std.specs.Prelude.{◌≤◌, length};
 use crate::plan::LIMIT;
 use crate::{show, tape};
 use records::RECORD;
+use std::io;
 use switch::Outcome;
 
 // The most cells that are lent.
@@ -16,48 +17,48 @@ const ROOM: usize = 8448;
 const SHORT: usize = 128;
 
 // Reports the plan that was just written at the start of lent bytes.
-pub fn report_written(n: usize, outcome: Outcome, lent: &[u8])
+pub fn report_written(rt: &impl Print, n: usize, outcome: Outcome, lent: &[u8]) -> io::Result<()>
     requires { length lent.now ≤ 278783 }
 {
     let count = tape::within(switch::numbers_of(outcome).counts.records, lent);
     let size = tape::within(count * RECORD, lent);
-    show::text(b"reported:");
-    report(n, &lent[..size], SHORT);
+    show::text(rt, b"reported:")?;
+    report(rt, n, &lent[..size], SHORT)
 }
 
 // The least total of a plan of the cells within the wavelength limit that is laid before them.
-pub fn least(n: usize, laid: &[u8]) {
+pub fn least(rt: &impl Print, n: usize, laid: &[u8]) -> io::Result<()> {
     let mut cells = [0u32; CELLS];
     let from = tape::within(LIMIT, laid);
     let count = tape::load_cells(&laid[from..], &mut cells);
     let limit = tape::long_at(laid, 0);
-    show::line(least::least_within(n, &cells[..count], limit));
+    show::line(rt, least::least_within(n, &cells[..count], limit))
 }
 
 // Reports a plan, into so many bytes.
-pub fn report(n: usize, plan: &[u8], size: usize) {
+pub fn report(rt: &impl Print, n: usize, plan: &[u8], size: usize) -> io::Result<()> {
     let mut bytes = [0u8; ROOM];
     let room = tape::within(size, &bytes);
-    report_into(n, plan, &mut bytes[..room]);
+    report_into(rt, n, plan, &mut bytes[..room])
 }
 
 // Reports into lent bytes, and prints what comes of it.
-fn report_into(n: usize, plan: &[u8], lent: &mut [u8]) {
+fn report_into(rt: &impl Print, n: usize, plan: &[u8], lent: &mut [u8]) -> io::Result<()> {
     tape::blank(lent);
     let outcome = wavelengths::grating_report(n, plan, lent);
-    show::written(outcome, lent);
-    numbers(outcome, lent);
+    show::written(rt, outcome, lent)?;
+    numbers(rt, outcome, lent)
 }
 
 // The numbers of a report, if they are few, in a line.
-fn numbers(outcome: Outcome, report: &[u8]) {
+fn numbers(rt: &impl Print, outcome: Outcome, report: &[u8]) -> io::Result<()> {
     let records = switch::numbers_of(outcome).counts.records;
     if SHORT < records {
-        return;
+        return Ok(());
     }
     let count = tape::within(records, report);
     for k in 0..count {
-        show::field(b" ", show::wide(report[k]));
+        show::field(rt, b" ", show::wide(report[k]))?;
     }
-    show::end();
+    show::end(rt)
 }

@@ -2,6 +2,8 @@
 // name, and lines for what it gives. stdin and stdout are made by makers/vectors.py from a reference in another language, which
 // shares nothing with the code that is run here; makers/tape.py says what each letter of a tape calls.
 // It promises that every case of any tape is run safely; that the answers are right is for the comparison.
+#![tactic(auto)]
+
 mod check;
 mod console;
 mod editions;
@@ -18,87 +20,92 @@ mod show;
 mod tape;
 mod wished;
 
-ghost use Rattle.std.specs.Prelude.{◌≤◌, ◌<◌, length};
+ghost use Rattle.std.specs.Prelude.{◌≤◌, ◌<◌, length, IfOk};
 
-use libc::STDIN_FILENO;
+use std::alloc::Global;
+use std::io;
+use std::io::Read;
 use tape::Step;
 
-// The most bytes of a tape. With what is laid and lent for a call they must fit a stack of 8 MiB.
-const TAPE: usize = 1572864;
+// The most bytes of a tape.
+const TAPE: u64 = 1572864;
 
 // The most bytes laid for one call: the cells of 129 ports, and a plan of a record and a byte more than may be read in the second edition.
 const LAID: usize = 4392073;
 
-fn main() {
-    let mut tape = [0u8; TAPE];
-    let size = io::read_full(STDIN_FILENO, &mut tape);
-    run_all(&tape[..size]);
+fn main(rt: HostRuntime) -> io::Result<()> {
+    let alloc = rt.alloc();
+    let mut tape = Vec::new(alloc);
+    rt.reader().take(TAPE).read_to_end(&mut tape)?;
+    run_all(&rt, alloc, &tape)
 }
 
 // Call after call, up to the tape's end.
-fn run_all(tape: &[u8]) {
+fn run_all(rt: &impl Print, alloc: Global, tape: &[u8]) -> io::Result<()> {
+    let mut bytes = Vec::new(alloc);
     let mut at = 0;
     while at < tape.len() {
-        at = run_next(tape, at);
+        at = run_next(rt, tape, at, &mut bytes)?;
     }
+    Ok(())
 }
 
-// Makes the next call of the tape, and answers where the step after it starts.
-fn run_next(tape: &[u8], at: usize) -> usize
+// Makes the next call of the tape, and answers where the step after it starts. What it lays goes into `bytes`, which the first call makes long enough.
+fn run_next(rt: &impl Print, tape: &[u8], at: usize, bytes: &mut Vec<u8>) -> io::Result<usize>
     requires { at < length tape.now }
-    ensures { (at < result) × (result ≤ length tape.now) }
+    ensures { IfOk result (λ next. (at < next) × (next ≤ length tape.now)) }
 {
-    let mut bytes = [0u8; LAID];
-    run_with(tape, at, &mut bytes)
+    bytes.resize(LAID, 0)?;
+    run_with(rt, tape, at, bytes)
 }
 
-// The same with an array to lay bytes in: its length is known by its type, and nobody has to count so many bytes.
-fn run_with(tape: &[u8], at: usize, bytes: &mut [u8; LAID]) -> usize
+// The same with the bytes that a vector has.
+fn run_with(rt: &impl Print, tape: &[u8], at: usize, bytes: &mut Vec<u8>) -> io::Result<usize>
     requires { at < length tape.now }
-    ensures { (at < result) × (result ≤ length tape.now) }
+    ensures { IfOk result (λ next. (at < next) × (next ≤ length tape.now)) }
 {
-    run_call(tape, at, bytes)
+    run_call(rt, tape, at, bytes.as_mut_slice())
 }
 
 // The same with any bytes to lay in.
-fn run_call(tape: &[u8], at: usize, bytes: &mut [u8]) -> usize
+fn run_call(rt: &impl Print, tape: &[u8], at: usize, bytes: &mut [u8]) -> io::Result<usize>
     requires { at < length tape.now }
-    ensures { (at < result) × (result ≤ length tape.now) }
+    ensures { IfOk result (λ next. (at < next) × (next ≤ length tape.now)) }
 {
     let call = tape::next_call(tape, at, bytes);
     let name = call.name;
     let next = call.next;
     let laid = call.laid;
-    show::text(&tape[name..next]);
-    run(call.step, &bytes[..laid]);
-    next
+    show::text(rt, &tape[name..next])?;
+    run(rt, call.step, &bytes[..laid])?;
+    Ok(next)
 }
 
 // The call that the step's letter stands for.
-fn run(step: Step, laid: &[u8])
+fn run(rt: &impl Print, step: Step, laid: &[u8]) -> io::Result<()>
     requires { (step.small ≤ 255) × (step.second ≤ 65535) }
 {
     let letter = step.letter;
     match letter {
-        b'x' | b'd' | b'e' | b'q' | b'g' | b'X' | b'D' | b'E' | b'Q' => plan::plan(step, laid),
-        b'u' => plan::plan_limited(step, laid),
-        b'y' => fabric::least(step.first, laid),
-        b'k' | b'K' => check::check(step, laid),
-        b'l' | b'L' => check::length(step, laid),
-        b'j' | b'J' => join::join(step, laid),
-        b'1' | b'2' => moved::move_plan(step, laid),
-        b'f' => fabric::report(step.first, laid, step.second),
-        b'r' | b'R' => record::read(step, laid),
-        b'w' | b'W' => record::write(step, laid),
-        b'b' => wished::patterns(laid),
-        b's' | b'S' => wished::read(step, laid),
-        b't' => list::list(laid),
-        b'i' => console::in_force(step, laid),
-        b'c' => console::carry_over(step, laid),
-        b'm' => rooms::room(step.small, laid),
-        b'o' => schedule::plan(step, laid),
-        b'a' => schedule::read(step.first, laid),
-        b'v' => saved::rescue(step, laid),
-        _ => show::text(b" no such call\n"),
+        b'x' | b'd' | b'e' | b'q' | b'g' | b'X' | b'D' | b'E' | b'Q' => plan::plan(rt, step, laid),
+        b'u' => plan::plan_limited(rt, step, laid),
+        b'y' => fabric::least(rt, step.first, laid),
+        b'k' | b'K' => check::check(rt, step, laid),
+        b'l' | b'L' => check::length(rt, step, laid),
+        b'j' | b'J' => join::join(rt, step, laid),
+        b'1' | b'2' => moved::move_plan(rt, step, laid),
+        b'f' => fabric::report(rt, step.first, laid, step.second),
+        b'r' | b'R' => record::read(rt, step, laid),
+        b'w' | b'W' => record::write(rt, step, laid),
+        b'b' => wished::patterns(rt, laid),
+        b's' | b'S' => wished::read(rt, step, laid),
+        b't' => list::list(rt, laid),
+        b'i' => console::in_force(rt, step, laid),
+        b'c' => console::carry_over(rt, step, laid),
+        b'm' => rooms::room(rt, step.small, laid),
+        b'o' => schedule::plan(rt, step, laid),
+        b'a' => schedule::read(rt, step.first, laid),
+        b'v' => saved::rescue(rt, step, laid),
+        _ => show::text(rt, b" no such call\n"),
     }
 }

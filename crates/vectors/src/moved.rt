@@ -3,6 +3,7 @@ ghost use Rattle.std.specs.Prelude.{◌≡◌, ◌≤◌, length};
 
 use crate::tape::Step;
 use crate::{editions, show, tape};
+use std::io;
 use switch::Outcome;
 
 // The most bytes that are lent for a moved plan: 8,192 records of the second edition, and 255 bytes.
@@ -12,23 +13,29 @@ const ROOM: usize = 1081599;
 const BACK: usize = 139264;
 
 // Moves the plan that is laid, into as many records and bytes as the step says, and back.
-pub fn move_plan(step: Step, plan: &[u8])
+pub fn move_plan(rt: &impl Print, step: Step, plan: &[u8]) -> io::Result<()>
     requires { (step.small ≤ 255) × (step.second ≤ 65535) }
 {
     let mut bytes = [0u8; ROOM];
     let room = tape::within(editions::room_of(step), &bytes);
-    there_and_back(step.letter, step.first, plan, &mut bytes[..room]);
+    there_and_back(rt, step.letter, step.first, plan, &mut bytes[..room])
 }
 
 // Moves a plan into lent bytes, and what is there then back into as many bytes as were read.
-fn there_and_back(letter: u8, n: usize, plan: &[u8], lent: &mut [u8])
+fn there_and_back(
+    rt: &impl Print,
+    letter: u8,
+    n: usize,
+    plan: &[u8],
+    lent: &mut [u8],
+) -> io::Result<()>
     requires { length lent.old ≤ 1081599 }
 {
-    let outcome = move_into(letter, n, plan, lent);
+    let outcome = move_into(rt, letter, n, plan, lent)?;
     let count = tape::within(switch::numbers_of(outcome).counts.records, lent);
     let size = tape::within(editions::size_of(letter, count), lent);
-    show::text(b"and back:");
-    move_within(back(letter), n, &lent[..size], plan.len());
+    show::text(rt, b"and back:")?;
+    move_within(rt, back(letter), n, &lent[..size], plan.len())
 }
 
 // The letter of the call that moves a plan back.
@@ -40,20 +47,27 @@ fn back(letter: u8) -> u8 {
 }
 
 // Moves a plan into so many bytes.
-fn move_within(letter: u8, n: usize, plan: &[u8], size: usize) {
+fn move_within(rt: &impl Print, letter: u8, n: usize, plan: &[u8], size: usize) -> io::Result<()> {
     let mut bytes = [0u8; BACK];
     let room = tape::within(size, &bytes);
-    move_into(letter, n, plan, &mut bytes[..room]);
+    move_into(rt, letter, n, plan, &mut bytes[..room])?;
+    Ok(())
 }
 
 // Moves a plan into lent bytes, and prints what comes of it.
-fn move_into(letter: u8, n: usize, plan: &[u8], lent: &mut [u8]) -> Outcome
+fn move_into(
+    rt: &impl Print,
+    letter: u8,
+    n: usize,
+    plan: &[u8],
+    lent: &mut [u8],
+) -> io::Result<Outcome>
     ensures { length lent.new ≡ length lent.old }
 {
     tape::blank(lent);
     let outcome = moved(letter, n, plan, lent);
-    show::written(outcome, lent);
-    outcome
+    show::written(rt, outcome, lent)?;
+    Ok(outcome)
 }
 
 // The move that the letter stands for.

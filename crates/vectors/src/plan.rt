@@ -3,6 +3,7 @@ ghost use Rattle.std.specs.Prelude.{◌≤◌, length};
 
 use crate::tape::Step;
 use crate::{editions, show, tape};
+use std::io;
 use switch::Outcome;
 
 // The bytes of a wavelength limit, which is laid before the cells.
@@ -15,48 +16,63 @@ const CELLS: usize = 16641;
 const ROOM: usize = 278783;
 
 // Plans the cells that are laid, into as many records and bytes as the step says.
-pub fn plan(step: Step, laid: &[u8])
+pub fn plan(rt: &impl Print, step: Step, laid: &[u8]) -> io::Result<()>
     requires { (step.small ≤ 255) × (step.second ≤ 65535) }
 {
-    plan_cells(step, 0, laid);
+    plan_cells(rt, step, 0, laid)
 }
 
 // The same within the wavelength limit that is laid before the cells.
-pub fn plan_limited(step: Step, laid: &[u8])
+pub fn plan_limited(rt: &impl Print, step: Step, laid: &[u8]) -> io::Result<()>
     requires { (step.small ≤ 255) × (step.second ≤ 65535) }
 {
     let from = tape::within(LIMIT, laid);
-    plan_cells(step, tape::long_at(laid, 0), &laid[from..]);
+    plan_cells(rt, step, tape::long_at(laid, 0), &laid[from..])
 }
 
 // The same of cells alone.
-fn plan_cells(step: Step, limit: u64, laid: &[u8])
+fn plan_cells(rt: &impl Print, step: Step, limit: u64, laid: &[u8]) -> io::Result<()>
     requires { (step.small ≤ 255) × (step.second ≤ 65535) }
 {
     let mut cells = [0u32; CELLS];
     let count = tape::load_cells(laid, &mut cells);
     let size = editions::room_of(step);
-    plan_within(step.letter, step.first, limit, &cells[..count], size);
+    plan_within(rt, step.letter, step.first, limit, &cells[..count], size)
 }
 
 // Plans cells into so many bytes.
-fn plan_within(letter: u8, n: usize, limit: u64, cells: &[u32], size: usize) {
+fn plan_within(
+    rt: &impl Print,
+    letter: u8,
+    n: usize,
+    limit: u64,
+    cells: &[u32],
+    size: usize,
+) -> io::Result<()> {
     let mut bytes = [0u8; ROOM];
     let room = tape::within(size, &bytes);
-    plan_into(letter, n, limit, cells, &mut bytes[..room]);
+    plan_into(rt, letter, n, limit, cells, &mut bytes[..room])
 }
 
 // Plans into lent bytes, and prints what comes of it.
-fn plan_into(letter: u8, n: usize, limit: u64, cells: &[u32], lent: &mut [u8])
+fn plan_into(
+    rt: &impl Print,
+    letter: u8,
+    n: usize,
+    limit: u64,
+    cells: &[u32],
+    lent: &mut [u8],
+) -> io::Result<()>
     requires { length lent.old ≤ 278783 }
 {
     tape::blank(lent);
     let outcome = planned(letter, n, limit, cells, lent);
-    show::written(outcome, lent);
-    editions::show_plan(letter, n, outcome, lent);
+    show::written(rt, outcome, lent)?;
+    editions::show_plan(rt, letter, n, outcome, lent)?;
     if grates(letter) {
-        crate::fabric::report_written(n, outcome, lent);
+        crate::fabric::report_written(rt, n, outcome, lent)?;
     }
+    Ok(())
 }
 
 // Is the planner that the letter stands for one of the grating fabric?

@@ -3,20 +3,22 @@ ghost use Rattle.std.specs.Prelude.{◌≤◌};
 
 use crate::tape::Step;
 use crate::{show, tape};
+use std::io;
 use switch::Outcome;
 
 // The most bytes lent for one record.
 const ROOM: usize = 255;
 
 // Opens a plan and makes as many steps over it as the step of the tape says.
-pub fn read(step: Step, plan: &[u8]) {
-    show::line(opened(step.letter, step.first, plan));
+pub fn read(rt: &impl Print, step: Step, plan: &[u8]) -> io::Result<()> {
+    show::line(rt, opened(step.letter, step.first, plan))?;
     let mut at = 0;
     let mut k = 0;
     while k < step.second {
-        at = step_from(step.letter, step.first, plan, at);
+        at = step_from(rt, step.letter, step.first, plan, at)?;
         k += 1;
     }
+    Ok(())
 }
 
 // What opening answers, by a reader in the first edition.
@@ -28,63 +30,71 @@ fn opened(letter: u8, n: usize, plan: &[u8]) -> Outcome {
 }
 
 // Makes and prints the step at a record; and the record that the next is at.
-fn step_from(letter: u8, n: usize, plan: &[u8], at: usize) -> usize {
+fn step_from(rt: &impl Print, letter: u8, n: usize, plan: &[u8], at: usize) -> io::Result<usize> {
     match letter {
-        b'R' => step_second(n, plan, at),
-        _ => step_first(n, plan, at),
+        b'R' => step_second(rt, n, plan, at),
+        _ => step_first(rt, n, plan, at),
     }
 }
 
 // A step of the first edition, by a reader.
-fn step_first(n: usize, plan: &[u8], at: usize) -> usize {
+fn step_first(rt: &impl Print, n: usize, plan: &[u8], at: usize) -> io::Result<usize> {
     let stepped = reader::step_from(n, plan, at);
     let step = stepped.step;
     let outputs = stepped.outputs;
-    show_step(step, stepped.hold, &outputs);
-    stepped.next
+    show_step(rt, step, stepped.hold, &outputs)?;
+    Ok(stepped.next)
 }
 
 // A step of the second edition.
-fn step_second(n: usize, plan: &[u8], at: usize) -> usize {
+fn step_second(rt: &impl Print, n: usize, plan: &[u8], at: usize) -> io::Result<usize> {
     let stepped = plans::step_second(n, plan, at);
     let step = stepped.step;
     let outputs = stepped.outputs;
-    show_step(step, stepped.hold, &outputs);
-    stepped.next
+    show_step(rt, step, stepped.hold, &outputs)?;
+    Ok(stepped.next)
 }
 
 // What a step gave.
-fn show_step(step: plans::Step, hold: u16, outputs: &[u8]) {
+fn show_step(rt: &impl Print, step: plans::Step, hold: u16, outputs: &[u8]) -> io::Result<()> {
     match step {
-        plans::Step::Record => show::text(b"record"),
-        plans::Step::End => show::text(b"end"),
-        plans::Step::Malformed(k) => show::field(b"malformed ", k as u64),
+        plans::Step::Record => show::text(rt, b"record")?,
+        plans::Step::End => show::text(rt, b"end")?,
+        plans::Step::Malformed(k) => show::field(rt, b"malformed ", k as u64)?,
     }
-    show::field(b" hold ", hold as u64);
-    show::sum(outputs);
-    show::end();
+    show::field(rt, b" hold ", hold as u64)?;
+    show::sum(rt, outputs)?;
+    show::end(rt)
 }
 
 // Writes one record of the outputs that are laid, into as many bytes as the step's small number says.
-pub fn write(step: Step, laid: &[u8])
+pub fn write(rt: &impl Print, step: Step, laid: &[u8]) -> io::Result<()>
     requires { step.second ≤ 65535 }
 {
     let mut bytes = [0u8; ROOM];
     let room = tape::within(step.small, &bytes);
     write_into(
+        rt,
         step.letter,
         step.second as u16,
         step.first,
         laid,
         &mut bytes[..room],
-    );
+    )
 }
 
 // Writes one record into lent bytes.
-fn write_into(letter: u8, hold: u16, n: usize, laid: &[u8], lent: &mut [u8]) {
+fn write_into(
+    rt: &impl Print,
+    letter: u8,
+    hold: u16,
+    n: usize,
+    laid: &[u8],
+    lent: &mut [u8],
+) -> io::Result<()> {
     tape::blank(lent);
     let outcome = wrote(letter, hold, n, laid, lent);
-    show::written(outcome, lent);
+    show::written(rt, outcome, lent)
 }
 
 // Writing by the call that the letter stands for.

@@ -1,14 +1,15 @@
 // The room beforehand: how many records always suffice, from N and T alone.
 use crate::{show, tape};
+use std::io;
 use switch::Outcome;
 
 // Where T is laid, behind N.
 const LONGEST: usize = 8;
 
 // The room of the planner that a number stands for, for the N and the T that are laid.
-pub fn room(planner: usize, laid: &[u8]) {
+pub fn room(rt: &impl Print, planner: usize, laid: &[u8]) -> io::Result<()> {
     let n = tape::long_at(laid, 0) as usize;
-    show::line(room_of(planner, n, tape::long_at(laid, LONGEST)));
+    show::line(rt, room_of(planner, n, tape::long_at(laid, LONGEST)))
 }
 
 // The planners of the first edition, then those of the second.

@@ -4,6 +4,7 @@ ghost use Rattle.std.specs.Prelude.{◌≤◌};
 use crate::tape::Step;
 use crate::{show, tape};
 use records::RECORD;
+use std::io;
 
 // The bytes before the cells: how many cells there are, and then how many bytes are lent for the list.
 const HEAD: usize = 4;
@@ -19,55 +20,84 @@ const ROOM: usize = 557379;
 const LIST: usize = 32772;
 
 // Rescues the plan that is laid behind the cells, into as many records and bytes as the step says.
-pub fn rescue(step: Step, laid: &[u8])
+pub fn rescue(rt: &impl Print, step: Step, laid: &[u8]) -> io::Result<()>
     requires { (step.small ≤ 255) × (step.second ≤ 65535) }
 {
     let from = tape::within(HEAD, laid);
     let size = step.second * RECORD + step.small;
     with_cells(
+        rt,
         step.first,
         &laid[from..],
         tape::half_at(laid, 0),
         size,
         tape::half_at(laid, LISTED),
-    );
+    )
 }
 
 // The same, the cells being the first of what is laid, and the plan the rest.
-fn with_cells(n: usize, laid: &[u8], count: usize, size: usize, listed: usize)
+fn with_cells(
+    rt: &impl Print,
+    n: usize,
+    laid: &[u8],
+    count: usize,
+    size: usize,
+    listed: usize,
+) -> io::Result<()>
     requires { count ≤ 65535 }
 {
     let mut cells = [0u32; CELLS];
     let split = tape::within(tape::CELL * count, laid);
     let loaded = tape::load_cells(&laid[..split], &mut cells);
-    with_plan(n, &cells[..loaded], &laid[split..], size, listed);
+    with_plan(rt, n, &cells[..loaded], &laid[split..], size, listed)
 }
 
 // The same into so many bytes.
-fn with_plan(n: usize, cells: &[u32], damaged: &[u8], size: usize, listed: usize) {
+fn with_plan(
+    rt: &impl Print,
+    n: usize,
+    cells: &[u32],
+    damaged: &[u8],
+    size: usize,
+    listed: usize,
+) -> io::Result<()> {
     let mut bytes = [0u8; ROOM];
     let room = tape::within(size, &bytes);
-    with_list(n, cells, damaged, &mut bytes[..room], listed);
+    with_list(rt, n, cells, damaged, &mut bytes[..room], listed)
 }
 
 // The same, with so many bytes for the list.
-fn with_list(n: usize, cells: &[u32], damaged: &[u8], plan: &mut [u8], listed: usize) {
+fn with_list(
+    rt: &impl Print,
+    n: usize,
+    cells: &[u32],
+    damaged: &[u8],
+    plan: &mut [u8],
+    listed: usize,
+) -> io::Result<()> {
     let mut bytes = [0u8; LIST];
     let room = tape::within(listed, &bytes);
-    rescue_into(n, cells, damaged, plan, &mut bytes[..room]);
+    rescue_into(rt, n, cells, damaged, plan, &mut bytes[..room])
 }
 
 // Rescues into lent bytes, and prints what comes of it.
-fn rescue_into(n: usize, cells: &[u32], damaged: &[u8], plan: &mut [u8], list: &mut [u8]) {
+fn rescue_into(
+    rt: &impl Print,
+    n: usize,
+    cells: &[u32],
+    damaged: &[u8],
+    plan: &mut [u8],
+    list: &mut [u8],
+) -> io::Result<()> {
     tape::blank(plan);
     tape::blank(list);
     let answer = rescue::rescue_plan(n, cells, damaged, plan, list);
     let outcome = answer.outcome;
-    show::answer(outcome);
-    show::field(b" added ", answer.added as u64);
-    show::field(b" dropped ", answer.dropped as u64);
-    show::sum(plan);
-    show::sum(list);
-    show::end();
-    show::plan(n, outcome, plan);
+    show::answer(rt, outcome)?;
+    show::field(rt, b" added ", answer.added as u64)?;
+    show::field(rt, b" dropped ", answer.dropped as u64)?;
+    show::sum(rt, plan)?;
+    show::sum(rt, list)?;
+    show::end(rt)?;
+    show::plan(rt, n, outcome, plan)
 }

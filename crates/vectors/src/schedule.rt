@@ -3,6 +3,7 @@ ghost use Rattle.std.specs.Prelude.{◌≤◌, length};
 
 use crate::tape::Step;
 use crate::{show, tape};
+use std::io;
 use tasks::{END, START, TASK};
 
 // The bytes of a switching time, which is laid before the cells.
@@ -18,7 +19,7 @@ const ROOM: usize = 49419;
 const SHORT: usize = 12;
 
 // Plans the cells that are laid behind a switching time, into as many records and bytes as the step says.
-pub fn plan(step: Step, laid: &[u8])
+pub fn plan(rt: &impl Print, step: Step, laid: &[u8]) -> io::Result<()>
     requires { (step.small ≤ 255) × (step.second ≤ 65535) }
 {
     let mut cells = [0u32; CELLS];
@@ -26,53 +27,54 @@ pub fn plan(step: Step, laid: &[u8])
     let count = tape::load_cells(&laid[from..], &mut cells);
     let d = tape::half_at(laid, 0) as u16;
     let size = step.second * TASK + step.small;
-    plan_within(step.first, &cells[..count], d, size);
+    plan_within(rt, step.first, &cells[..count], d, size)
 }
 
 // Plans cells into so many bytes.
-fn plan_within(n: usize, cells: &[u32], d: u16, size: usize) {
+fn plan_within(rt: &impl Print, n: usize, cells: &[u32], d: u16, size: usize) -> io::Result<()> {
     let mut bytes = [0u8; ROOM];
     let room = tape::within(size, &bytes);
-    plan_into(n, cells, d, &mut bytes[..room]);
+    plan_into(rt, n, cells, d, &mut bytes[..room])
 }
 
 // Plans into lent bytes, and prints what comes of it.
-fn plan_into(n: usize, cells: &[u32], d: u16, lent: &mut [u8])
+fn plan_into(rt: &impl Print, n: usize, cells: &[u32], d: u16, lent: &mut [u8]) -> io::Result<()>
     requires { length lent.old ≤ 49419 }
 {
     tape::blank(lent);
     let outcome = shop::shop_plan(n, cells, d, lent);
-    show::written(outcome, lent);
+    show::written(rt, outcome, lent)?;
     let count = tape::within(switch::numbers_of(outcome).counts.records, lent);
     let size = tape::within(count * TASK, lent);
-    print_all(&lent[..size]);
-    show::text(b"read again:");
-    read(n, &lent[..size]);
+    print_all(rt, &lent[..size])?;
+    show::text(rt, b"read again:")?;
+    read(rt, n, &lent[..size])
 }
 
 // Reads tasks, and prints what is answered.
-pub fn read(n: usize, bytes: &[u8]) {
-    show::line(tasks::read_tasks(n, bytes));
+pub fn read(rt: &impl Print, n: usize, bytes: &[u8]) -> io::Result<()> {
+    show::line(rt, tasks::read_tasks(n, bytes))
 }
 
 // The tasks of a schedule, if they are few, a line each.
-fn print_all(bytes: &[u8]) {
+fn print_all(rt: &impl Print, bytes: &[u8]) -> io::Result<()> {
     let count = bytes.len() / TASK;
     if SHORT < count {
-        return;
+        return Ok(());
     }
     for k in 0..count {
         let from = k * TASK;
         let to = from + TASK;
-        print_one(&bytes[from..to]);
+        print_one(rt, &bytes[from..to])?;
     }
+    Ok(())
 }
 
 // Input, output, start and end.
-fn print_one(one: &[u8]) {
-    show::field(b" ", show::wide(tape::byte_at(one, 0)));
-    show::field(b" ", show::wide(tape::byte_at(one, 1)));
-    show::field(b" ", tape::word_at(one, START));
-    show::field(b" ", tape::word_at(one, END));
-    show::end();
+fn print_one(rt: &impl Print, one: &[u8]) -> io::Result<()> {
+    show::field(rt, b" ", show::wide(tape::byte_at(one, 0)))?;
+    show::field(rt, b" ", show::wide(tape::byte_at(one, 1)))?;
+    show::field(rt, b" ", tape::word_at(one, START))?;
+    show::field(rt, b" ", tape::word_at(one, END))?;
+    show::end(rt)
 }

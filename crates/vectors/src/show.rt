@@ -1,7 +1,8 @@
 // What is printed: the answer of a call as words and numbers, a checksum of bytes, and a short plan record by record.
-// How numbers become digits is left to `io`.
+// How numbers become digits is left to `std`.
 ghost use Rattle.std.specs.Prelude.{◌+◌, ◌≤◌, ◌<◌, length};
 
+use std::io;
 use switch::{Counts, Outcome};
 
 // The most records of a plan that are printed; of a longer one the checksum tells enough.
@@ -19,50 +20,50 @@ const IDLE: u8 = 255;
 const PRIME: u64 = 4294967291;
 
 // What a call answered, in a line.
-pub fn line(o: Outcome) {
-    answer(o);
-    end();
+pub fn line(rt: &impl Print, o: Outcome) -> io::Result<()> {
+    answer(rt, o)?;
+    end(rt)
 }
 
 // The same with a checksum of the memory that was lent to it.
-pub fn written(o: Outcome, lent: &[u8]) {
-    answer(o);
-    sum(lent);
-    end();
+pub fn written(rt: &impl Print, o: Outcome, lent: &[u8]) -> io::Result<()> {
+    answer(rt, o)?;
+    sum(rt, lent)?;
+    end(rt)
 }
 
 // What a call answered: code, place, side, and its counts.
-pub fn answer(o: Outcome) {
+pub fn answer(rt: &impl Print, o: Outcome) -> io::Result<()> {
     let told = switch::numbers_of(o);
-    field(b" code ", told.code);
-    field(b" place ", told.place as u64);
-    side(told.side);
+    field(rt, b" code ", told.code)?;
+    field(rt, b" place ", told.place as u64)?;
+    side(rt, told.side)?;
     let counts = told.counts;
-    counted(counts);
+    counted(rt, counts)
 }
 
-fn counted(counts: Counts) {
-    field(b" records ", counts.records as u64);
-    field(b" longest ", counts.longest);
-    field(b" total ", counts.total);
-    field(b" length ", counts.length);
-    field(b" empty ", counts.empty);
+fn counted(rt: &impl Print, counts: Counts) -> io::Result<()> {
+    field(rt, b" records ", counts.records as u64)?;
+    field(rt, b" longest ", counts.longest)?;
+    field(rt, b" total ", counts.total)?;
+    field(rt, b" length ", counts.length)?;
+    field(rt, b" empty ", counts.empty)
 }
 
 // A side's word, a dash where there is none.
-fn side(number: u64) {
+fn side(rt: &impl Print, number: u64) -> io::Result<()> {
     if number == 1 {
-        text(b" side input");
+        text(rt, b" side input")
     } else if number == 2 {
-        text(b" side output");
+        text(rt, b" side output")
     } else {
-        text(b" side -");
+        text(rt, b" side -")
     }
 }
 
 // The checksum of bytes.
-pub fn sum(bytes: &[u8]) {
-    field(b" sum ", checksum(bytes));
+pub fn sum(rt: &impl Print, bytes: &[u8]) -> io::Result<()> {
+    field(rt, b" sum ", checksum(bytes))
 }
 
 // A number made of bytes that changes where one byte, or their number, does.
@@ -77,12 +78,12 @@ fn checksum(bytes: &[u8]) -> u64 {
 }
 
 // The same made of cells.
-pub fn cells_sum(slots: &[u32]) {
+pub fn cells_sum(rt: &impl Print, slots: &[u32]) -> io::Result<()> {
     let mut sum = 1;
     for k in 0..slots.len() {
         sum = summed(sum, wide_slots(slots[k]));
     }
-    field(b" sum ", sum);
+    field(rt, b" sum ", sum)
 }
 
 // A checksum with one number more, which counts one more than it is, so that zeros count too.
@@ -94,74 +95,77 @@ fn summed(sum: u64, number: u64) -> u64
 }
 
 // The records of a plan that was written, if they are few: a line each, hold, then the outputs of the first n inputs.
-pub fn plan(n: usize, o: Outcome, bytes: &[u8]) {
+pub fn plan(rt: &impl Print, n: usize, o: Outcome, bytes: &[u8]) -> io::Result<()> {
     let count = switch::numbers_of(o).counts.records;
     if count > SHORT {
-        return;
+        return Ok(());
     }
     if bytes.len() < count * RECORD {
-        return;
+        return Ok(());
     }
     if n > switch::PORTS {
-        return;
+        return Ok(());
     }
     let mut k = 0;
     while k < count {
         let from = k * RECORD;
         let to = from + RECORD;
-        record(n, &bytes[from..to]);
+        record(rt, n, &bytes[from..to])?;
         k += 1;
     }
+    Ok(())
 }
 
 // One record.
-fn record(n: usize, bytes: &[u8])
+fn record(rt: &impl Print, n: usize, bytes: &[u8]) -> io::Result<()>
     requires n_in_bounds { n + 4 ≤ length bytes.now }
     requires n_bound { n ≤ 64 }
 {
-    io::print_decimal(1, wide(bytes[0]) + 256 * wide(bytes[1]));
+    let hold = wide(bytes[0]) + 256 * wide(bytes[1]);
+    print!(rt; "{hold}")?;
     let mut i = 0;
     while i < n {
-        output(bytes[HEAD + i]);
+        output(rt, bytes[HEAD + i])?;
         i += 1;
     }
-    end();
+    end(rt)
 }
 
 // An output, a dash where the input is idle.
-fn output(byte: u8) {
+fn output(rt: &impl Print, byte: u8) -> io::Result<()> {
     if byte == IDLE {
-        text(b" -");
+        text(rt, b" -")
     } else {
-        field(b" ", wide(byte));
+        field(rt, b" ", wide(byte))
     }
 }
 
 // The cells, a space before each.
-pub fn cells(slots: &[u32]) {
+pub fn cells(rt: &impl Print, slots: &[u32]) -> io::Result<()> {
     for k in 0..slots.len() {
-        cell(slots[k]);
+        cell(rt, slots[k])?;
     }
+    Ok(())
 }
 
-fn cell(slots: u32) {
-    field(b" ", wide_slots(slots));
+fn cell(rt: &impl Print, slots: u32) -> io::Result<()> {
+    field(rt, b" ", wide_slots(slots))
 }
 
 // A word and a number.
-pub fn field(word: &[u8], number: u64) {
-    text(word);
-    io::print_decimal(1, number);
+pub fn field(rt: &impl Print, word: &[u8], number: u64) -> io::Result<()> {
+    text(rt, word)?;
+    print!(rt; "{number}")
 }
 
 // Ends a line.
-pub fn end() {
-    text(b"\n");
+pub fn end(rt: &impl Print) -> io::Result<()> {
+    text(rt, b"\n")
 }
 
 // Words.
-pub fn text(words: &[u8]) {
-    io::write_all(1, words);
+pub fn text(rt: &impl Print, words: &[u8]) -> io::Result<()> {
+    rt.write_all(words)
 }
 
 // A byte as a number that is printed.

@@ -3,7 +3,7 @@
 // A step `+` lays the bytes that follow it, as often as its first number says; any other step is a call on what is laid, and the
 // bytes that follow it are its name. Any bytes can be read so: past a tape's end everything is 0.
 ghost use Rattle.std.specs.Prelude.{◌≡◌, ◌+◌, ◌-◌, ◌≤◌, ◌<◌, length, get_or};
-ghost use Rattle.io.specs.Counts.{IsPrefixLen};
+ghost use Rattle.vectors.specs.Counts.{IsPrefixLen};
 
 // The bytes of a step before those that follow it.
 const STEP: usize = 8;

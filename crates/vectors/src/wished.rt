@@ -1,7 +1,7 @@
 // Wishes: single patterns of 32 bits, and wish lists into lent cells.
 use crate::tape::Step;
 use crate::{show, tape};
-use libc::STDOUT_FILENO;
+use std::io;
 use switch::Outcome;
 
 // The bytes of a pattern, and its digits as printed.
@@ -18,33 +18,40 @@ const BEFORE: u32 = 7;
 const FEW: usize = 4096;
 
 // A line for each whole pattern that is laid: its bits, its code, its slots.
-pub fn patterns(laid: &[u8]) {
+pub fn patterns(rt: &impl Print, laid: &[u8]) -> io::Result<()> {
     let count = laid.len() / PATTERN;
     for k in 0..count {
-        pattern(wishes::word_at(laid, PATTERN * k));
+        pattern(rt, wishes::word_at(laid, PATTERN * k))?;
     }
+    Ok(())
 }
 
-fn pattern(bits: u32) {
+fn pattern(rt: &impl Print, bits: u32) -> io::Result<()> {
     let wish = wish::of_bits(bits);
-    io::print_hex(STDOUT_FILENO, bits as u64, HEX_DIGITS);
-    show::field(b" ", wish::code_of(wish) as u64);
-    show::field(b" ", wish::slots_of(wish) as u64);
-    show::end();
+    print!(rt; "{bits:0HEX_DIGITS$x}")?;
+    show::field(rt, b" ", wish::code_of(wish) as u64)?;
+    show::field(rt, b" ", wish::slots_of(wish) as u64)?;
+    show::end(rt)
 }
 
 // Reads the wish list that is laid into as many cells as the step says.
-pub fn read(step: Step, list: &[u8]) {
+pub fn read(rt: &impl Print, step: Step, list: &[u8]) -> io::Result<()> {
     let mut cells = [BEFORE; CELLS];
     let count = tape::least(step.second, CELLS);
-    read_into(step.letter, step.first, list, &mut cells[..count]);
+    read_into(rt, step.letter, step.first, list, &mut cells[..count])
 }
 
 // The call's answer in a line, and the cells after it in another.
-fn read_into(letter: u8, n: usize, list: &[u8], cells: &mut [u32]) {
-    show::line(wishes_of(letter, n, list, cells));
-    show_cells(cells);
-    show::end();
+fn read_into(
+    rt: &impl Print,
+    letter: u8,
+    n: usize,
+    list: &[u8],
+    cells: &mut [u32],
+) -> io::Result<()> {
+    show::line(rt, wishes_of(letter, n, list, cells))?;
+    show_cells(rt, cells)?;
+    show::end(rt)
 }
 
 // The wish list by the call that the letter stands for.
@@ -56,10 +63,9 @@ fn wishes_of(letter: u8, n: usize, list: &[u8], cells: &mut [u32]) -> Outcome {
 }
 
 // The cells, or their checksum where they are many.
-fn show_cells(cells: &[u32]) {
+fn show_cells(rt: &impl Print, cells: &[u32]) -> io::Result<()> {
     if FEW < cells.len() {
-        show::cells_sum(cells);
-        return;
+        return show::cells_sum(rt, cells);
     }
-    show::cells(cells);
+    show::cells(rt, cells)
 }
