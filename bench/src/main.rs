@@ -297,25 +297,17 @@ fn slope(sizes: &[f64], times: &[f64]) -> f64 {
 }
 
 fn gate_time(report: &mut Report) {
-    report.say("## The time of `rt ci` by crate\n");
+    report.say("## The time of `rt ci`\n");
     let log = option("--gate-log").and_then(|file| fs::read_to_string(file).ok());
-    let crates = log.as_deref().map(gate::by_crate).unwrap_or_default();
-    if crates.is_empty() {
-        report.say("No log of the gate was there: `.ci/run | tee bench/build/ci.log` makes one.");
-        return;
+    match log.as_deref().and_then(gate::whole) {
+        Some((seconds, last)) => report.say(&format!(
+            "Every proof, every must-fail edit, every program and test: {} seconds, and `{last}`.",
+            grouped(seconds)
+        )),
+        None => report.say(
+            "No log of the gate was there: `(time rt ci --anew) >bench/build/ci.log 2>&1` in bash makes one.",
+        ),
     }
-    report.say("In seconds, as the gate's log has them; what ran side by side is counted for each.\n");
-    let total = |part: fn(&gate::Crate) -> u64| crates.iter().map(|(_, times)| part(times)).sum::<u64>();
-    let row = |name: &str, numbers: [u64; 4]| {
-        std::iter::once(name.to_string()).chain(numbers.map(grouped)).collect::<Vec<String>>()
-    };
-    let numbers = |times: &gate::Crate| [times.proof, times.edits, times.edits_time, times.run];
-    let mut rows: Vec<Vec<String>> = crates.iter().map(|(name, times)| row(name, numbers(times))).collect();
-    rows.push(row(
-        "all",
-        [total(|t| t.proof), total(|t| t.edits), total(|t| t.edits_time), total(|t| t.run)],
-    ));
-    report.table(&["crate", "proof", "must-fail edits", "their time", "run"], &rows);
 }
 
 /// Nanoseconds with three digits and a unit.

@@ -13,7 +13,6 @@ import subprocess
 import sys
 
 ROUNDS = {"cv_": 64, "cv2_": 128}  # CV_MOST_PORTS, and the second edition's
-PAGE = 4096
 
 
 def functions(archive):
@@ -32,9 +31,12 @@ def functions(archive):
 
 
 def moved(words, before):
-    """By how much an instruction lowers the stack pointer. A loop that lowers it page by page keeps in r11 where it is to end."""
+    """By how much an instruction lowers the stack pointer. A loop that lowers it step by step keeps in r11 where it is to end: what r11 is
+    lowered by counts, and the steps do not."""
     if by := re.match(r"sub +\$(0x[0-9a-f]+),%r11$", words):
-        return int(by[1], 16) - PAGE if re.match(r"mov +%rsp,%r11$", before) else 0
+        return int(by[1], 16) if re.match(r"mov +%rsp,%r11$", before) else 0
+    if re.match(r"sub +\$0x[0-9a-f]+,%r11$", before) and re.match(r"sub +\$0x[0-9a-f]+,%rsp$", words):
+        return 0
     if words.startswith("push"):
         return 8
     if words.startswith("pop"):
