@@ -21,50 +21,76 @@ mod tape;
 mod wished;
 
 ghost use Rattle.std.specs.Prelude.{◌≤◌, ◌<◌, length, IfOk};
+ghost use Rattle.vectors.specs.Counts.{IsPrefixLen};
 
-use std::alloc::Global;
 use std::io;
-use std::io::Read;
+use std::io::{ErrorKind, Read};
 use tape::Step;
 
-// The most bytes of a tape.
-const TAPE: u64 = 1572864;
+// The most bytes of a tape. With what is laid and lent for a call they must fit a stack of 8 MiB.
+const TAPE: usize = 1572864;
 
 // The most bytes laid for one call: the cells of 129 ports, and a plan of a record and a byte more than may be read in the second edition.
 const LAID: usize = 4392073;
 
 fn main(rt: HostRuntime) -> io::Result<()> {
-    let alloc = rt.alloc();
-    let mut tape = Vec::new(alloc);
-    rt.reader().take(TAPE).read_to_end(&mut tape)?;
-    run_all(&rt, alloc, &tape)
+    let mut tape = [0u8; TAPE];
+    let size = read_full(&mut rt.stdin(), &mut tape)?;
+    run_all(&rt, &tape[..size])
+}
+
+// A pipe may deliver in small pieces: it is read until the buffer is full or the input ends. Answers how many bytes came.
+fn read_full(from: &mut impl Read, buf: &mut [u8]) -> io::Result<usize>
+    ensures { IfOk result (λ n. IsPrefixLen n buf.new) }
+{
+    let mut size = 0;
+    while size < buf.len() {
+        let n = read_some(from, &mut buf[size..])?;
+        if n == 0 {
+            break;
+        }
+        size += n;
+    }
+    Ok(size)
+}
+
+// The next bytes; what a signal interrupts is read again.
+fn read_some(from: &mut impl Read, buf: &mut [u8]) -> io::Result<usize>
+    ensures { IfOk result (λ n. n ≤ length buf.new) }
+{
+    for _ in 0..u64::MAX {
+        match from.read(buf) {
+            Err(e) if e.kind() == ErrorKind::Interrupted => {}
+            answer => return answer,
+        }
+    }
+    from.read(buf)
 }
 
 // Call after call, up to the tape's end.
-fn run_all(rt: &impl Print, alloc: Global, tape: &[u8]) -> io::Result<()> {
-    let mut bytes = Vec::new(alloc);
+fn run_all(rt: &impl Print, tape: &[u8]) -> io::Result<()> {
     let mut at = 0;
     while at < tape.len() {
-        at = run_next(rt, tape, at, &mut bytes)?;
+        at = run_next(rt, tape, at)?;
     }
     Ok(())
 }
 
-// Makes the next call of the tape, and answers where the step after it starts. What it lays goes into `bytes`, which the first call makes long enough.
-fn run_next(rt: &impl Print, tape: &[u8], at: usize, bytes: &mut Vec<u8>) -> io::Result<usize>
+// Makes the next call of the tape, and answers where the step after it starts.
+fn run_next(rt: &impl Print, tape: &[u8], at: usize) -> io::Result<usize>
     requires { at < length tape.now }
     ensures { IfOk result (λ next. (at < next) × (next ≤ length tape.now)) }
 {
-    bytes.resize(LAID, 0)?;
-    run_with(rt, tape, at, bytes)
+    let mut bytes = [0u8; LAID];
+    run_with(rt, tape, at, &mut bytes)
 }
 
-// The same with the bytes that a vector has.
-fn run_with(rt: &impl Print, tape: &[u8], at: usize, bytes: &mut Vec<u8>) -> io::Result<usize>
+// The same with an array to lay bytes in: its length is known by its type, and nobody has to count so many bytes.
+fn run_with(rt: &impl Print, tape: &[u8], at: usize, bytes: &mut [u8; LAID]) -> io::Result<usize>
     requires { at < length tape.now }
     ensures { IfOk result (λ next. (at < next) × (next ≤ length tape.now)) }
 {
-    run_call(rt, tape, at, bytes.as_mut_slice())
+    run_call(rt, tape, at, bytes)
 }
 
 // The same with any bytes to lay in.
