@@ -6,7 +6,7 @@ use Rattle.records.proofs.Meaning.{output-byte}
 use Rattle.grants.proofs.Grant.{partly_none, partly-all, pair_inside, pair_small, partly-idle, partly-joined}
 use Rattle.grants.proofs.grant_record.Goals as goal
 use Rattle.grants.proofs.grant_record.Goals.{then-j-n, else-j-n}
-use Rattle.std.proofs.Common.{refl}
+use Rattle.std.proofs.Common.{refl, ◌<◌, ◌≤◌}
 
 pub loop-i-init : goal.loop-i-init
 loop-i-init c = (omega arith, partly_none _ _ _ _)
@@ -20,20 +20,23 @@ offset_bounds-grants-at c =
 pub bounds-grants-at : goal.bounds-grants-at
 bounds-grants-at c =
     let l = c.loop-i in
+    let small : c.size_of_byte-j.result < c.args.n = omega (arith, c.if-j-n.true) in
     let o = output-byte c.args.rec.now l.i (omega (arith, c.requires.size)) ∙ sym c.size_of_byte-j.ensures.0 in
-    pair_inside _ _ _ _ _ l.i (omega arith) l.invariant.1 _ o c.if-j-n.true _ c.cell_at-at.ensures c.requires.room
+    pair_inside _ _ _ _ _ l.i (omega arith) l.invariant.1 _ o small _ c.cell_at-at.ensures c.requires.room
 
 pub overflow_add-grants : goal.overflow_add-grants
 overflow_add-grants c =
     let l = c.loop-i in
+    let small : c.size_of_byte-j.result < c.args.n = omega (arith, c.if-j-n.true) in
     let o = output-byte c.args.rec.now l.i (omega (arith, c.requires.size)) ∙ sym c.size_of_byte-j.ensures.0 in
-    omega (arith, pair_small _ _ _ _ _ l.i (omega arith) l.invariant.1 _ o c.if-j-n.true _ c.cell_at-at.ensures _ c.requires)
+    omega (arith, pair_small _ _ _ _ _ l.i (omega arith) l.invariant.1 _ o small _ c.cell_at-at.ensures _ c.requires)
 
 pub bounds-grants-at-then-j-n : goal.bounds-grants-at-then-j-n
 bounds-grants-at-then-j-n c =
     let l = c.loop-i in
+    let small : c.size_of_byte-j.result < c.args.n = omega (arith, c.if-j-n.true) in
     let o = output-byte c.args.rec.now l.i (omega (arith, c.requires.size)) ∙ sym c.size_of_byte-j.ensures.0 in
-    pair_inside _ _ _ _ _ l.i (omega arith) l.invariant.1 _ o c.if-j-n.true _ c.cell_at-at.ensures c.requires.room
+    pair_inside _ _ _ _ _ l.i (omega arith) l.invariant.1 _ o small _ c.cell_at-at.ensures c.requires.room
 
 pub loop-i-preserved : goal.loop-i-preserved
 loop-i-preserved c =
@@ -41,8 +44,10 @@ loop-i-preserved c =
     let o = output-byte c.args.rec.now l.i (omega (arith, c.requires.size)) ∙ sym c.size_of_byte-j.ensures.0 in (
       omega arith,
       elim c.if-j-n.branch [
-        | then-j-n w ↦ rw w.grants-is (partly-joined _ _ _ _ _ l.i (omega arith) l.invariant.1 _ o w.if-j-n.true _ w.cell_at-at.ensures c.requires.room _ refl)
-        | else-j-n w ↦ rw w.grants-is (partly-idle _ _ _ _ _ l.i (omega arith) l.invariant.1 _ o w.if-j-n.false)
+        | then-j-n w ↦ let small : c.size_of_byte-j.result < c.args.n = omega (arith, w.if-j-n.true) in
+            rw w.grants-is (partly-joined _ _ _ _ _ l.i (omega arith) l.invariant.1 _ o small _ w.cell_at-at.ensures c.requires.room _ refl)
+        | else-j-n w ↦ let past : c.args.n ≤ c.size_of_byte-j.result = omega (arith, w.if-j-n.false) in
+            rw w.grants-is (partly-idle _ _ _ _ _ l.i (omega arith) l.invariant.1 _ o past)
       ],
     )
 

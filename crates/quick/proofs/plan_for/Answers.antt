@@ -1,6 +1,6 @@
 -- What the demand is refused for by itself comes first, then T, and then what is left to the room.
 use mathlib.Core.Path.{◌≡◌, sym, ◌∙◌}
-use Prim.Native.Nat.{◌≤◌}
+use Prim.Native.Nat.{◌≤◌, ◌<◌}
 use native.Mathlib.Omega.{arith}
 use lib.ListN.{length, take}
 use Rattle.demand.specs.declared.Checked.TheVariants.{Fine}
@@ -13,7 +13,8 @@ pub returns-then-longest-gt-MOST_QUICK : goal.returns-then-longest-gt-MOST_QUICK
 returns-then-longest-gt-MOST_QUICK c =
     let fine : check_demand c.args.e.ports c.args.n c.args.cells.now ≡ Fine c.in-Fine.longest = sym c.copy_checked-checked.ensures.checked ∙ c.in-Fine.is in
     let a = c.args in
-    gives-longest a.e a.n a.cells.now a.plan.now c.in-Fine.longest fine c.if-longest-gt-MOST_QUICK.true
+    let over : 1024 < c.in-Fine.longest = omega (arith, c.if-longest-gt-MOST_QUICK.true) in
+    gives-longest a.e a.n a.cells.now a.plan.now c.in-Fine.longest fine over
 
 pub slice_bounds-plan_checked-end : goal.slice_bounds-plan_checked-end
 slice_bounds-plan_checked-end c = let fine : check_demand c.args.e.ports c.args.n c.args.cells.now ≡ Fine c.in-Fine.longest = sym c.copy_checked-checked.ensures.checked ∙ c.in-Fine.is in
@@ -58,7 +59,7 @@ plan_checked-requires c =
       record {
         bounded = p.bounded;
         fine = fine;
-        small = c.if-longest-gt-MOST_QUICK.false;
+        small = omega (arith, c.if-longest-gt-MOST_QUICK.false);
         copied = c.copy_checked-checked.ensures.copied _ c.in-Fine.is;
       },
       lent.2,

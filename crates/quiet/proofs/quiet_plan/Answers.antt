@@ -11,7 +11,8 @@ use Rattle.quiet.proofs.quiet_plan.Goals as goal
 
 pub returns-then-limit-eq0 : goal.returns-then-limit-eq0
 returns-then-limit-eq0 c = let fine : check_demand 64 c.args.n c.args.cells.now ≡ Fine c.in-Fine.longest = sym c.check_demand.ensures ∙ c.in-Fine.is in
-    let a = c.args in gives-limit a.n a.cells.now a.limit a.plan.now c.in-Fine.longest fine c.if-limit-eq0.true
+    let none : c.args.limit ≡ 0 = omega (arith, c.if-limit-eq0.true) in
+    let a = c.args in gives-limit a.n a.cells.now a.limit a.plan.now c.in-Fine.longest fine none
 
 pub slice_bounds-lows-end : goal.slice_bounds-lows-end
 slice_bounds-lows-end c = let fine : check_demand 64 c.args.n c.args.cells.now ≡ Fine c.in-Fine.longest = sym c.check_demand.ensures ∙ c.in-Fine.is in
