@@ -1,19 +1,17 @@
 -- Answers and steps as the numbers that cross the edge. Definitions only.
+use Rattle.std.specs.Prelude.{Err, Ok}
 use Rattle.std.specs.Prelude.{◌≡◌, cond, List, ℕ, eqb}
-use Rattle.switch.specs.declared.Outcome.{Outcome}
-use Rattle.switch.specs.declared.Outcome.TheVariants.{Done, Refused}
+use Rattle.switch.specs.Outcome.{Outcome}
 use Rattle.switch.specs.declared.About.{About}
 use Rattle.switch.specs.declared.About.TheVariants as about
 use Rattle.switch.specs.declared.Edition.{Edition}
 use Rattle.switch.specs.Answer.{code_of, place_of, side_of, counts_of, no_counts, about_number}
 use Rattle.switch.specs.Result.{Result}
 use Rattle.lookup.specs.declared.Found.{Found}
-use Rattle.carry.specs.declared.Carried.{Carried}
-use Rattle.carry.specs.declared.Carried.TheVariants as carried
-use Rattle.carry.specs.Carry.{new_cells, carry_over, cells_after}
+use Rattle.carry.specs.Carry.{Carried, new_cells, carry_over, cells_after}
 use Rattle.rescue.specs.declared.Answer.{Answer}
 use Rattle.rescue.specs.Rescue.{Saved}
-use Rattle.wish.specs.declared.Wish.{Wish}
+use Rattle.wish.specs.Wish.{Wish}
 use Rattle.wish.specs.Wish as wish
 use Rattle.plans.specs.declared.Step.{Step}
 use Rattle.plans.specs.declared.Step.TheVariants.{Record, End, Malformed}
@@ -81,11 +79,11 @@ kind_of (Malformed k) = 2
 abbrev pub kind_code : (k : ℕ) → ℕ
 kind_code k = cond (eqb k 2) 11 0
 
-abbrev pub flat_step : (s : Stepped) → CvStep
+abbrev pub flat_step : (s : Stepped 64) → CvStep
 flat_step s = record { kind = kind_of s.step; place = step_place s.step; hold = s.hold; outputs = s.outputs }
 
 -- the same where a record has 128 outputs
-abbrev pub flat_wide : (s : Stepped) → Cv2Step
+abbrev pub flat_wide : (s : Stepped 128) → Cv2Step
 flat_wide s = record { kind = kind_of s.step; place = step_place s.step; hold = s.hold; outputs = s.outputs }
 
 -- where a lookup found the record in force
@@ -94,8 +92,8 @@ flat_part f = record { answer = flat_about f.outcome f.about; plan = f.plan; sta
 
 -- a carry-over counts nothing
 abbrev pub flat_carried : Carried → CvAnswer
-flat_carried carried.Done = flat (Done no_counts)
-flat_carried (carried.Refused a r) = flat_about (Refused r) a
+flat_carried (Ok u) = flat (Ok no_counts)
+flat_carried (Err b) = flat_about (Err b.refusal) b.about
 
 -- a carry-over's answer in numbers, and the lent cells
 pub record CarriesFlat (E : Edition) (N : ℕ) (asked plan : List ℕ) (first : ℕ) (wished before : List ℕ) (r : CvAnswer) (after : List ℕ) : Type 0 where

@@ -4,10 +4,11 @@
 
 ghost use Rattle.std.specs.Prelude.{◌≡◌};
 ghost use Rattle.plans.specs.Read.{step_place};
-ghost use Rattle.answers.specs.Flat.{version, flat, flat_about, kind_of, flat_wish, flat_carried, flat_rescue};
+ghost use Rattle.answers.specs.Flat.{version, flat_about, kind_of};
 
 use carry::Carried;
-use plans::Step;
+use lookup::Found;
+use plans::{Step, Stepped};
 use rescue::Answer;
 use switch::{About, Outcome};
 use wish::Wish;
@@ -45,6 +46,7 @@ pub struct CvStep {
 }
 
 // The same in the second edition.
+// C has no struct over a number of outputs, so that there are two.
 #[repr(C)]
 #[derive(Clone, Copy)]
 pub struct Cv2Step {
@@ -71,26 +73,135 @@ pub fn version() -> u64
     VERSION
 }
 
+// What does not apply to a call.
+const NOTHING: CvAnswer = CvAnswer {
+    code: 0,
+    place: 0,
+    side: 0,
+    records: 0,
+    longest: 0,
+    total: 0,
+    length: 0,
+    empty: 0,
+    added: 0,
+    dropped: 0,
+    about: 0,
+};
+
 // A wish: its code, and its slots as total.
-pub fn flatten_wish(asked: Wish) -> CvAnswer
-    ensures { result ≡ flat_wish asked }
-{
-    CvAnswer {
-        code: wish::code_of(asked) as u64,
-        place: 0,
-        side: 0,
-        records: 0,
-        longest: 0,
-        total: wish::slots_of(asked) as u64,
-        length: 0,
-        empty: 0,
-        added: 0,
-        dropped: 0,
-        about: 0,
+impl From<Wish> for CvAnswer {
+    ghost use Rattle.std.specs.Prelude.{◌≡◌};
+    ghost use Rattle.answers.specs.Flat.{flat_wish};
+
+    ghost from_gives = { λ asked r. r ≡ flat_wish asked };
+
+    fn from(asked: Wish) -> CvAnswer {
+        CvAnswer {
+            code: u64::from(wish::code_of(asked)),
+            total: u64::from(wish::slots_of(asked)),
+            ..NOTHING
+        }
     }
 }
 
-// A step's kind.
+// An outcome in numbers, where there is one plan or demand to be about.
+impl From<Outcome> for CvAnswer {
+    ghost use Rattle.std.specs.Prelude.{◌≡◌};
+    ghost use Rattle.answers.specs.Flat.{flat};
+
+    ghost from_gives = { λ o r. r ≡ flat o };
+
+    fn from(o: Outcome) -> CvAnswer {
+        answer_about(o, About::Nothing)
+    }
+}
+
+// A carry-over's answer in numbers; nothing is counted.
+impl From<Carried> for CvAnswer {
+    ghost use Rattle.std.specs.Prelude.{◌≡◌};
+    ghost use Rattle.answers.specs.Flat.{flat_carried};
+
+    ghost from_gives = { λ c r. r ≡ flat_carried c };
+
+    fn from(c: Carried) -> CvAnswer {
+        match c {
+            Ok(()) => NOTHING,
+            Err(blamed) => answer_about(Err(blamed.refusal), blamed.about),
+        }
+    }
+}
+
+// A rescue's answer in numbers.
+impl From<Answer> for CvAnswer {
+    ghost use Rattle.std.specs.Prelude.{◌≡◌};
+    ghost use Rattle.answers.specs.Flat.{flat_rescue};
+
+    ghost from_gives = { λ a r. r ≡ flat_rescue a };
+
+    fn from(a: Answer) -> CvAnswer {
+        let told = CvAnswer::from(a.outcome);
+        CvAnswer {
+            added: a.added as u64,
+            dropped: a.dropped as u64,
+            ..told
+        }
+    }
+}
+
+// Where a lookup found the record in force.
+impl From<Found> for CvPart {
+    ghost use Rattle.std.specs.Prelude.{◌≡◌};
+    ghost use Rattle.answers.specs.Flat.{flat_part};
+
+    ghost from_gives = { λ f r. r ≡ flat_part f };
+
+    fn from(f: Found) -> CvPart {
+        CvPart {
+            answer: answer_about(f.outcome, f.about),
+            plan: f.plan,
+            start: f.start as u64,
+            size: f.size as u64,
+        }
+    }
+}
+
+// A step of the first edition.
+impl From<Stepped<64>> for CvStep {
+    ghost use Rattle.std.specs.Prelude.{◌≡◌};
+    ghost use Rattle.answers.specs.Flat.{flat_step};
+
+    ghost from_gives = { λ s r. r ≡ flat_step s };
+
+    fn from(s: Stepped<64>) -> CvStep {
+        let outputs = s.outputs;
+        CvStep {
+            kind: kind_of(s.step),
+            place: place_of(s.step),
+            hold: u64::from(s.hold),
+            outputs,
+        }
+    }
+}
+
+// A step of the second.
+impl From<Stepped<128>> for Cv2Step {
+    ghost use Rattle.std.specs.Prelude.{◌≡◌};
+    ghost use Rattle.answers.specs.Flat.{flat_wide};
+
+    ghost from_gives = { λ s r. r ≡ flat_wide s };
+
+    fn from(s: Stepped<128>) -> Cv2Step {
+        let outputs = s.outputs;
+        Cv2Step {
+            kind: kind_of(s.step),
+            place: place_of(s.step),
+            hold: u64::from(s.hold),
+            outputs,
+        }
+    }
+}
+
+// A step's kind, as C counts it.
 pub fn kind_of(step: Step) -> u64
     ensures { result ≡ kind_of step }
 {
@@ -101,47 +212,18 @@ pub fn kind_of(step: Step) -> u64
     }
 }
 
-// The record that a step finds damaged, 0 where it finds none.
+// The record that a step finds damaged, 0 for C where it finds none.
 pub fn place_of(step: Step) -> u64
     ensures { result ≡ step_place step }
 {
     match step {
-        Step::Record => 0,
-        Step::End => 0,
+        Step::Record | Step::End => 0,
         Step::Malformed(k) => k as u64,
     }
 }
 
-// An outcome in numbers, where there is one plan or demand to be about.
-pub fn flatten(o: Outcome) -> CvAnswer
-    ensures { result ≡ flat o }
-{
-    flatten_about(o, About::Nothing)
-}
-
-// A carry-over's answer in numbers; nothing is counted.
-pub fn flatten_carried(c: Carried) -> CvAnswer
-    ensures { result ≡ flat_carried c }
-{
-    match c {
-        Carried::Done => flatten(Outcome::Done(plans::counted(0, 0, 0))),
-        Carried::Refused(about, r) => flatten_about(Outcome::Refused(r), about),
-    }
-}
-
-// A rescue's answer in numbers.
-pub fn flatten_rescue(a: Answer) -> CvAnswer
-    ensures { result ≡ flat_rescue a }
-{
-    let outcome = a.outcome;
-    let mut told = flatten(outcome);
-    told.added = a.added as u64;
-    told.dropped = a.dropped as u64;
-    told
-}
-
 // An outcome in numbers, and what it is about.
-pub fn flatten_about(o: Outcome, about: About) -> CvAnswer
+fn answer_about(o: Outcome, about: About) -> CvAnswer
     ensures { result ≡ flat_about o about }
 {
     let told = switch::numbers_of(o);

@@ -11,10 +11,11 @@ use native.Mathlib.Omega.{arith}
 use lib.Bits.{bit_or}
 use lib.Count.{ones, ones_cat, ones-ones}
 use lib.Dec.{ltb, eqb}
-use lib.ListN.{get_or}
+use lib.ListN.{get_or, take}
 use lib.Pow.{pow_pos, pow_mono, mod-pow-add, ones_split, ones_lt, high}
 use mir.Val.{bool_byte}
 use borrow.Author.Tests.{lt-ltb, le-ltb, ltb-true, eq-eqb, ne_eqb, eqb-true}
+use Rattle.std.proofs.lemmas.List.{get_or-take}
 use Rattle.sets.specs.Label.{digit, In, Marked}
 use Rattle.sets.proofs.Digits.{digit_lt, none-digit, one_shifted, marked}
 use Rattle.apart.specs.Fine.{Ports, Fine}
@@ -250,3 +251,13 @@ fine-part o n h ports once e = record { ports = ports; apart = λ i j li lj ne q
     apart i j li lj ne q (no g) =
         let last : get_or o i 0 ≡ 63 = omega (arith, ports i li ne, g) in
         once (omega (arith, ports i li ne)) i j li lj last (q ∙ last)
+
+-- what is fine of the first outputs alone is so of all of them
+pub fine-own : (o : List ℕ) (n : ℕ) → Fine n (take n o) → Fine n o
+fine-own o n f = record {
+  ports = λ i l ne. rw (same i l) at (f.ports i l (λ e. ne (sym (same i l) ∙ e)));
+  apart = λ i j l g ne e. f.apart i j l g (λ q. ne (sym (same i l) ∙ q)) (same j (omega (arith, l, g)) ∙ e ∙ sym (same i l));
+}
+  where
+    same : (i : ℕ) → i < n → get_or (take n o) i 0 ≡ get_or o i 0
+    same i l = get_or-take n o i 0 l

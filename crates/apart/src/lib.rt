@@ -25,79 +25,72 @@ pub fn surely_fine(outputs: &[u8], n: usize) -> bool
     requires { n ≤ length outputs.now }
     ensures { result ≡ true → Fine n outputs.now }
 {
-    if n == 0 {
+    if n == 0 || WORD < n {
         return false;
     }
-    if WORD < n {
+    let own = &outputs[..n];
+    if !all_inside(own) {
         return false;
     }
-    if !all_inside(outputs, n) {
-        return false;
-    }
-    let seen = places(outputs, n);
+    let seen = places(own);
     if seen == EVERY >> (WORD - n) {
         return true;
     }
-    if last_twice(outputs, n) {
+    if last_twice(own) {
         return false;
     }
-    u64::count_ones(seen % LAST_PLACE) == placed(outputs, n) as u32
+    u64::count_ones(seen % LAST_PLACE) == u32::from(placed(own))
 }
 
-// Are the outputs of the n inputs ports or idle?
-fn all_inside(outputs: &[u8], n: usize) -> bool
-    requires { (n ≤ 64) × (n ≤ length outputs.now) }
-    ensures { result ≡ true → Ports n outputs.now n }
+// The loops below go on after a no, and count in a byte: so the compiler takes many outputs at a time.
+
+// Are all outputs ports or idle?
+fn all_inside(outputs: &[u8]) -> bool
+    requires { length outputs.now ≤ 64 }
+    ensures { result ≡ true → Ports (length outputs.now) outputs.now (length outputs.now) }
 {
-    let end = n as u8;
+    let end = outputs.len() as u8;
     let mut fine = true;
-    for i in 0..n {
-        fine = fine & ((outputs[i] < end) | (outputs[i] == IDLE));
+    for b in outputs {
+        fine = fine & ((*b < end) | (*b == IDLE));
     }
     fine
 }
 
-// The places that the outputs of the n inputs have.
-fn places(outputs: &[u8], n: usize) -> u64
-    requires { n ≤ length outputs.now }
-    ensures { result ≡ places_of outputs.now n }
+// The places that the outputs have.
+fn places(outputs: &[u8]) -> u64
+    ensures { result ≡ places_of outputs.now (length outputs.now) }
 {
     let mut seen: u64 = 0;
-    for i in 0..n {
-        seen = seen | (1u64 << (wide(outputs[i]) % WORD));
+    for b in outputs {
+        seen = seen | (1u64 << (usize::from(*b) % WORD));
     }
     seen
 }
 
 // How many of the outputs have another place than the last.
-fn placed(outputs: &[u8], n: usize) -> u8
-    requires { (n ≤ 64) × (n ≤ length outputs.now) }
-    ensures { result ≡ placed_below 63 outputs.now n }
+fn placed(outputs: &[u8]) -> u8
+    requires { length outputs.now ≤ 64 }
+    ensures { result ≡ placed_below 63 outputs.now (length outputs.now) }
 {
     let mut count: u8 = 0;
-    for i in 0..n {
-        count += (wide(outputs[i]) % WORD < LAST) as u8;
+    for b in outputs {
+        count += u8::from(usize::from(*b) % WORD < LAST);
     }
     count
 }
 
 // Is port 63 there twice? Switches of fewer ports than 64 do not have it.
-fn last_twice(outputs: &[u8], n: usize) -> bool
-    requires { (n ≤ 64) × (n ≤ length outputs.now) }
-    ensures { result ≡ false → n ≡ 64 → Once 63 outputs.now n }
+fn last_twice(outputs: &[u8]) -> bool
+    requires { length outputs.now ≤ 64 }
+    ensures { result ≡ false → length outputs.now ≡ 64 → Once 63 outputs.now (length outputs.now) }
 {
-    if n < WORD {
+    if outputs.len() < WORD {
         return false;
     }
     let mut count: u8 = 0;
-    for i in 0..n {
-        count += (wide(outputs[i]) == LAST) as u8;
+    for b in outputs {
+        count += u8::from(usize::from(*b) == LAST);
     }
     1 < count
-}
-
-fn wide(b: u8) -> usize
-    ensures { (result ≡ b) × (result < 256) }
-{
-    b as usize
 }

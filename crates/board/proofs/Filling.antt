@@ -51,8 +51,8 @@ fill_to-next N T d k = rw (add-one k)
 fill_to-pair : (N T : ℕ) (d : List ℕ) (i j : ℕ) → j < N → fill_cell N T (fill_to N T d (i * N + j)) i j ≡ fill_to N T d (i * N + j + 1)
 fill_to-pair N T d i j l = ap₂ (fill_cell N T (fill_to N T d (i * N + j))) (sym (digits_div i l)) (sym (digits_mod i l)) ∙ fill_to-next N T d (i * N + j)
 
-pub next_row : (N i j : ℕ) → j + 1 ≡ N → (i + 1) * N + 0 ≡ i * N + j + 1
-next_row N i j e = omega (arith, add-mul i 1 N)
+pub row_end : (N i j : ℕ) → j ≡ N → i * N + j ≡ (i + 1) * N
+row_end N i j e = omega (arith, add-mul i 1 N)
 
 -- ---- a line's lack is noted
 

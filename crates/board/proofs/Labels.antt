@@ -1,4 +1,5 @@
 -- The labels of the rows: marked cell by cell, and after a cell falls only its own row's label can change.
+use Rattle.labels.specs.Ports.{Outputs}
 use mathlib.Core.Path.{◌≡◌, refl, sym, ap, subst, ◌∙◌}
 use mathlib.Core.Bool.{true, false}
 use mathlib.Core.Logic.{◌≢◌, ◌⊎◌, inl, inr}
@@ -82,21 +83,20 @@ module _ (w : List ℕ) (row l : ℕ) where
 -- ---- a label for each input
 
 -- the inputs below i have their labels
-pub record Begun (N : ℕ) (w lows highs : List ℕ) (i : ℕ) : Type 0 where
-  pub low : length lows ≡ N
-  pub high : length highs ≡ N
-  pub row : (k : ℕ) → k < i → RowOf N w k (row_of lows highs k)
+pub record Begun (N : ℕ) (w : List ℕ) (rows : List Outputs) (i : ℕ) : Type 0 where
+  pub each : length rows ≡ N
+  pub row : (k : ℕ) → k < i → RowOf N w k (row_of rows k)
 
-pub begun-next : (N : ℕ) (w lows highs lows' highs' : List ℕ) (i l : ℕ) → Begun N w lows highs i → RowOf N w i l → RowPut i l lows highs lows' highs' → Begun N w lows' highs' (i + 1)
-begun-next N w lows highs lows' highs' i l b q p = record { low = p.low ∙ b.low; high = p.high ∙ b.high; row = λ k h. go k h (ℕ_discrete k i) }
+pub begun-next : (N : ℕ) (w : List ℕ) (rows rows' : List Outputs) (i l : ℕ) → Begun N w rows i → RowOf N w i l → RowPut i l rows rows' → Begun N w rows' (i + 1)
+begun-next N w rows rows' i l b q p = record { each = p.size ∙ b.each; row = λ k h. go k h (ℕ_discrete k i) }
   where
-    go : (k : ℕ) → k < i + 1 → Dec (k ≡ i) → RowOf N w k (row_of lows' highs' k)
+    go : (k : ℕ) → k < i + 1 → Dec (k ≡ i) → RowOf N w k (row_of rows' k)
     go k h (yes z) = rw (z, p.here) q
     go k h (no z) = rw (p.other k z) (b.row k (omega arith))
 
 -- ---- the cell of a pair falls to v
 
-module _ (N : ℕ) (w lows highs : List ℕ) (i j v : ℕ) (s : Sized N w) (li : i < N) (lj : j < N) (was : v ≤ cell N w i j) (ls : Labelled N w lows highs) where
+module _ (N : ℕ) (w : List ℕ) (rows : List Outputs) (i j v : ℕ) (s : Sized N w) (li : i < N) (lj : j < N) (was : v ≤ cell N w i j) (ls : Labelled N w rows) where
   abbrev after : List ℕ
   after = set w (i * N + j) v
 
@@ -146,40 +146,40 @@ module _ (N : ℕ) (w lows highs : List ℕ) (i j v : ℕ) (s : Sized N w) (li :
       go (yes z) = row_zero l r z (c.cleared (eq-eqb v 0 z)) q
       go (no z) = rw (c.same (ne_eqb v 0 z)) (row-some l z q)
 
-  pub labels-taken : (l r : ℕ) (lows' highs' : List ℕ) → l ≡ row_of lows highs i → ClearedIf (eqb v 0) l j r → RowPut i r lows highs lows' highs'
-      → Labelled N (set w (i * N + j) v) lows' highs'
-  labels-taken l r lows' highs' e c p = record { low = p.low ∙ ls.low; high = p.high ∙ ls.high; row = λ k h. go k h (ℕ_discrete k i) }
+  pub labels-taken : (l r : ℕ) (rows' : List Outputs) → l ≡ row_of rows i → ClearedIf (eqb v 0) l j r → RowPut i r rows rows'
+      → Labelled N (set w (i * N + j) v) rows'
+  labels-taken l r rows' e c p = record { each = p.size ∙ ls.each; row = λ k h. go k h (ℕ_discrete k i) }
     where
-      go : (k : ℕ) → k < N → Dec (k ≡ i) → RowOf N after k (row_of lows' highs' k)
+      go : (k : ℕ) → k < N → Dec (k ≡ i) → RowOf N after k (row_of rows' k)
       go k h (yes x) = rw (x, p.here) (row-taken l r c (rw e (ls.row i li)))
-      go k h (no x) = rw (p.other k x) (row_same k (row_of lows highs k) x (ls.row k h))
+      go k h (no x) = rw (p.other k x) (row_same k (row_of rows k) x (ls.row k h))
 
 -- the hold is taken off the pair's cell, which stands at q
-pub taken : (N : ℕ) (w lows highs : List ℕ) (i j hold : ℕ) → TakePre N w lows highs i j hold → (q : ℕ) → q ≡ i * N + j → (l r : ℕ) (lows' highs' : List ℕ) → l ≡ row_of lows highs i
-    → ClearedIf (eqb (get_or w q 0 - hold) 0) l j r → RowPut i r lows highs lows' highs' → TakePost N w i j hold (set w q (get_or w q 0 - hold)) lows' highs'
+pub taken : (N : ℕ) (w : List ℕ) (rows : List Outputs) (i j hold : ℕ) → TakePre N w rows i j hold → (q : ℕ) → q ≡ i * N + j → (l r : ℕ) (rows' : List Outputs) → l ≡ row_of rows i
+    → ClearedIf (eqb (get_or w q 0 - hold) 0) l j r → RowPut i r rows rows' → TakePost N w i j hold (set w q (get_or w q 0 - hold)) rows'
 unfolding cell
-taken N w lows highs i j hold p q e l r lows' highs' f c put = record {
+taken N w rows i j hold p q e l r rows' f c put = record {
   taken = ap (λ (x : ℕ). set w x (get_or w x 0 - hold)) e;
-  labels = rw e (labels-taken N w lows highs i j (get_or w (i * N + j) 0 - hold) p.sized p.input p.output (omega arith) p.labels l r lows' highs' f (rw e at c) put);
+  labels = rw e (labels-taken N w rows i j (get_or w (i * N + j) 0 - hold) p.sized p.input p.output (omega arith) p.labels l r rows' f (rw e at c) put);
 }
 
 -- the same where the label is looked at only if nothing is left
-module _ (N : ℕ) (w lows highs : List ℕ) (i j hold : ℕ) (p : TakePre N w lows highs i j hold) (q : ℕ) (e : q ≡ i * N + j) where
+module _ (N : ℕ) (w : List ℕ) (rows : List Outputs) (i j hold : ℕ) (p : TakePre N w rows i j hold) (q : ℕ) (e : q ≡ i * N + j) where
   left_is : get_or w q 0 - hold ≡ cell N w i j - hold
   unfolding cell
   left_is = ap (λ (x : ℕ). get_or w x 0 - hold) e
 
-  pub taken-some : get_or w q 0 - hold ≢ 0 → TakePost N w i j hold (set w q (get_or w q 0 - hold)) lows highs × (false ≡ eqb (cell N w i j - hold) 0)
+  pub taken-some : get_or w q 0 - hold ≢ 0 → TakePost N w i j hold (set w q (get_or w q 0 - hold)) rows × (false ≡ eqb (cell N w i j - hold) 0)
   taken-some f = (
-    taken N w lows highs i j hold p q e (row_of lows highs i) (row_of lows highs i) lows highs refl (record { cleared = λ b. absurd (f (eqb-true _ _ b)); same = λ _. refl })
-        (record { low = refl; high = refl; here = refl; other = λ k _. refl }),
+    taken N w rows i j hold p q e (row_of rows i) (row_of rows i) rows refl (record { cleared = λ b. absurd (f (eqb-true _ _ b)); same = λ _. refl })
+        (record { size = refl; here = refl; other = λ k _. refl }),
     sym (ne_eqb _ _ (λ z. f (left_is ∙ z))),
   )
 
-  pub taken-all : get_or w q 0 - hold ≡ 0 → (l r : ℕ) (lows' highs' : List ℕ) → l ≡ row_of lows highs i → Cleared l j r → RowPut i r lows highs lows' highs'
-      → TakePost N w i j hold (set w q (get_or w q 0 - hold)) lows' highs' × (true ≡ eqb (cell N w i j - hold) 0)
-  taken-all z l r lows' highs' f c put = (
-    taken N w lows highs i j hold p q e l r lows' highs' f (record { cleared = λ _. c; same = λ b. absurd (eqb-false _ _ b z) }) put,
+  pub taken-all : get_or w q 0 - hold ≡ 0 → (l r : ℕ) (rows' : List Outputs) → l ≡ row_of rows i → Cleared l j r → RowPut i r rows rows'
+      → TakePost N w i j hold (set w q (get_or w q 0 - hold)) rows' × (true ≡ eqb (cell N w i j - hold) 0)
+  taken-all z l r rows' f c put = (
+    taken N w rows i j hold p q e l r rows' f (record { cleared = λ _. c; same = λ b. absurd (eqb-false _ _ b z) }) put,
     sym (eq-eqb _ _ (sym left_is ∙ z)),
   )
 

@@ -1,4 +1,5 @@
 -- Inner: a label of two words for each input, kept in step with the cells. Definitions only.
+use Rattle.labels.specs.Ports.{Outputs}
 use Rattle.std.specs.Prelude.{◌≡◌, List, ℕ, ◌+◌, ◌*◌, ◌-◌, ◌≤◌, ◌<◌, length, set}
 use Rattle.switch.specs.Demand.{cell}
 use Rattle.sets.specs.Label.{In}
@@ -12,34 +13,33 @@ pub record RowOf (N : ℕ) (w : List ℕ) (i l : ℕ) : Type 0 where
   pub only : (j : ℕ) → In l j → (j < N) × (0 < cell N w i j)
 
 -- each input has its label
-pub record Labelled (N : ℕ) (w lows highs : List ℕ) : Type 0 where
-  pub low : length lows ≡ N
-  pub high : length highs ≡ N
-  pub row : (i : ℕ) → i < N → RowOf N w i (row_of lows highs i)
+pub record Labelled (N : ℕ) (w : List ℕ) (rows : List Outputs) : Type 0 where
+  pub each : length rows ≡ N
+  pub row : (i : ℕ) → i < N → RowOf N w i (row_of rows i)
 
 -- what can be taken off a pair
-pub record TakePre (N : ℕ) (w lows highs : List ℕ) (i j hold : ℕ) : Type 0 where
+pub record TakePre (N : ℕ) (w : List ℕ) (rows : List Outputs) (i j hold : ℕ) : Type 0 where
   pub sized : Sized N w
-  pub labels : Labelled N w lows highs
+  pub labels : Labelled N w rows
   pub input : i < N
   pub output : j < N
   pub enough : hold ≤ cell N w i j
 
 -- the pair's cell is less by the hold, and the labels are in step again
-pub record TakePost (N : ℕ) (w : List ℕ) (i j hold : ℕ) (w' lows' highs' : List ℕ) : Type 0 where
+pub record TakePost (N : ℕ) (w : List ℕ) (i j hold : ℕ) (w' : List ℕ) (rows' : List Outputs) : Type 0 where
   pub taken : w' ≡ set w (i * N + j) (cell N w i j - hold)
-  pub labels : Labelled N w' lows' highs'
+  pub labels : Labelled N w' rows'
 
 -- what a setting can be taken off: it uses no cell below the hold
-pub record SubtractPre (N : ℕ) (w lows highs out : List ℕ) (hold : ℕ) : Type 0 where
+pub record SubtractPre (N : ℕ) (w : List ℕ) (rows : List Outputs) (out : List ℕ) (hold : ℕ) : Type 0 where
   pub uses : Uses N w out
-  pub labels : Labelled N w lows highs
+  pub labels : Labelled N w rows
   pub enough : (i : ℕ) → i < N → hold ≤ cell N w i (out_of out i)
 
 -- every cell that the setting uses is less by the hold, and the labels are in step again
-pub record SubtractPost (N : ℕ) (w out : List ℕ) (hold : ℕ) (w' lows' highs' : List ℕ) : Type 0 where
+pub record SubtractPost (N : ℕ) (w out : List ℕ) (hold : ℕ) (w' : List ℕ) (rows' : List Outputs) : Type 0 where
   pub taken : w' ≡ peel_to N hold (out_of out) w N
-  pub labels : Labelled N w' lows' highs'
+  pub labels : Labelled N w' rows'
 
 -- of the inputs below k, those are in l whose own cell has nothing left, and no input from k on is
 pub record Emptied (N : ℕ) (w out : List ℕ) (l k : ℕ) : Type 0 where

@@ -9,45 +9,48 @@ ghost use Rattle.switch.specs.Demand.{cell};
 ghost use Rattle.labels.specs.Ports.{outputs_of, inputs_of};
 ghost use Rattle.rules.specs.Fill.{fill};
 ghost use Rattle.rules.specs.Exact.{least};
-ghost use Rattle.board.specs.Level.{Sized, Within, Lacking, both, less_both, FillPre, Uses, out_of};
+ghost use Rattle.board.specs.Level.{Sized, Within, Lacking, both, less_both, RowPre, RowFilled, FillPre, Uses, out_of};
 ghost use Rattle.board.specs.Labelled.{RowOf, Labelled, TakePre, TakePost, SubtractPre, SubtractPost, Emptied};
 
 use demand::{cell_at, line_sum};
 use labels::{Inputs, Outputs, put_row, row_of};
 pub use numbers::copy;
-use numbers::smaller_word;
 use switch::{InputPort, OutputPort};
 
 // The lines of the largest switch.
 const LINES: usize = 256;
 
-// Cells in order are topped up, each by as much as its row and its column both allow (§6.2). The pair is counted on from cell to cell: a
-// division for each would cost more than the rest.
+// Cells in order are topped up, each by as much as its row and its column both allow (§6.2).
+// Here and below a loop goes over ports: cells, lines and labels are all told by a port, which is more than a place in one slice.
 pub fn fill_up(cells: &mut [u32], n: usize, longest: u64)
     requires { Within n longest cells.old }
     ensures { cells.new ≡ fill n longest cells.old }
 {
-    let mut lacking = [0u32; LINES];
-    measure(cells, n, longest, &mut lacking);
-    let mut i = 0;
-    let mut j = 0;
-    while i < n {
-        fill_cell(cells, &mut lacking, n, InputPort(i), OutputPort(j));
-        j += 1;
-        if j == n {
-            i += 1;
-            j = 0;
-        }
+    let mut lines = [0u32; LINES];
+    let lacking = &mut lines[..n + n];
+    measure(cells, n, longest, lacking);
+    for i in 0..n {
+        fill_row(cells, lacking, n, InputPort(i));
+    }
+}
+
+// The cells of an input's row, in order.
+fn fill_row(cells: &mut [u32], lacking: &mut [u32], n: usize, i: InputPort)
+    requires { RowPre n cells.old lacking.old i.0 }
+    ensures { RowFilled n cells.old lacking.old i.0 cells.new lacking.new }
+{
+    for j in 0..n {
+        fill_cell(cells, lacking, n, i, OutputPort(j));
     }
 }
 
 // What each line lacks of T, inputs before outputs.
 fn measure(cells: &[u32], n: usize, longest: u64, lacking: &mut [u32])
-    requires { Within n longest cells.now × (n + n ≤ length lacking.old) }
+    requires { Within n longest cells.now × (length lacking.old ≡ n + n) }
     ensures { Lacking n longest cells.now lacking.new }
 {
-    for k in 0..n + n {
-        lacking[k] = (longest - line_sum(cells, n, k)) as u32;
+    for (k, lack) in lacking.iter_mut().enumerate() {
+        *lack = (longest - line_sum(cells, n, k)) as u32;
     }
 }
 
@@ -61,19 +64,19 @@ fn fill_cell(cells: &mut [u32], lacking: &mut [u32], n: usize, i: InputPort, j: 
     let at = cell_at(n, i, j);
     let across = lacking[row];
     let down = lacking[column];
-    let more = smaller_word(across, down);
+    let more = across.min(down);
     cells[at] += more;
     lacking[row] = across - more;
     lacking[column] = down - more;
 }
 
 // The label of each input: the outputs whose cells are not zero.
-pub fn label_rows(cells: &[u32], n: usize, lows: &mut [u64], highs: &mut [u64])
-    requires { Sized n cells.now × (length lows.old ≡ n) × (length highs.old ≡ n) }
-    ensures { Labelled n cells.now lows.new highs.new }
+pub fn label_rows(cells: &[u32], n: usize, rows: &mut [Outputs])
+    requires { Sized n cells.now × (length rows.old ≡ n) }
+    ensures { Labelled n cells.now rows.new }
 {
-    for i in 0..n {
-        put_row(lows, highs, InputPort(i), label_row(cells, n, InputPort(i)));
+    for (i, row) in rows.iter_mut().enumerate() {
+        *row = label_row(cells, n, InputPort(i));
     }
 }
 
@@ -100,7 +103,7 @@ pub fn smallest(cells: &[u32], n: usize, out: &[u8]) -> u32
     let mut hold = cells[first];
     for i in 1..n {
         let at = used(n, out, InputPort(i));
-        hold = smaller_word(hold, cells[at]);
+        hold = hold.min(cells[at]);
     }
     hold
 }
@@ -115,21 +118,14 @@ fn used(n: usize, out: &[u8], i: InputPort) -> usize
 }
 
 // The cells that a setting uses are less by the hold. The answer has every input whose cell that emptied.
-pub fn subtract(
-    cells: &mut [u32],
-    n: usize,
-    lows: &mut [u64],
-    highs: &mut [u64],
-    out: &[u8],
-    hold: u32,
-) -> Inputs
-    requires { SubtractPre n cells.old lows.old highs.old out.now hold }
-    ensures { SubtractPost n cells.old out.now hold cells.new lows.new highs.new × Emptied n cells.new out.now (inputs_of result) n }
+pub fn subtract(cells: &mut [u32], n: usize, rows: &mut [Outputs], out: &[u8], hold: u32) -> Inputs
+    requires { SubtractPre n cells.old rows.old out.now hold }
+    ensures { SubtractPost n cells.old out.now hold cells.new rows.new × Emptied n cells.new out.now (inputs_of result) n }
 {
     let mut emptied = Inputs::none();
     for i in 0..n {
         let j = out[i] as usize;
-        if empties(cells, n, lows, highs, InputPort(i), OutputPort(j), hold) {
+        if empties(cells, n, rows, InputPort(i), OutputPort(j), hold) {
             emptied = emptied.mark(InputPort(i));
         }
     }
@@ -141,14 +137,13 @@ pub fn subtract(
 fn empties(
     cells: &mut [u32],
     n: usize,
-    lows: &mut [u64],
-    highs: &mut [u64],
+    rows: &mut [Outputs],
     i: InputPort,
     j: OutputPort,
     hold: u32,
 ) -> bool
-    requires { TakePre n cells.old lows.old highs.old i.0 j.0 hold }
-    ensures { TakePost n cells.old i.0 j.0 hold cells.new lows.new highs.new × (result ≡ eqb (cell n cells.old i.0 j.0 - hold) 0) }
+    requires { TakePre n cells.old rows.old i.0 j.0 hold }
+    ensures { TakePost n cells.old i.0 j.0 hold cells.new rows.new × (result ≡ eqb (cell n cells.old i.0 j.0 - hold) 0) }
 {
     let at = cell_at(n, i, j);
     let left = cells[at] - hold;
@@ -156,8 +151,8 @@ fn empties(
     if left != 0 {
         return false;
     }
-    let row = row_of(lows, highs, i);
-    put_row(lows, highs, i, row.without(j));
+    let row = row_of(rows, i);
+    put_row(rows, i, row.without(j));
     true
 }
 
@@ -166,18 +161,17 @@ fn empties(
 pub fn take(
     cells: &mut [u32],
     n: usize,
-    lows: &mut [u64],
-    highs: &mut [u64],
+    rows: &mut [Outputs],
     i: InputPort,
     j: OutputPort,
     hold: u32,
 )
-    requires { TakePre n cells.old lows.old highs.old i.0 j.0 hold }
-    ensures { TakePost n cells.old i.0 j.0 hold cells.new lows.new highs.new }
+    requires { TakePre n cells.old rows.old i.0 j.0 hold }
+    ensures { TakePost n cells.old i.0 j.0 hold cells.new rows.new }
 {
     let at = cell_at(n, i, j);
     let left = cells[at] - hold;
     cells[at] = left;
-    let row = row_of(lows, highs, i);
-    put_row(lows, highs, i, row.without_if(j, left == 0));
+    let row = row_of(rows, i);
+    put_row(rows, i, row.without_if(j, left == 0));
 }

@@ -1,4 +1,5 @@
 -- Carry-over case by case: which return is which case of the definition, and what is known where nothing is refused before the sum.
+use Rattle.std.specs.Prelude.{Err, Ok}
 use mathlib.Core.Path.{◌≡◌, refl, sym, ap, ◌∙◌}
 use mathlib.Core.Bool.{Bool, true, false}
 use mathlib.Core.List.{List}
@@ -12,42 +13,40 @@ use Rattle.switch.specs.declared.About.{About}
 use Rattle.switch.specs.declared.About.TheVariants as about
 use Rattle.switch.specs.declared.Counts.{Counts}
 use Rattle.switch.specs.declared.Edition.{Edition}
-use Rattle.switch.specs.declared.Outcome.{Outcome}
-use Rattle.switch.specs.declared.Outcome.TheVariants as outcome
+use Rattle.switch.specs.Outcome.{Outcome}
 use Rattle.switch.specs.declared.Refusal.{Refusal}
 use Rattle.switch.specs.declared.Refusal.TheVariants.{Ports, Cells, Line, FirstOver}
 use Rattle.switch.specs.Check.{ports_fine}
 use Rattle.switch.specs.Demand.{cell, longest}
 use Rattle.switch.specs.Editions.{Bounded}
-use Rattle.demand.specs.declared.Checked.TheVariants.{Fine, Faulty}
 use Rattle.demand.specs.Lines.{line_over}
 use Rattle.demand.specs.Check.{check_lines}
 use Rattle.records.specs.Bytes.{whole}
 use Rattle.plans.specs.Read.{malformed, checking}
 use Rattle.plans.proofs.Plans.{checked, malformed-none}
-use Rattle.carry.specs.declared.Carried.{Carried}
-use Rattle.carry.specs.declared.Carried.TheVariants.{Done, Refused}
-use Rattle.carry.specs.Carry.{and_then, plain, of_lines, lines_of, after_records, after_plan, fault_of, new_cells, carry_over, Fit}
+use Rattle.switch.specs.declared.Blamed.{Blamed}
+use Rattle.switch.specs.Answer.{blamed}
+use Rattle.carry.specs.Carry.{Carried, done, refused, and_then, plain, of_lines, lines_of, after_records, after_plan, fault_of, new_cells, carry_over, Fit}
 
-never : {a : About} {r : Refusal} {A : Type 0} → Refused a r ≡ Done → A
+never : {b : Blamed} {A : Type 0} → ◌≡◌ {A = Carried} (Err b) done → A
 never e = let z : ◌≡◌ {A = ℕ} 0 1 = cc in absurd (let f : ⊥ = omega arith in f)
 
 -- code 3
 module _ (a : About) (N : ℕ) (d : List ℕ) where
-  pub lines-faulty : {r : Refusal} → Faulty r ≡ check_lines N d → Refused a r ≡ lines_of a N d
+  pub lines-faulty : {r : Refusal} → Err r ≡ check_lines N d → refused a r ≡ lines_of a N d
   unfolding lines_of
   lines-faulty e = ap (of_lines a) e
 
-  pub lines-fine : {T : ℕ} → Fine T ≡ check_lines N d → Done ≡ lines_of a N d
+  pub lines-fine : {T : ℕ} → Ok T ≡ check_lines N d → done ≡ lines_of a N d
   unfolding lines_of
   lines-fine e = ap (of_lines a) e
 
   -- no line of cells that are fine is over 65,535
-  pub lines-short : lines_of a N d ≡ Done → longest N (cell N d) ≤ 65535
+  pub lines-short : lines_of a N d ≡ done → longest N (cell N d) ≤ 65535
   unfolding lines_of
   lines-short e =
       dite (dec_lt 65535 (longest N (cell N d)))
-      (λ l. never {a = a} {r = Line (line_over N d)} (rw (lt-leb _ _ l) at e))
+      (λ l. never {b = blamed a (Line (line_over N d))} (rw (lt-leb _ _ l) at e))
       (λ g. omega (arith, g))
 
 -- code 15, and the lines in turn
@@ -61,10 +60,10 @@ module _ (N : ℕ) (asked : List ℕ) (m first : ℕ) (wished : List ℕ) where
     unfolding after_records
     first-inside = rw (le-leb _ _ inside)
 
-    pub asked-refused : (a : About) (r : Refusal) → Refused a r ≡ lines_of about.Demand N asked → Refused a r ≡ after_records N asked m first wished
-    asked-refused a r e = ap (λ (x : Carried). and_then x (lines_of about.Wished N wished)) e ∙ first-inside
+    pub asked-refused : (b : Blamed) → ◌≡◌ {A = Carried} (Err b) (lines_of about.Demand N asked) → ◌≡◌ {A = Carried} (Err b) (after_records N asked m first wished)
+    asked-refused b e = ap (λ (x : Carried). and_then x (lines_of about.Wished N wished)) e ∙ first-inside
 
-    pub asked-done : Done ≡ lines_of about.Demand N asked → lines_of about.Wished N wished ≡ after_records N asked m first wished
+    pub asked-done : done ≡ lines_of about.Demand N asked → lines_of about.Wished N wished ≡ after_records N asked m first wished
     asked-done e = ap (λ (x : Carried). and_then x (lines_of about.Wished N wished)) e ∙ first-inside
 
 -- what is refused before the sum is known
@@ -95,25 +94,25 @@ module _ (E : Edition) (N : ℕ) (asked plan : List ℕ) (first : ℕ) (wished :
         fault-room n = rw (ports, eq-eqb _ _ a, eq-eqb _ _ w, ne_eqb _ _ n)
 
         module _ (c : room ≡ N * N) where
-          in-plan : after_plan (checking E N plan) judged ≡ fault
+          pub in-plan : after_plan (checking E N plan) judged ≡ fault
           unfolding fault_of
           in-plan = rw (ports, eq-eqb _ _ a, eq-eqb _ _ w, eq-eqb _ _ c)
 
-          pub fault-plan : {r : Refusal} → outcome.Refused r ≡ checking E N plan → Refused about.Plan r ≡ fault
+          pub fault-plan : {r : Refusal} → Err r ≡ checking E N plan → refused about.Plan r ≡ fault
           fault-plan e = ap (λ (o : Outcome). after_plan o judged) e ∙ in-plan
 
-          pub fault-judged : {x : Counts} → outcome.Done x ≡ checking E N plan → judged ≡ fault
+          pub fault-judged : {x : Counts} → Ok x ≡ checking E N plan → judged ≡ fault
           fault-judged e = ap (λ (o : Outcome). after_plan o judged) e ∙ in-plan
 
   -- what is known where nothing is
-  module _ (bounds : Bounded E) (e : fault ≡ Done) where
+  module _ (bounds : Bounded E) (e : fault ≡ done) where
     abbrev Fits : Type 0
     Fits = Fit E N asked plan first wished room
 
     module _ (ports : ports_fine E.ports N ≡ true) (a : length asked ≡ N * N) (w : length wished ≡ N * N) (c : room ≡ N * N) where
-      fit-lines : (x : Counts) → outcome.Done x ≡ checking E N plan → first ≤ whole E.width plan
+      fit-lines : (x : Counts) → Ok x ≡ checking E N plan → first ≤ whole E.width plan
           → (y z : Carried) → y ≡ lines_of about.Demand N asked → z ≡ lines_of about.Wished N wished → Fits
-      fit-lines x p l Done Done y z = record {
+      fit-lines x p l (Ok u) (Ok v) y z = record {
         few = (checked E N plan bounds x p).few;
         asked-size = a;
         wished-size = w;
@@ -124,14 +123,14 @@ module _ (E : Edition) (N : ℕ) (asked plan : List ℕ) (first : ℕ) (wished :
         asked-fine = sym y;
         wished-fine = sym z;
       }
-      fit-lines x p l Done (Refused b r) y z =
+      fit-lines x p l (Ok u) (Err b) y z =
           never (z ∙ asked-done N asked (whole E.width plan) first wished l y ∙ fault-judged ports a w c p ∙ e)
-      fit-lines x p l (Refused b r) q y z =
-          never (asked-refused N asked (whole E.width plan) first wished l b r y ∙ fault-judged ports a w c p ∙ e)
+      fit-lines x p l (Err b) q y z =
+          never (asked-refused N asked (whole E.width plan) first wished l b y ∙ fault-judged ports a w c p ∙ e)
 
       fit-plan : (o : Outcome) → o ≡ checking E N plan → Fits
-      fit-plan (outcome.Refused r) p = never (fault-plan ports a w c p ∙ e)
-      fit-plan (outcome.Done x) p =
+      fit-plan (Err r) p = never (fault-plan ports a w c p ∙ e)
+      fit-plan (Ok x) p =
           dite (dec_lt (whole E.width plan) first)
           (λ l. never (first-over N asked (whole E.width plan) first wished l ∙ fault-judged ports a w c p ∙ e))
           (λ g. fit-lines x p (omega (arith, g)) (lines_of about.Demand N asked) (lines_of about.Wished N wished) refl refl)
@@ -149,7 +148,7 @@ module _ (E : Edition) (N : ℕ) (asked plan : List ℕ) (first : ℕ) (wished :
     fit = fit-ports (ports_fine E.ports N) refl
 
 -- the records that were run are well formed where the plan is
-pub first-formed : (E : Edition) (N : ℕ) (plan : List ℕ) → Bounded E → (x : Counts) → outcome.Done x ≡ checking E N plan → (m : ℕ) → m ≤ whole E.width plan
+pub first-formed : (E : Edition) (N : ℕ) (plan : List ℕ) → Bounded E → (x : Counts) → Ok x ≡ checking E N plan → (m : ℕ) → m ≤ whole E.width plan
     → malformed E.width E.byte N plan m 0 ≡ m
 first-formed E N plan bounds x p m l =
     omega (arith, malformed-none E.width E.byte N plan m 0 (λ j a b. (checked E N plan bounds x p).formed j (omega arith)))
@@ -159,11 +158,11 @@ module _ (E : Edition) (N : ℕ) (asked plan : List ℕ) (first : ℕ) (wished c
   abbrev sum : Carried
   sum = lines_of about.Sum N (new_cells E N asked plan first wished)
 
-  pub carry-fault : {a : About} {r : Refusal} → Refused a r ≡ fault_of E N asked plan first wished (length cells)
-      → Refused a r ≡ carry_over E N asked plan first wished cells
+  pub carry-fault : {b : Blamed} → ◌≡◌ {A = Carried} (Err b) (fault_of E N asked plan first wished (length cells))
+      → ◌≡◌ {A = Carried} (Err b) (carry_over E N asked plan first wished cells)
   unfolding carry_over
   carry-fault e = ap (λ (x : Carried). and_then x sum) e
 
-  pub carry-sum : Done ≡ fault_of E N asked plan first wished (length cells) → sum ≡ carry_over E N asked plan first wished cells
+  pub carry-sum : done ≡ fault_of E N asked plan first wished (length cells) → sum ≡ carry_over E N asked plan first wished cells
   unfolding carry_over
   carry-sum e = ap (λ (x : Carried). and_then x sum) e

@@ -5,7 +5,7 @@ use mathlib.Core.Logic.{dite}
 use Prim.Native.Nat.{ℕ, zero, suc, ◌+◌, ◌*◌, ◌-◌, ◌/◌, ◌%◌, ◌<◌, ◌≤◌}
 use native.Mathlib.Omega.{arith}
 use native.Mathlib.Decide.{ℕ_discrete}
-use lib.ListN.{length, get_or, take, drop, set, length-set}
+use lib.ListN.{length, get_or, take, set, length-set}
 use lib.Seq.{ext_get_or, get_or-take, length-take-le, get_or-set_same, get_or-set_other}
 use lib.Arith.{digits_div, digits_mod, digits_lt}
 use Rattle.counting.specs.Matrix.{row}
@@ -92,14 +92,14 @@ module _ (N : ℕ) (asked wished : List ℕ) (p : List Record) where
   pair-at before k e = omega (arith, e, cell-index N before k, cell-index N asked k, cell-index N wished k)
 
   -- the grants that gave way to it
-  pub renewed-all : (before after : List ℕ) → length asked ≡ N * N → Grants N p before → Renewed asked wished before after
-      → take (N * N - 0) (drop 0 after) ≡ new_demand N asked wished p
+  pub renewed-all : (before after : List ℕ) → length asked ≡ N * N → Grants N p before → Renewed asked wished (take (N * N) before) after
+      → after ≡ new_demand N asked wished p
   renewed-all before after size g r =
-      let room : N * N ≤ length after = omega (arith, g.room, r.size) in
-      ap (λ (m : ℕ). take m after) (let e : N * N - 0 ≡ N * N = omega arith in e)
-      ∙ ext_get_or 0 (take (N * N) after) (new_demand N asked wished p) (length-take-le (N * N) after room ∙ sym new-size)
-      (λ k l. let in_all : k < N * N = omega (arith, length-take-le (N * N) after room) in let q = place_in N k in_all in
-      get_or-take (N * N) after k 0 in_all ∙ r.is k (omega (arith, size)) ∙ pair-at before k (g.is (k / N) (k % N) q.0 q.1) ∙ sym (new-at k in_all))
+      let all : length after ≡ N * N = r.size ∙ length-take-le (N * N) before g.room in
+      ext_get_or 0 after (new_demand N asked wished p) (all ∙ sym new-size)
+      (λ k l. let in_all : k < N * N = omega (arith, all) in let q = place_in N k in_all in
+      r.is k (omega (arith, size)) ∙ ap (λ (x : ℕ). (get_or asked k 0 - x) + get_or wished k 0) (get_or-take (N * N) before k 0 in_all)
+      ∙ pair-at before k (g.is (k / N) (k % N) q.0 q.1) ∙ sym (new-at k in_all))
 
 -- with the plan carried to its end, and covering, the new demand is the new wishes
 pub carried-to-the-end : (N W : ℕ) (asked wished plan : List ℕ) → length wished ≡ N * N → Covers N (cell N asked) (plan_of W plan)

@@ -6,24 +6,16 @@
 ghost use Rattle.std.specs.Prelude.{◌≡◌, ◌*◌, length};
 ghost use Rattle.switch.specs.Editions.{first_edition, Bounded};
 ghost use Rattle.demand.specs.Lines.{Sized};
-ghost use Rattle.switch.specs.Demand.{Blank};
 ghost use Rattle.carry.specs.Rest.{Renewing, Renewed};
 ghost use Rattle.carry.specs.Carry.{lines_of, after_records, fault_of, cells_after, Carries};
 
-use demand::Checked;
-use numbers::{copy, word_less};
-use switch::{About, Edition, Outcome, Refusal};
+use switch::{About, Blamed, Edition, Refusal};
 
 // The pairs of a switch of 64 ports.
 const PAIRS: usize = 4096;
 
 // What a carry-over answers: nothing is counted.
-#[derive(Clone, Copy)]
-pub enum Carried {
-    Done,
-    // Why it is refused, and what that is about.
-    Refused(About, Refusal),
-}
+pub type Carried = Result<(), Blamed>;
 
 // Writes the new demand: in each cell what was asked and not granted by the plan's first `first` records, plus the new wish.
 // Codes 1, 2, those of the whole plan, 15, and then 3, which the demand, the new wishes and their sum are tried for in this order.
@@ -37,8 +29,7 @@ pub fn carry_over(
 ) -> Carried
     ensures { Carries first_edition n asked.now plan.now first wished.now cells.old result cells.new }
 {
-    let mut granted = [0u32; PAIRS];
-    carry_for(
+    carry_for::<PAIRS>(
         n,
         asked,
         plan,
@@ -46,12 +37,11 @@ pub fn carry_over(
         wished,
         cells,
         switch::first_edition(),
-        &mut granted,
     )
 }
 
-// The same for an edition. The grants are lent, a number for each pair of its largest switch, all 0.
-pub fn carry_for(
+// The same for an edition, with a grant for each pair of its largest switch.
+pub fn carry_for<const GRANTS: usize>(
     n: usize,
     asked: &[u32],
     plan: &[u8],
@@ -59,19 +49,17 @@ pub fn carry_for(
     wished: &[u32],
     cells: &mut [u32],
     e: Edition,
-    granted: &mut [u32],
 ) -> Carried
-    requires { Bounded e × Blank (e.ports * e.ports) granted.old }
+    requires { Bounded e × (e.ports * e.ports ≡ GRANTS) }
     ensures { Carries e n asked.now plan.now first wished.now cells.old result cells.new }
 {
-    let fault = fault_of(n, asked, plan, first, wished, cells.len(), e);
-    let Carried::Done = fault else {
-        return fault;
-    };
-    grants::grant_plan(n, plan, e, first, granted);
-    renew(asked, wished, granted);
-    let square = n * n;
-    write_sum(n, &granted[0..square], cells)
+    fault_of(n, asked, plan, first, wished, cells.len(), e)?;
+    let mut granted = [0u32; GRANTS];
+    // The whole plan was judged, so that this pass is not refused.
+    let _ = grants::grant_plan(n, plan, e, first, &mut granted);
+    let sum = &mut granted[..n * n];
+    renew(asked, wished, sum);
+    write_sum(n, sum, cells)
 }
 
 // What is refused before the sum is known; done where nothing is.
@@ -88,25 +76,23 @@ fn fault_of(
     ensures { result ≡ fault_of e n asked.now plan.now first wished.now room }
 {
     if n == 0 {
-        return Carried::Refused(About::Nothing, Refusal::Ports);
+        return Err(Refusal::Ports.about(About::Nothing));
     }
     if e.ports < n {
-        return Carried::Refused(About::Nothing, Refusal::Ports);
+        return Err(Refusal::Ports.about(About::Nothing));
     }
     let square = n * n;
     if asked.len() != square {
-        return Carried::Refused(About::Nothing, Refusal::Cells(square));
+        return Err(Refusal::Cells(square).about(About::Nothing));
     }
     if wished.len() != square {
-        return Carried::Refused(About::Nothing, Refusal::Cells(square));
+        return Err(Refusal::Cells(square).about(About::Nothing));
     }
     if room != square {
-        return Carried::Refused(About::Nothing, Refusal::Cells(square));
+        return Err(Refusal::Cells(square).about(About::Nothing));
     }
-    match plans::check_plan(n, plan, e) {
-        Outcome::Refused(r) => Carried::Refused(About::Plan, r),
-        Outcome::Done(counts) => fault_after(n, asked, counts.records, first, wished),
-    }
+    let counts = plans::check_plan(n, plan, e).map_err(|r| r.about(About::Plan))?;
+    fault_after(n, asked, counts.records, first, wished)
 }
 
 // Where the whole plan is judged.
@@ -115,12 +101,9 @@ fn fault_after(n: usize, asked: &[u32], records: usize, first: usize, wished: &[
     ensures { result ≡ after_records n asked.now records first wished.now }
 {
     if records < first {
-        return Carried::Refused(About::Nothing, Refusal::FirstOver(records));
+        return Err(Refusal::FirstOver(records).about(About::Nothing));
     }
-    let demanded = lines_of(n, asked, About::Demand);
-    let Carried::Done = demanded else {
-        return demanded;
-    };
+    lines_of(n, asked, About::Demand)?;
     lines_of(n, wished, About::Wished)
 }
 
@@ -129,20 +112,17 @@ fn lines_of(n: usize, cells: &[u32], about: About) -> Carried
     requires { Sized n cells.now }
     ensures { result ≡ lines_of about n cells.now }
 {
-    match demand::check_lines(n, cells) {
-        Checked::Faulty(r) => Carried::Refused(about, r),
-        Checked::Fine(_) => Carried::Done,
-    }
+    demand::check_lines(n, cells).map_err(|r| r.about(about))?;
+    Ok(())
 }
 
 // Each grant gives way to its cell of the new demand.
 fn renew(asked: &[u32], wished: &[u32], granted: &mut [u32])
-    requires { Renewing asked.now wished.now granted.old }
+    requires { Renewing asked.now wished.now granted.old × (length granted.old ≡ length asked.now) }
     ensures { Renewed asked.now wished.now granted.old granted.new }
 {
-    for k in 0..asked.len() {
-        let left = word_less(asked[k], granted[k]);
-        granted[k] = left + wished[k];
+    for (k, cell) in granted.iter_mut().enumerate() {
+        *cell = asked[k].saturating_sub(*cell) + wished[k];
     }
 }
 
@@ -151,10 +131,7 @@ fn write_sum(n: usize, sum: &[u32], cells: &mut [u32]) -> Carried
     requires { Sized n sum.now × (length sum.now ≡ length cells.old) }
     ensures { (result ≡ lines_of About.Sum n sum.now) × (cells.new ≡ cells_after result sum.now cells.old) }
 {
-    let summed = lines_of(n, sum, About::Sum);
-    let Carried::Done = summed else {
-        return summed;
-    };
-    copy(sum, cells);
-    summed
+    lines_of(n, sum, About::Sum)?;
+    cells.copy_from_slice(sum);
+    Ok(())
 }

@@ -1,4 +1,5 @@
 -- A plan covers a demand just where the scan for a cell that is granted less than asked finds none.
+use Rattle.std.specs.Prelude.{Err, Ok}
 use mathlib.Core.Path.{◌≡◌, refl, ap}
 use mathlib.Core.List.{List}
 use mathlib.Core.Bool.{Bool, true, false, cond}
@@ -12,8 +13,7 @@ use borrow.Author.Tests.{lt-ltb, le-ltb}
 use Rattle.counting.specs.Matrix.{row}
 use Rattle.counting.proofs.Sum.{sum-cong}
 use Rattle.counting.proofs.Matrix.{row-cong}
-use Rattle.switch.specs.declared.Outcome.{Outcome}
-use Rattle.switch.specs.declared.Outcome.TheVariants.{Done, Refused}
+use Rattle.switch.specs.Outcome.{Outcome}
 use Rattle.switch.specs.declared.Refusal.TheVariants.{Uncovered}
 use Rattle.switch.specs.Answer.{demand_counts}
 use Rattle.switch.specs.Demand.{cell}
@@ -22,8 +22,7 @@ use Rattle.switch.specs.Empty.{beyond, empty_slots}
 use Rattle.switch.proofs.Demand.{place_in}
 use Rattle.demand.specs.Lines.{over}
 use Rattle.demand.proofs.Lines.{over_first}
-use Rattle.checker.specs.declared.Meeting.{Meeting}
-use Rattle.checker.specs.declared.Meeting.TheVariants.{Misses, Meets}
+use Rattle.std.specs.declared.result.Result.{Result}
 use Rattle.checker.specs.Check.{missing, uncovered, Short, meeting, covering}
 
 -- ---- the scan
@@ -52,17 +51,17 @@ uncovered-cong N M G H e =
 -- ---- how grants meet a demand
 
 module _ (N : ℕ) (M G : ℕ → ℕ → ℕ) where
-  pub meeting-misses : (k : ℕ) → uncovered N M G ≡ k → k < N * N → Misses k ≡ meeting N M G
+  pub meeting-misses : (k : ℕ) → uncovered N M G ≡ k → k < N * N → Err k ≡ meeting N M G
   unfolding meeting
   meeting-misses k e l = rw (e, lt-ltb _ _ l)
 
-  pub meeting-meets : N * N ≤ uncovered N M G → (x : ℕ) → x ≡ beyond N M G → Meets x ≡ meeting N M G
+  pub meeting-meets : N * N ≤ uncovered N M G → (x : ℕ) → x ≡ beyond N M G → Ok x ≡ meeting N M G
   unfolding meeting
   meeting-meets l x e = rw (e, le-ltb _ _ l)
 
 pub meeting-cong : (N : ℕ) (M G H : ℕ → ℕ → ℕ) → ((i j : ℕ) → i < N → j < N → G i j ≡ H i j) → meeting N M G ≡ meeting N M H
 unfolding meeting
-meeting-cong N M G H e = λ i. cond (ltb (uncovered-cong N M G H e i) (N * N)) (Misses (uncovered-cong N M G H e i)) (Meets (more i))
+meeting-cong N M G H e = λ i. cond (ltb (uncovered-cong N M G H e i) (N * N)) (Err (uncovered-cong N M G H e i)) (Ok (more i))
   where
     more : beyond N M G ≡ beyond N M H
     more = unfold beyond in
@@ -115,24 +114,24 @@ module _ (N : ℕ) (M G : ℕ → ℕ → ℕ) where
 -- ---- code 13 or none
 
 -- the answer for a plan of r records and total t
-abbrev pub answers : ℕ → ℕ → ℕ → Meeting → Outcome
-answers r T t (Misses k) = Refused (Uncovered k)
-answers r T t (Meets x) = Done (demand_counts r T t x)
+abbrev pub answers : ℕ → ℕ → ℕ → (Result ℕ ℕ) → Outcome
+answers r T t (Err k) = Err (Uncovered k)
+answers r T t (Ok x) = Ok (demand_counts r T t x)
 
 pub covering-meeting : (T N : ℕ) (d : List ℕ) (p : List Record) → answers (length p) T (total p) (meeting N (cell N d) (grant p)) ≡ covering T N d p
 unfolding covering meeting empty_slots
 covering-meeting T N d p = by (ltb (uncovered N (cell N d) (grant p)) (N * N))
   where
-    by : (b : Bool) → answers (length p) T (total p) (cond b (Misses (uncovered N (cell N d) (grant p))) (Meets (beyond N (cell N d) (grant p))))
-        ≡ cond b (Refused (Uncovered (uncovered N (cell N d) (grant p)))) (Done (demand_counts (length p) T (total p) (beyond N (cell N d) (grant p))))
+    by : (b : Bool) → answers (length p) T (total p) (cond b (Err (uncovered N (cell N d) (grant p))) (Ok (beyond N (cell N d) (grant p))))
+        ≡ cond b (Err (Uncovered (uncovered N (cell N d) (grant p)))) (Ok (demand_counts (length p) T (total p) (beyond N (cell N d) (grant p))))
     by true = refl
     by false = refl
 
 module _ (T N : ℕ) (d : List ℕ) (p : List Record) (k : ℕ) (is : k ≡ uncovered N (cell N d) (grant p)) where
-  pub covering-short : k < N * N → Refused (Uncovered k) ≡ covering T N d p
+  pub covering-short : k < N * N → Err (Uncovered k) ≡ covering T N d p
   unfolding covering
   covering-short l = rw (← is, lt-ltb _ _ l)
 
-  pub covering-done : N * N ≤ k → Done (demand_counts (length p) T (total p) (empty_slots N (cell N d) p)) ≡ covering T N d p
+  pub covering-done : N * N ≤ k → Ok (demand_counts (length p) T (total p) (empty_slots N (cell N d) p)) ≡ covering T N d p
   unfolding covering
   covering-done l = rw (← is, le-ltb _ _ l)

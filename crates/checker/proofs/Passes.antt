@@ -1,4 +1,5 @@
 -- A plan that passes covers, and one that is refused with 13 does not: no refusal before 13 looks at a grant, and 13 is the last.
+use Rattle.std.specs.Prelude.{Err, Ok}
 use mathlib.Core.Path.{◌≡◌, refl, sym, ap, ◌∙◌, subst}
 use mathlib.Core.Bool.{Bool, true, false, cond}
 use mathlib.Core.List.{List}
@@ -8,8 +9,7 @@ use native.Mathlib.Omega.{arith}
 use lib.ListN.{length}
 use lib.Dec.{ltb, leb, eqb}
 use Rattle.switch.specs.declared.Counts.{Counts}
-use Rattle.switch.specs.declared.Outcome.{Outcome}
-use Rattle.switch.specs.declared.Outcome.TheVariants.{Done, Refused}
+use Rattle.switch.specs.Outcome.{Outcome}
 use Rattle.switch.specs.declared.Refusal.{Refusal}
 use Rattle.switch.specs.declared.Refusal.TheVariants.{Ports, Cells, Line, Torn, Records, Malformed, Uncovered}
 use Rattle.switch.specs.Answer.{refusal_code, plan_counts, demand_counts}
@@ -18,8 +18,7 @@ use Rattle.switch.specs.Demand.{cell, longest}
 use Rattle.switch.specs.Plan.{Record, Plan, grant, total, Covers}
 use Rattle.switch.specs.Empty.{empty_slots}
 use Rattle.switch.specs.Result.{by_outcome}
-use Rattle.demand.specs.declared.Checked.{Checked}
-use Rattle.demand.specs.declared.Checked.TheVariants.{Fine, Faulty}
+use Rattle.demand.specs.Checked.{Checked}
 use Rattle.demand.specs.Lines.{line_over}
 use Rattle.demand.specs.Check.{check_demand, Asked}
 use Rattle.demand.proofs.Check.{fine-asked}
@@ -41,18 +40,18 @@ use Rattle.checker.proofs.Check.{check-faulty, check-fine}
 -- ---- which answers come before 13
 
 abbrev EarlyFault : Checked → Type 0
-EarlyFault (Fine T) = Unit {0}
-EarlyFault (Faulty r) = refusal_code r < 13
+EarlyFault (Ok T) = Unit {0}
+EarlyFault (Err r) = refusal_code r < 13
 
 abbrev Early : Outcome → Type 0
-Early (Done c) = Unit {0}
-Early (Refused r) = refusal_code r < 13
+Early (Ok c) = Unit {0}
+Early (Err r) = refusal_code r < 13
 
 demand-early : (m N : ℕ) (d : List ℕ) → EarlyFault (check_demand m N d)
 unfolding check_demand
 demand-early m N d = by (ports_fine m N) (eqb (length d) (N * N)) (leb (longest N (cell N d)) 65535)
   where
-    by : (p s l : Bool) → EarlyFault (cond p (cond s (cond l (Fine (longest N (cell N d))) (Faulty (Line (line_over N d)))) (Faulty (Cells (N * N)))) (Faulty Ports))
+    by : (p s l : Bool) → EarlyFault (cond p (cond s (cond l (Ok (longest N (cell N d))) (Err (Line (line_over N d)))) (Err (Cells (N * N)))) (Err Ports))
     by true true true = tt
     by true true false = omega arith
     by true false l = omega arith
@@ -64,7 +63,7 @@ module _ (E : Edition) (N : ℕ) (plan : List ℕ) where
   opening-early = by (ports_fine E.ports N) (eqb (length plan % (E.width + 4)) 0) (leb (whole E.width plan) E.records)
     where
       by : (p s l : Bool)
-          → Early (cond p (cond s (cond l (Done (plan_counts (whole E.width plan) 0 0)) (Refused (Records E.records))) (Refused (Torn (whole E.width plan)))) (Refused Ports))
+          → Early (cond p (cond s (cond l (Ok (plan_counts (whole E.width plan) 0 0)) (Err (Records E.records))) (Err (Torn (whole E.width plan)))) (Err Ports))
       by true true true = tt
       by true true false = omega arith
       by true false l = omega arith
@@ -74,47 +73,47 @@ module _ (E : Edition) (N : ℕ) (plan : List ℕ) where
   unfolding checking
   checking-early = by (opening E N plan) opening-early
     where
-      in-records : (k : ℕ) (c : Counts) (b : Bool) → Early (cond b (Refused (Malformed k)) (Done c))
+      in-records : (k : ℕ) (c : Counts) (b : Bool) → Early (cond b (Err (Malformed k)) (Ok c))
       in-records k c true = omega arith
       in-records k c false = tt
 
-      by : (o : Outcome) → Early o → Early (by_outcome o Refused (λ c. checking_in c.records E N plan))
-      by (Done c) e =
+      by : (o : Outcome) → Early o → Early (by_outcome o Err (λ c. checking_in c.records E N plan))
+      by (Ok c) e =
           let m = c.records in
           let k = malformed E.width E.byte N plan m 0 in
           unfold checking_in in in-records k (plan_counts m 0 (total (plan_from E.width plan 0 m))) (ltb k m)
-      by (Refused r) e = e
+      by (Err r) e = e
 
 -- ---- which answers come last
 
 abbrev pub Last : Outcome → Type 0
-Last (Done c) = Unit {0}
-Last (Refused r) = refusal_code r ≡ 13
+Last (Ok c) = Unit {0}
+Last (Err r) = refusal_code r ≡ 13
 
 -- a demand and a plan that are refused by nothing before 13
 pub record Reached (E : Edition) (N : ℕ) (d bytes : List ℕ) (o : Outcome) : Type 0 where
   pub longest : ℕ
   pub counts : Counts
-  pub demand : Fine longest ≡ check_demand E.ports N d
-  pub plan : Done counts ≡ checking E N bytes
+  pub demand : Ok longest ≡ check_demand E.ports N d
+  pub plan : Ok counts ≡ checking E N bytes
   pub answer : o ≡ covering longest N d (plan_of E.width bytes)
 
 module _ (E : Edition) (N : ℕ) (d plan : List ℕ) where
   pub reached : (o : Outcome) → Last o → o ≡ check_plan E N d plan → Reached E N d plan o
   reached o last e = by-demand (check_demand E.ports N d) refl
     where
-      never : (r : Refusal) → refusal_code r < 13 → Refused r ≡ check_plan E N d plan → Reached E N d plan o
+      never : (r : Refusal) → refusal_code r < 13 → Err r ≡ check_plan E N d plan → Reached E N d plan o
       never r early q = let z : refusal_code r ≡ 13 = subst Last (e ∙ sym q) last in absurd (omega arith)
 
-      by-plan : (T : ℕ) → Fine T ≡ check_demand E.ports N d → (x : Outcome) → x ≡ checking E N plan → Reached E N d plan o
-      by-plan T f (Done c) q =
+      by-plan : (T : ℕ) → Ok T ≡ check_demand E.ports N d → (x : Outcome) → x ≡ checking E N plan → Reached E N d plan o
+      by-plan T f (Ok c) q =
           record { longest = T; counts = c; demand = f; plan = q; answer = e ∙ sym (check-fine E N d plan f) ∙ sym (after-checking E N plan (covering T N d) q) }
-      by-plan T f (Refused r) q =
+      by-plan T f (Err r) q =
           never r (subst Early (sym q) (checking-early E N plan)) (after-checking E N plan (covering T N d) q ∙ check-fine E N d plan f)
 
       by-demand : (x : Checked) → x ≡ check_demand E.ports N d → Reached E N d plan o
-      by-demand (Fine T) q = by-plan T q (checking E N plan) refl
-      by-demand (Faulty r) q = never r (subst EarlyFault (sym q) (demand-early E.ports N d)) (check-faulty E N d plan q)
+      by-demand (Ok T) q = by-plan T q (checking E N plan) refl
+      by-demand (Err r) q = never r (subst EarlyFault (sym q) (demand-early E.ports N d)) (check-faulty E N d plan q)
 
 -- ---- a plan that passes
 
@@ -126,7 +125,7 @@ pub record Passes (E : Edition) (N : ℕ) (d bytes : List ℕ) (c : Counts) : Ty
   pub covers : Covers N (cell N d) (plan_of E.width bytes)
   pub counts : c ≡ demand_counts (whole E.width bytes) (longest N (cell N d)) (total (plan_of E.width bytes)) (empty_slots N (cell N d) (plan_of E.width bytes))
 
-done-not-refused : {c : Counts} {r : Refusal} {A : Type 0} → Done c ≡ Refused r → A
+done-not-refused : {c : Counts} {r : Refusal} {A : Type 0} → Ok c ≡ Err r → A
 done-not-refused e = let z : ◌≡◌ {A = ℕ} 0 1 = cc in absurd (let f : ⊥ = omega arith in f)
 
 module _ (E : Edition) (N : ℕ) (d plan : List ℕ) where
@@ -136,11 +135,11 @@ module _ (E : Edition) (N : ℕ) (d plan : List ℕ) where
   abbrev place : ℕ
   place = uncovered N (cell N d) (grant records)
 
-  pub passes : Bounded E → (c : Counts) → Done c ≡ check_plan E N d plan → Passes E N d plan c
+  pub passes : Bounded E → (c : Counts) → Ok c ≡ check_plan E N d plan → Passes E N d plan c
   passes bounds c e = by (dec_lt place (N * N))
     where
-      R : Reached E N d plan (Done c)
-      R = reached E N d plan (Done c) tt e
+      R : Reached E N d plan (Ok c)
+      R = reached E N d plan (Ok c) tt e
 
       a : Asked E.ports N R.longest d
       a = fine-asked E.ports N R.longest d (sym R.demand)
@@ -148,7 +147,7 @@ module _ (E : Edition) (N : ℕ) (d plan : List ℕ) where
       s : Each (Sound E.width N) records
       s = (checked E N plan bounds R.counts R.plan).sound
 
-      same : {x y : Counts} → Done x ≡ Done y → x ≡ y
+      same : {x y : Counts} → ◌≡◌ {A = Outcome} (Ok x) (Ok y) → x ≡ y
       same q = cc
 
       by : Dec (place < N * N) → Passes E N d plan c
@@ -166,13 +165,13 @@ module _ (E : Edition) (N : ℕ) (d plan : List ℕ) where
   -- ---- a plan that is refused with 13
 
   -- the place is the first cell, in cell order, that is granted less than asked
-  pub refused-short : (k : ℕ) → Refused (Uncovered k) ≡ check_plan E N d plan → Short N (cell N d) (grant records) k
+  pub refused-short : (k : ℕ) → Err (Uncovered k) ≡ check_plan E N d plan → Short N (cell N d) (grant records) k
   refused-short k e = by (dec_lt place (N * N))
     where
-      R : Reached E N d plan (Refused (Uncovered k))
-      R = reached E N d plan (Refused (Uncovered k)) refl e
+      R : Reached E N d plan (Err (Uncovered k))
+      R = reached E N d plan (Err (Uncovered k)) refl e
 
-      same : {x y : ℕ} → Refused (Uncovered x) ≡ Refused (Uncovered y) → x ≡ y
+      same : {x y : ℕ} → ◌≡◌ {A = Outcome} (Err (Uncovered x)) (Err (Uncovered y)) → x ≡ y
       same q = cc
 
       by : Dec (place < N * N) → Short N (cell N d) (grant records) k
@@ -181,7 +180,7 @@ module _ (E : Edition) (N : ℕ) (d plan : List ℕ) where
       by (no l) = done-not-refused (covering-done R.longest N d records place refl (omega (arith, l)) ∙ sym R.answer)
 
   -- so it does not cover
-  pub refused-not-covers : (k : ℕ) → Refused (Uncovered k) ≡ check_plan E N d plan → Covers N (cell N d) records → ⊥
+  pub refused-not-covers : (k : ℕ) → Err (Uncovered k) ≡ check_plan E N d plan → Covers N (cell N d) records → ⊥
   refused-not-covers k e h =
       let s = refused-short k e in
       let q = place_in N k s.inside in
@@ -189,8 +188,8 @@ module _ (E : Edition) (N : ℕ) (d plan : List ℕ) where
 
 -- ---- every sound plan that covers its demand passes, with its own records, T, total and empty slots
 
-pub sound-passes : (E : Edition) → Bounded E → (N T : ℕ) (d : List ℕ) → Fine T ≡ check_demand E.ports N d → {p : List Record}
-    → length p ≤ E.records → Each (Sound E.width N) p → Covers N (cell N d) p → check_plan E N d (bytes E.byte N p) ≡ Done (demand_counts (length p) T (total p) (empty_slots N (cell N d) p))
+pub sound-passes : (E : Edition) → Bounded E → (N T : ℕ) (d : List ℕ) → Ok T ≡ check_demand E.ports N d → {p : List Record}
+    → length p ≤ E.records → Each (Sound E.width N) p → Covers N (cell N d) p → check_plan E N d (bytes E.byte N p) ≡ Ok (demand_counts (length p) T (total p) (empty_slots N (cell N d) p))
 sound-passes E bounds N T d f {p} most s h =
     let a = fine-asked E.ports N T d (sym f) in
     sym (check-fine E N d (bytes E.byte N p) f)

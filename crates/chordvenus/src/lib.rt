@@ -53,7 +53,7 @@ pub extern "C" fn cv_interface_1() -> u64
 pub extern "C" fn cv_wish(bits: u32) -> CvAnswer
     ensures { result ≡ flat_wish (wish_bits bits) }
 {
-    answers::flatten_wish(wish::of_bits(bits))
+    CvAnswer::from(wish::of_bits(bits))
 }
 
 // A wish list to a demand.
@@ -61,7 +61,7 @@ pub extern "C" fn cv_wish(bits: u32) -> CvAnswer
 pub extern "C" fn cv_wishes(n: usize, list: &[u8], cells: &mut [u32]) -> CvAnswer
     ensures { Crosses (wishing first_edition n list.now cells.old) result cells.new }
 {
-    answers::flatten(wishes::wishes(n, list, cells))
+    CvAnswer::from(wishes::wishes(n, list, cells))
 }
 
 // The exact plan.
@@ -69,7 +69,7 @@ pub extern "C" fn cv_wishes(n: usize, list: &[u8], cells: &mut [u32]) -> CvAnswe
 pub extern "C" fn cv_exact(n: usize, cells: &[u32], plan: &mut [u8]) -> CvAnswer
     ensures { Crosses (planned first_edition n cells.now (exact_plan 64 n cells.now) plan.old) result plan.new }
 {
-    answers::flatten(exact::exact_plan(n, cells, plan))
+    CvAnswer::from(exact::exact_plan(n, cells, plan))
 }
 
 // The doubled plan.
@@ -77,7 +77,7 @@ pub extern "C" fn cv_exact(n: usize, cells: &[u32], plan: &mut [u8]) -> CvAnswer
 pub extern "C" fn cv_doubled(n: usize, cells: &[u32], plan: &mut [u8]) -> CvAnswer
     ensures { Crosses (planned first_edition n cells.now (doubled_plan 64 n cells.now) plan.old) result plan.new }
 {
-    answers::flatten(doubled::doubled_plan(n, cells, plan))
+    CvAnswer::from(doubled::doubled_plan(n, cells, plan))
 }
 
 // The doubled plan by the rule of every rotation.
@@ -85,7 +85,7 @@ pub extern "C" fn cv_doubled(n: usize, cells: &[u32], plan: &mut [u8]) -> CvAnsw
 pub extern "C" fn cv_doubled_every_rotation(n: usize, cells: &[u32], plan: &mut [u8]) -> CvAnswer
     ensures { Crosses (planned first_edition n cells.now (every_rotation_plan 64 n cells.now) plan.old) result plan.new }
 {
-    answers::flatten(doubled::doubled_plan_every_rotation(n, cells, plan))
+    CvAnswer::from(doubled::doubled_plan_every_rotation(n, cells, plan))
 }
 
 // The quick cover.
@@ -93,7 +93,7 @@ pub extern "C" fn cv_doubled_every_rotation(n: usize, cells: &[u32], plan: &mut 
 pub extern "C" fn cv_quick(n: usize, cells: &[u32], plan: &mut [u8]) -> CvAnswer
     ensures { Crosses (planned_up_to 1024 first_edition n cells.now (quick_plan 64 n cells.now) plan.old) result plan.new }
 {
-    answers::flatten(quick::quick_plan(n, cells, plan))
+    CvAnswer::from(quick::quick_plan(n, cells, plan))
 }
 
 // The records that always suffice for the exact plan, from N and T alone.
@@ -101,7 +101,7 @@ pub extern "C" fn cv_quick(n: usize, cells: &[u32], plan: &mut [u8]) -> CvAnswer
 pub extern "C" fn cv_exact_room(n: usize, longest: u64) -> CvAnswer
     ensures { result ≡ flat (roomed first_edition Exact n longest) }
 {
-    answers::flatten(room::exact_room(n, longest))
+    CvAnswer::from(room::exact_room(n, longest))
 }
 
 // For the doubled plan, by either rule.
@@ -109,7 +109,7 @@ pub extern "C" fn cv_exact_room(n: usize, longest: u64) -> CvAnswer
 pub extern "C" fn cv_doubled_room(n: usize, longest: u64) -> CvAnswer
     ensures { result ≡ flat (roomed first_edition Doubled n longest) }
 {
-    answers::flatten(room::doubled_room(n, longest))
+    CvAnswer::from(room::doubled_room(n, longest))
 }
 
 // For the quick cover.
@@ -117,7 +117,7 @@ pub extern "C" fn cv_doubled_room(n: usize, longest: u64) -> CvAnswer
 pub extern "C" fn cv_quick_room(n: usize, longest: u64) -> CvAnswer
     ensures { result ≡ flat (roomed first_edition Quick n longest) }
 {
-    answers::flatten(room::quick_room(n, longest))
+    CvAnswer::from(room::quick_room(n, longest))
 }
 
 // The same for switches of up to 128 ports: the exact plan.
@@ -125,7 +125,7 @@ pub extern "C" fn cv_quick_room(n: usize, longest: u64) -> CvAnswer
 pub extern "C" fn cv2_exact_room(n: usize, longest: u64) -> CvAnswer
     ensures { result ≡ flat (roomed second_edition Exact n longest) }
 {
-    answers::flatten(room::exact_room_second(n, longest))
+    CvAnswer::from(room::exact_room_second(n, longest))
 }
 
 // The doubled plan.
@@ -133,7 +133,7 @@ pub extern "C" fn cv2_exact_room(n: usize, longest: u64) -> CvAnswer
 pub extern "C" fn cv2_doubled_room(n: usize, longest: u64) -> CvAnswer
     ensures { result ≡ flat (roomed second_edition Doubled n longest) }
 {
-    answers::flatten(room::doubled_room_second(n, longest))
+    CvAnswer::from(room::doubled_room_second(n, longest))
 }
 
 // The quick cover.
@@ -141,7 +141,7 @@ pub extern "C" fn cv2_doubled_room(n: usize, longest: u64) -> CvAnswer
 pub extern "C" fn cv2_quick_room(n: usize, longest: u64) -> CvAnswer
     ensures { result ≡ flat (roomed second_edition Quick n longest) }
 {
-    answers::flatten(room::quick_room_second(n, longest))
+    CvAnswer::from(room::quick_room_second(n, longest))
 }
 
 // The planners for switches of up to 128 ports: the exact plan.
@@ -149,7 +149,7 @@ pub extern "C" fn cv2_quick_room(n: usize, longest: u64) -> CvAnswer
 pub extern "C" fn cv2_exact(n: usize, cells: &[u32], plan: &mut [u8]) -> CvAnswer
     ensures { Crosses (planned second_edition n cells.now (exact_plan 128 n cells.now) plan.old) result plan.new }
 {
-    answers::flatten(exact::exact_plan_second(n, cells, plan))
+    CvAnswer::from(exact::exact_plan_second(n, cells, plan))
 }
 
 // The doubled plan.
@@ -157,7 +157,7 @@ pub extern "C" fn cv2_exact(n: usize, cells: &[u32], plan: &mut [u8]) -> CvAnswe
 pub extern "C" fn cv2_doubled(n: usize, cells: &[u32], plan: &mut [u8]) -> CvAnswer
     ensures { Crosses (planned second_edition n cells.now (doubled_plan 128 n cells.now) plan.old) result plan.new }
 {
-    answers::flatten(doubled::doubled_plan_second(n, cells, plan))
+    CvAnswer::from(doubled::doubled_plan_second(n, cells, plan))
 }
 
 // The doubled plan by the rule of every rotation.
@@ -165,7 +165,7 @@ pub extern "C" fn cv2_doubled(n: usize, cells: &[u32], plan: &mut [u8]) -> CvAns
 pub extern "C" fn cv2_doubled_every_rotation(n: usize, cells: &[u32], plan: &mut [u8]) -> CvAnswer
     ensures { Crosses (planned second_edition n cells.now (every_rotation_plan 128 n cells.now) plan.old) result plan.new }
 {
-    answers::flatten(doubled::doubled_plan_every_rotation_second(n, cells, plan))
+    CvAnswer::from(doubled::doubled_plan_every_rotation_second(n, cells, plan))
 }
 
 // The quick cover.
@@ -173,7 +173,7 @@ pub extern "C" fn cv2_doubled_every_rotation(n: usize, cells: &[u32], plan: &mut
 pub extern "C" fn cv2_quick(n: usize, cells: &[u32], plan: &mut [u8]) -> CvAnswer
     ensures { Crosses (planned_up_to 1024 second_edition n cells.now (quick_plan 128 n cells.now) plan.old) result plan.new }
 {
-    answers::flatten(quick::quick_plan_second(n, cells, plan))
+    CvAnswer::from(quick::quick_plan_second(n, cells, plan))
 }
 
 // The doubled plan for the grating fabric.
@@ -181,7 +181,7 @@ pub extern "C" fn cv2_quick(n: usize, cells: &[u32], plan: &mut [u8]) -> CvAnswe
 pub extern "C" fn cv_grating_doubled(n: usize, cells: &[u32], plan: &mut [u8]) -> CvAnswer
     ensures { Crosses (grating_planned first_edition n cells.now plan.old) result plan.new }
 {
-    answers::flatten(grating::grating_doubled(n, cells, plan))
+    CvAnswer::from(grating::grating_doubled(n, cells, plan))
 }
 
 // The quiet plan for the grating fabric: no wavelength on more inputs of a setting than the limit.
@@ -189,7 +189,7 @@ pub extern "C" fn cv_grating_doubled(n: usize, cells: &[u32], plan: &mut [u8]) -
 pub extern "C" fn cv_grating_quiet(n: usize, cells: &[u32], limit: u64, plan: &mut [u8]) -> CvAnswer
     ensures { Crosses (quiet_planned first_edition n cells.now limit plan.old) result plan.new }
 {
-    answers::flatten(quiet::quiet_plan(n, cells, limit, plan))
+    CvAnswer::from(quiet::quiet_plan(n, cells, limit, plan))
 }
 
 // The least total that a plan within the limit can have.
@@ -197,7 +197,7 @@ pub extern "C" fn cv_grating_quiet(n: usize, cells: &[u32], limit: u64, plan: &m
 pub extern "C" fn cv_grating_least(n: usize, cells: &[u32], limit: u64) -> CvAnswer
     ensures { result ≡ flat (least_of first_edition n cells.now limit) }
 {
-    answers::flatten(least::least_within(n, cells, limit))
+    CvAnswer::from(least::least_within(n, cells, limit))
 }
 
 // What the records of a plan do on the grating fabric.
@@ -205,7 +205,7 @@ pub extern "C" fn cv_grating_least(n: usize, cells: &[u32], limit: u64) -> CvAns
 pub extern "C" fn cv_grating_report(n: usize, plan: &[u8], report: &mut [u8]) -> CvAnswer
     ensures { Crosses (reported first_edition n plan.now report.old) result report.new }
 {
-    answers::flatten(wavelengths::grating_report(n, plan, report))
+    CvAnswer::from(wavelengths::grating_report(n, plan, report))
 }
 
 // A plan from anywhere against a demand.
@@ -213,7 +213,7 @@ pub extern "C" fn cv_grating_report(n: usize, plan: &[u8], report: &mut [u8]) ->
 pub extern "C" fn cv_check(n: usize, cells: &[u32], plan: &[u8]) -> CvAnswer
     ensures { result ≡ flat (check_plan first_edition n cells.now plan.now) }
 {
-    answers::flatten(checker::check_plan(n, cells, plan))
+    CvAnswer::from(checker::check_plan(n, cells, plan))
 }
 
 // The length of a plan where switching takes d slots.
@@ -221,7 +221,7 @@ pub extern "C" fn cv_check(n: usize, cells: &[u32], plan: &[u8]) -> CvAnswer
 pub extern "C" fn cv_length(n: usize, plan: &[u8], d: u16) -> CvAnswer
     ensures { result ≡ flat (plan_length first_edition d n plan.now) }
 {
-    answers::flatten(length::plan_length(n, plan, d))
+    CvAnswer::from(length::plan_length(n, plan, d))
 }
 
 // A plan with its equal settings joined, into a second buffer.
@@ -229,7 +229,7 @@ pub extern "C" fn cv_length(n: usize, plan: &[u8], d: u16) -> CvAnswer
 pub extern "C" fn cv_join(n: usize, plan: &[u8], joined: &mut [u8]) -> CvAnswer
     ensures { Crosses (joining first_edition n plan.now joined.old) result joined.new }
 {
-    answers::flatten(joining::join_plan(n, plan, joined))
+    CvAnswer::from(joining::join_plan(n, plan, joined))
 }
 
 // One record written at the start of a lent buffer.
@@ -237,7 +237,7 @@ pub extern "C" fn cv_join(n: usize, plan: &[u8], joined: &mut [u8]) -> CvAnswer
 pub extern "C" fn cv_write(hold: u16, n: usize, outputs: &[u8; 64], plan: &mut [u8]) -> CvAnswer
     ensures { Crosses (written first_edition hold n outputs.now plan.old) result plan.new }
 {
-    answers::flatten(records::write_record(hold, n, outputs, plan))
+    CvAnswer::from(records::write_record(hold, n, outputs, plan))
 }
 
 // A plan opened for n.
@@ -245,7 +245,7 @@ pub extern "C" fn cv_write(hold: u16, n: usize, outputs: &[u8; 64], plan: &mut [
 pub extern "C" fn cv_open(n: usize, plan: &[u8]) -> CvAnswer
     ensures { result ≡ flat (opening first_edition n plan.now) }
 {
-    answers::flatten(plans::open_plan(n, plan))
+    CvAnswer::from(plans::open_plan(n, plan))
 }
 
 // The step at record `at` of a plan opened for n.
@@ -253,15 +253,7 @@ pub extern "C" fn cv_open(n: usize, plan: &[u8]) -> CvAnswer
 pub extern "C" fn cv_step_at(n: usize, plan: &[u8], at: usize) -> CvStep
     ensures { result ≡ flat_step (step_at first_edition n plan.now at) }
 {
-    let stepped = plans::step_at(n, plan, at);
-    let outputs = stepped.outputs;
-    let step = stepped.step;
-    CvStep {
-        kind: answers::kind_of(step),
-        place: answers::place_of(step),
-        hold: stepped.hold as u64,
-        outputs,
-    }
+    CvStep::from(plans::step_at(n, plan, at))
 }
 
 // The record in force at a slot of two plans.
@@ -269,15 +261,7 @@ pub extern "C" fn cv_step_at(n: usize, plan: &[u8], at: usize) -> CvStep
 pub extern "C" fn cv_in_force(n: usize, tonight: &[u8], standby: &[u8], slot: u64) -> CvPart
     ensures { result ≡ flat_part (found_of first_edition (spot_of first_edition n tonight.now standby.now slot)) }
 {
-    let found = lookup::find(n, tonight, standby, slot);
-    let outcome = found.outcome;
-    let about = found.about;
-    CvPart {
-        answer: answers::flatten_about(outcome, about),
-        plan: found.plan,
-        start: found.start as u64,
-        size: found.size as u64,
-    }
+    CvPart::from(lookup::find(n, tonight, standby, slot))
 }
 
 // The new demand of a batch that was stopped after its first records.
@@ -292,7 +276,7 @@ pub extern "C" fn cv_carry_over(
 ) -> CvAnswer
     ensures { CarriesFlat first_edition n asked.now plan.now first wished.now cells.old result cells.new }
 {
-    answers::flatten_carried(carry::carry_over(n, asked, plan, first, wished, cells))
+    CvAnswer::from(carry::carry_over(n, asked, plan, first, wished, cells))
 }
 
 // The open-shop plan of a demand where switching takes d.
@@ -300,7 +284,7 @@ pub extern "C" fn cv_carry_over(
 pub extern "C" fn cv_shop(n: usize, cells: &[u32], d: u16, tasks: &mut [u8]) -> CvAnswer
     ensures { Crosses (shopped n d cells.now tasks.old) result tasks.new }
 {
-    answers::flatten(shop::shop_plan(n, cells, d, tasks))
+    CvAnswer::from(shop::shop_plan(n, cells, d, tasks))
 }
 
 // A schedule of tasks, read.
@@ -308,7 +292,7 @@ pub extern "C" fn cv_shop(n: usize, cells: &[u32], d: u16, tasks: &mut [u8]) -> 
 pub extern "C" fn cv_tasks(n: usize, tasks: &[u8]) -> CvAnswer
     ensures { result ≡ flat (reading n tasks.now) }
 {
-    answers::flatten(tasks::read_tasks(n, tasks))
+    CvAnswer::from(tasks::read_tasks(n, tasks))
 }
 
 // The second edition's calls, for switches of up to 128 ports: a wish list to a demand.
@@ -316,7 +300,7 @@ pub extern "C" fn cv_tasks(n: usize, tasks: &[u8]) -> CvAnswer
 pub extern "C" fn cv2_wishes(n: usize, list: &[u8], cells: &mut [u32]) -> CvAnswer
     ensures { Crosses (wishing second_edition n list.now cells.old) result cells.new }
 {
-    answers::flatten(wishes::wishes_second(n, list, cells))
+    CvAnswer::from(wishes::wishes_second(n, list, cells))
 }
 
 // A plan from anywhere against a demand.
@@ -324,7 +308,7 @@ pub extern "C" fn cv2_wishes(n: usize, list: &[u8], cells: &mut [u32]) -> CvAnsw
 pub extern "C" fn cv2_check(n: usize, cells: &[u32], plan: &[u8]) -> CvAnswer
     ensures { result ≡ flat (check_plan second_edition n cells.now plan.now) }
 {
-    answers::flatten(checker::check_plan_second(n, cells, plan))
+    CvAnswer::from(checker::check_plan_second(n, cells, plan))
 }
 
 // The length of a plan where switching takes d slots.
@@ -332,7 +316,7 @@ pub extern "C" fn cv2_check(n: usize, cells: &[u32], plan: &[u8]) -> CvAnswer
 pub extern "C" fn cv2_length(n: usize, plan: &[u8], d: u16) -> CvAnswer
     ensures { result ≡ flat (plan_length second_edition d n plan.now) }
 {
-    answers::flatten(length::plan_length_second(n, plan, d))
+    CvAnswer::from(length::plan_length_second(n, plan, d))
 }
 
 // A plan with its equal settings joined, into a second buffer.
@@ -340,7 +324,7 @@ pub extern "C" fn cv2_length(n: usize, plan: &[u8], d: u16) -> CvAnswer
 pub extern "C" fn cv2_join(n: usize, plan: &[u8], joined: &mut [u8]) -> CvAnswer
     ensures { Crosses (joining second_edition n plan.now joined.old) result joined.new }
 {
-    answers::flatten(joining::join_plan_second(n, plan, joined))
+    CvAnswer::from(joining::join_plan_second(n, plan, joined))
 }
 
 // One record written at the start of a lent buffer.
@@ -348,7 +332,7 @@ pub extern "C" fn cv2_join(n: usize, plan: &[u8], joined: &mut [u8]) -> CvAnswer
 pub extern "C" fn cv2_write(hold: u16, n: usize, outputs: &[u8; 128], plan: &mut [u8]) -> CvAnswer
     ensures { Crosses (written second_edition hold n outputs.now plan.old) result plan.new }
 {
-    answers::flatten(records::write_record_second(hold, n, outputs, plan))
+    CvAnswer::from(records::write_record_second(hold, n, outputs, plan))
 }
 
 // A plan opened for n.
@@ -356,7 +340,7 @@ pub extern "C" fn cv2_write(hold: u16, n: usize, outputs: &[u8; 128], plan: &mut
 pub extern "C" fn cv2_open(n: usize, plan: &[u8]) -> CvAnswer
     ensures { result ≡ flat (opening second_edition n plan.now) }
 {
-    answers::flatten(plans::open_second(n, plan))
+    CvAnswer::from(plans::open_second(n, plan))
 }
 
 // The step at record `at` of a plan opened for n.
@@ -364,15 +348,7 @@ pub extern "C" fn cv2_open(n: usize, plan: &[u8]) -> CvAnswer
 pub extern "C" fn cv2_step_at(n: usize, plan: &[u8], at: usize) -> Cv2Step
     ensures { result ≡ flat_wide (step_at second_edition n plan.now at) }
 {
-    let stepped = plans::step_second(n, plan, at);
-    let outputs = stepped.outputs;
-    let step = stepped.step;
-    Cv2Step {
-        kind: answers::kind_of(step),
-        place: answers::place_of(step),
-        hold: stepped.hold as u64,
-        outputs,
-    }
+    Cv2Step::from(plans::step_second(n, plan, at))
 }
 
 // A plan of the first edition as one of the second, into a second buffer.
@@ -380,7 +356,7 @@ pub extern "C" fn cv2_step_at(n: usize, plan: &[u8], at: usize) -> Cv2Step
 pub extern "C" fn cv_to_second(n: usize, plan: &[u8], moved: &mut [u8]) -> CvAnswer
     ensures { Crosses (moving first_edition second_edition n plan.now moved.old) result moved.new }
 {
-    answers::flatten(moving::to_second(n, plan, moved))
+    CvAnswer::from(moving::to_second(n, plan, moved))
 }
 
 // A plan of the second edition as one of the first.
@@ -388,7 +364,7 @@ pub extern "C" fn cv_to_second(n: usize, plan: &[u8], moved: &mut [u8]) -> CvAns
 pub extern "C" fn cv_to_first(n: usize, plan: &[u8], moved: &mut [u8]) -> CvAnswer
     ensures { Crosses (moving movable first_edition n plan.now moved.old) result moved.new }
 {
-    answers::flatten(moving::to_first(n, plan, moved))
+    CvAnswer::from(moving::to_first(n, plan, moved))
 }
 
 // A damaged plan rescued, and the list of what was dropped.
@@ -402,5 +378,5 @@ pub extern "C" fn cv_rescue(
 ) -> CvAnswer
     ensures { RescuesFlat (rescuing first_edition n cells.now damaged.now plan.old dropped.old) result plan.new dropped.new }
 {
-    answers::flatten_rescue(rescue::rescue_plan(n, cells, damaged, plan, dropped))
+    CvAnswer::from(rescue::rescue_plan(n, cells, damaged, plan, dropped))
 }

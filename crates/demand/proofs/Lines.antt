@@ -1,5 +1,5 @@
 -- A line is N cells, side by side or N apart, and the scan for a line over a limit stops at the first.
-use mathlib.Core.Path.{◌≡◌, ap}
+use mathlib.Core.Path.{◌≡◌, refl, ap, ◌∙◌}
 use mathlib.Core.Bool.{cond}
 use mathlib.Core.List.{List}
 use Prim.Native.Nat.{ℕ, zero, suc, ◌+◌, ◌*◌, ◌-◌, ◌≤◌, ◌<◌}
@@ -11,19 +11,38 @@ use lib.ListN.{get_or}
 use lib.Dec.{ltb}
 use borrow.Author.Tests.{lt-ltb, le-ltb}
 use Rattle.counting.specs.Matrix.{row, col}
-use Rattle.counting.proofs.Sum.{sum-cong}
+use Rattle.std.specs.Prelude.{map}
+use Rattle.std.specs.List.{sum_by, range_with_len}
+use Rattle.std.proofs.lemmas.List.{map-id}
+use Rattle.std.proofs.lemmas.List.FromFn.{sum_by-map-range_with_len_more}
+use Rattle.counting.specs.Sum.{sum}
+use Rattle.counting.proofs.Sum.{sum-cong, sum-const, sum_mono}
 use Rattle.switch.specs.Demand.{cell, line}
 use Rattle.switch.specs.declared.Side.TheVariants.{Input, Output}
-use Rattle.demand.specs.Lines.{over, line_side, strided}
+use Rattle.demand.specs.Lines.{over, line_side}
+
+-- ---- what a chain over 0, 1, .., n - 1 sums
+
+pub range-sum : (f : ℕ → ℕ) (n : ℕ) → sum_by f (range_with_len 0 n) ≡ sum n f
+unfolding sum
+range-sum f zero = refl
+range-sum f (suc m) =
+    let more : sum_by f (map (λ (x : ℕ). x) (range_with_len 0 (m + 1))) ≡ sum_by f (map (λ (x : ℕ). x) (range_with_len 0 m)) + f m = sum_by-map-range_with_len_more f (λ (x : ℕ). x) 0 m m (omega arith) in
+    let plain = rw (map-id (range_with_len 0 (m + 1)), map-id (range_with_len 0 m), add-one m) at more in
+    plain ∙ ap (λ (x : ℕ). x + f m) (range-sum f m)
+
+-- no number of them is over c, so neither is the sum over n of these
+pub range-small : (f : ℕ → ℕ) (n c : ℕ) → ((i : ℕ) → i < n → f i ≤ c) → sum_by f (range_with_len 0 n) ≤ n * c
+range-small f n c h = rw (range-sum f n) (omega (arith, sum_mono n f (λ _. c) h, sum-const n c))
 
 -- a row is N cells side by side, a column N cells N apart
-pub row-strided : (N : ℕ) (d : List ℕ) (k : ℕ) → k < N → strided d (k * N) 1 N ≡ line N d k
-unfolding line strided row cell
-row-strided N d k l = rw (lt-ltb _ _ l) (sum-cong N (λ b. get_or d (k * N + b * 1) 0) (λ b. get_or d (k * N + b) 0) (λ b _. ap (λ (x : ℕ). get_or d (k * N + x) 0) (mul-one b)))
+pub row-strided : (N : ℕ) (d : List ℕ) (k : ℕ) → k < N → sum_by (λ b. get_or d (k * N + b * 1) 0) (range_with_len 0 N) ≡ line N d k
+unfolding line row cell
+row-strided N d k l = rw (lt-ltb _ _ l) (range-sum (λ b. get_or d (k * N + b * 1) 0) N ∙ sum-cong N (λ b. get_or d (k * N + b * 1) 0) (λ b. get_or d (k * N + b) 0) (λ b _. ap (λ (x : ℕ). get_or d (k * N + x) 0) (mul-one b)))
 
-pub col-strided : (N : ℕ) (d : List ℕ) (k : ℕ) → N ≤ k → strided d (k - N) N N ≡ line N d k
-unfolding line strided col cell
-col-strided N d k l = rw (le-ltb _ _ l) (sum-cong N (λ b. get_or d (k - N + b * N) 0) (λ b. get_or d (b * N + (k - N)) 0) (λ b _. ap (λ (x : ℕ). get_or d x 0) (add_comm (k - N) (b * N))))
+pub col-strided : (N : ℕ) (d : List ℕ) (k : ℕ) → N ≤ k → sum_by (λ b. get_or d (k - N + b * N) 0) (range_with_len 0 N) ≡ line N d k
+unfolding line col cell
+col-strided N d k l = rw (le-ltb _ _ l) (range-sum (λ b. get_or d (k - N + b * N) 0) N ∙ sum-cong N (λ b. get_or d (k - N + b * N) 0) (λ b. get_or d (b * N + (k - N)) 0) (λ b _. ap (λ (x : ℕ). get_or d x 0) (add_comm (k - N) (b * N))))
 
 pub input-side : (N k : ℕ) → k < N → Input (record { 0 = k }) ≡ line_side N k
 unfolding line_side

@@ -1,2 +1,3 @@
 pub mod Lines
 pub mod Check
+pub mod Checked

@@ -1,6 +1,5 @@
 -- The lines of a demand, counted with the inputs before the outputs, and the first that is too long. Definitions only.
-use Rattle.std.specs.Prelude.{cond, List, ℕ, zero, suc, ◌+◌, ◌*◌, ◌-◌, ◌≤◌, get_or, length, ltb}
-use Rattle.counting.specs.Sum.{sum}
+use Rattle.std.specs.Prelude.{cond, List, ℕ, zero, suc, ◌+◌, ◌*◌, ◌-◌, ◌≤◌, length, ltb}
 use Rattle.switch.specs.Demand.{cell, line, longest}
 use Rattle.switch.specs.declared.Side.{Side}
 use Rattle.switch.specs.declared.Side.TheVariants.{Input, Output}
@@ -17,10 +16,6 @@ line_side N k = cond (ltb k N) (Input (record { 0 = k })) (Output (record { 0 = 
 -- the first line that sums over 65,535, inputs before outputs (§9.8)
 unfoldable pub line_over : (N : ℕ) (d : List ℕ) → Side
 line_over N d = line_side N (over 65535 (line N d) (N + N) 0)
-
--- inner: n cells from `from` on, `step` apart, summed
-unfoldable pub strided : (d : List ℕ) (from step n : ℕ) → ℕ
-strided d from step n = sum n (λ b. get_or d (from + b * step) 0)
 
 -- inner: enough cells for N ports, of which there are no more than the largest switch has
 pub record Sized (N : ℕ) (d : List ℕ) : Type 0 where

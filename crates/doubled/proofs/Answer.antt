@@ -1,11 +1,11 @@
 -- Each return of the planner is a case of what a planner answers: nothing asked for, no room for both parts, or both parts laid.
+use Rattle.std.specs.Prelude.{Err, Ok}
 use mathlib.Core.Path.{◌≡◌, refl, sym, ap, ◌∙◌}
 use mathlib.Core.List.{List, []}
 use Prim.Native.Nat.{ℕ, ◌+◌, ◌*◌, ◌-◌, ◌≤◌, ◌<◌}
 use native.Mathlib.Omega.{arith}
 use lib.ListN.{length, get_or}
 use Rattle.switch.specs.declared.Refusal.TheVariants.{Room}
-use Rattle.switch.specs.declared.Outcome.TheVariants.{Done, Refused}
 use Rattle.switch.specs.declared.Edition.{Edition}
 use Rattle.switch.specs.Answer.{plan_counts, demand_counts}
 use Rattle.switch.specs.Demand.{cell, longest}
@@ -15,7 +15,6 @@ use Rattle.switch.proofs.Plan.{least-total}
 use Rattle.switch.proofs.Empty.{full-empty, empty-none}
 use Rattle.demand.specs.Check.{check_demand}
 use Rattle.demand.specs.Lines.{Short}
-use Rattle.demand.specs.declared.Checked.TheVariants.{Fine}
 use Rattle.demand.proofs.Check.{fine-asked}
 use Rattle.rules.specs.Exact.{exact_plan}
 use Rattle.rules.specs.Doubled.{rotate, Doubled}
@@ -40,16 +39,16 @@ use Rattle.turns.proofs.Both.{both-records, both-total, both-room}
 use Rattle.doubled.proofs.Divided.{quotient-cells}
 
 -- a plan of r records, total t and x empty slots that is laid is the answer
-laid-answer : (E : Edition) (N T r t x : ℕ) (d : List ℕ) (p : List Record) (plan plan' : List ℕ) → check_demand E.ports N d ≡ Fine T → length p ≤ whole E.width plan
+laid-answer : (E : Edition) (N T r t x : ℕ) (d : List ℕ) (p : List Record) (plan plan' : List ℕ) → check_demand E.ports N d ≡ Ok T → length p ≤ whole E.width plan
     → r ≡ length p → t ≡ total p → x ≡ empty_slots N (cell N d) p → plan' ≡ laid plan 0 (bytes E.byte N p)
-    → Gives (planned E N d p plan) (Done (demand_counts r T t x)) plan'
+    → Gives (planned E N d p plan) (Ok (demand_counts r T t x)) plan'
 laid-answer E N T r t x d p plan plan' fine fits a b f c =
     gives (planned-done E N d p plan T fine fits) (written-outcome E N T (empty_slots N (cell N d) p) r t x p plan a b f)
     (c ∙ written-bytes E N T (empty_slots N (cell N d) p) p plan)
 
 -- T is 0
-pub empty-answer : (r : Rule) (E : Edition) (N : ℕ) (d plan : List ℕ) → check_demand E.ports N d ≡ Fine 0
-    → Gives (planned E N d (doubled_rule r Forward E.width N d) plan) (Done (plan_counts 0 0 0)) plan
+pub empty-answer : (r : Rule) (E : Edition) (N : ℕ) (d plan : List ℕ) → check_demand E.ports N d ≡ Ok 0
+    → Gives (planned E N d (doubled_rule r Forward E.width N d) plan) (Ok (plan_counts 0 0 0)) plan
 empty-answer r E N d plan fine = laid-answer E N 0 0 0 0 d (doubled_rule r Forward E.width N d) plan plan fine
     (omega (arith, ap length none)) (sym (ap length none)) (unfold total in sym (ap total none))
     (sym (ap (empty_slots N (cell N d)) none ∙ empty-none N (cell N d) [] (λ i j _ _. unfold grant in omega arith)))
@@ -65,10 +64,10 @@ module _ {E : Edition} {N T u : ℕ} {d q H : List ℕ} (v : Divided E N T u d q
   module _ {need : ℕ} (s : Needs (whole E.width plan) need (length (exact_plan E.width N q) + turns)) where
     -- code 5, with the records needed
     pub short-answer : whole E.width plan < need
-        → Gives (planned E N d (parts Forward E.width N u q H) plan) (Refused (Room need)) plan
+        → Gives (planned E N d (parts Forward E.width N u q H) plan) (Err (Room need)) plan
     short-answer l =
         let n : need ≡ length (parts Forward E.width N u q H) = omega (arith, s.short l, records) in
-        gives (planned-short E N d (parts Forward E.width N u q H) plan T v.fine (omega (arith, n))) (ap (λ (k : ℕ). Refused (Room k)) n) refl
+        gives (planned-short E N d (parts Forward E.width N u q H) plan T v.fine (omega (arith, n))) (ap (λ (k : ℕ). Err (Room k)) n) refl
 
     -- there is room, and the quotients are as they were
     module _ (l : need ≤ whole E.width plan) {S : ℕ} (longest-is : S ≡ longest N (cell N q)) {q' : List ℕ} (same : q' ≡ q) where
@@ -105,7 +104,7 @@ module _ {E : Edition} {N T u : ℕ} {d q H : List ℕ} (v : Divided E N T u d q
       -- both parts are laid, and x slots of them are empty
       pub both-answer : Doubled N d (parts Forward E.width N u q H) → {r : ℕ} → r ≡ length (exact_plan E.width N q')
           → {plan' : List ℕ} → plan' ≡ laid plan 0 (bytes E.byte N (parts Forward E.width N u q' H)) → {x : ℕ} → x ≡ N * (S * u + sum) - all_slots N (cell N d)
-          → Gives (planned E N d (parts Forward E.width N u q H) plan) (Done (demand_counts (r + turns) T (S * u + sum) x)) plan'
+          → Gives (planned E N d (parts Forward E.width N u q H) plan) (Ok (demand_counts (r + turns) T (S * u + sum) x)) plan'
       both-answer k {r} count {plan'} put {x} f = laid-answer E N T (r + turns) (S * u + sum) x d (parts Forward E.width N u q H) plan plan' v.fine fits
           (omega (arith, count ∙ ap (λ (x : List ℕ). length (exact_plan E.width N x)) same, records))
           counted-total

@@ -5,11 +5,10 @@
 // and what a demand is refused for is `demand`'s: this crate counts what both parts need, and adds up.
 #![tactic(auto)]
 
-ghost use Rattle.std.specs.Prelude.{◌≡◌, ℕ, ◌+◌, ◌*◌, ◌<◌, ◌≤◌, length};
+ghost use Rattle.std.specs.Prelude.{◌≡◌, ℕ, ◌+◌, ◌*◌, ◌<◌, ◌≤◌, length, Ok};
 ghost use Rattle.switch.specs.Editions.{first_edition, second_edition, Bounded};
 ghost use Rattle.switch.specs.Result.{Gives};
 ghost use Rattle.demand.specs.Check.{check_demand};
-ghost use Rattle.demand.specs.declared.Checked.TheVariants.{Fine};
 ghost use Rattle.rules.specs.Exact.{exact_plan};
 ghost use Rattle.rules.specs.Doubled.{divide, every_rotation_plan, doubled_plan, Doubled};
 ghost use Rattle.planner.specs.Planned.{planned};
@@ -20,7 +19,7 @@ ghost use Rattle.turns.specs.declared.Turning.TheVariants.{Forward};
 ghost use Rattle.turns.specs.Second.{doubled_rule, parts, Divided, Table};
 ghost use Rattle.doubled.specs.Parts.{Needs};
 
-use demand::{Checked, check_demand, empty_slots, longest_line};
+use demand::{check_demand, empty_slots, longest_line};
 use records::HEAD;
 use switch::{Counts, Edition, Outcome, PORTS, Refusal, WIDE_PORTS};
 use turns::{Rule, Turning};
@@ -34,100 +33,56 @@ const WIDE_CELLS: usize = 16384;
 pub fn doubled_plan(n: usize, cells: &[u32], plan: &mut [u8]) -> Outcome
     ensures { Gives (planned first_edition n cells.now (doubled_plan 64 n cells.now) plan.old) result plan.new }
 {
-    let mut work = [0u32; CELLS];
-    let mut holds = [0u16; PORTS];
-    plan_for(
-        Rule::Tight,
-        switch::first_edition(),
-        n,
-        cells,
-        &mut work,
-        &mut holds,
-        plan,
-    )
+    plan_for::<CELLS, PORTS>(Rule::Tight, switch::first_edition(), n, cells, plan)
 }
 
 // The doubled plan by the old rule: if u is at least 2, every rotation is there, held for u - 1.
 pub fn doubled_plan_every_rotation(n: usize, cells: &[u32], plan: &mut [u8]) -> Outcome
     ensures { Gives (planned first_edition n cells.now (every_rotation_plan 64 n cells.now) plan.old) result plan.new }
 {
-    let mut work = [0u32; CELLS];
-    let mut holds = [0u16; PORTS];
-    plan_for(
-        Rule::Every,
-        switch::first_edition(),
-        n,
-        cells,
-        &mut work,
-        &mut holds,
-        plan,
-    )
+    plan_for::<CELLS, PORTS>(Rule::Every, switch::first_edition(), n, cells, plan)
 }
 
 // The doubled plan in the second edition, by the tight rule.
 pub fn doubled_plan_second(n: usize, cells: &[u32], plan: &mut [u8]) -> Outcome
     ensures { Gives (planned second_edition n cells.now (doubled_plan 128 n cells.now) plan.old) result plan.new }
 {
-    let mut work = [0u32; WIDE_CELLS];
-    let mut holds = [0u16; WIDE_PORTS];
-    plan_for(
-        Rule::Tight,
-        switch::second_edition(),
-        n,
-        cells,
-        &mut work,
-        &mut holds,
-        plan,
-    )
+    plan_for::<WIDE_CELLS, WIDE_PORTS>(Rule::Tight, switch::second_edition(), n, cells, plan)
 }
 
 // The doubled plan in the second edition, by the old rule.
 pub fn doubled_plan_every_rotation_second(n: usize, cells: &[u32], plan: &mut [u8]) -> Outcome
     ensures { Gives (planned second_edition n cells.now (every_rotation_plan 128 n cells.now) plan.old) result plan.new }
 {
-    let mut work = [0u32; WIDE_CELLS];
-    let mut holds = [0u16; WIDE_PORTS];
-    plan_for(
-        Rule::Every,
-        switch::second_edition(),
-        n,
-        cells,
-        &mut work,
-        &mut holds,
-        plan,
-    )
+    plan_for::<WIDE_CELLS, WIDE_PORTS>(Rule::Every, switch::second_edition(), n, cells, plan)
 }
 
-// The doubled plan of an edition by either rule. Lent beside the plan are the cells of its largest switch, for the quotients, and a hold
-// for each of its rotations.
-pub fn plan_for(
+// The doubled plan of an edition by either rule. It has `C` cells, as many as the edition's largest switch, for the quotients, and a hold
+// for each of that switch's `P` rotations.
+pub fn plan_for<const C: usize, const P: usize>(
     rule: Rule,
     e: Edition,
     n: usize,
     cells: &[u32],
-    work: &mut [u32],
-    holds: &mut [u16],
     plan: &mut [u8],
 ) -> Outcome
-    requires { Bounded e × (e.ports * e.ports ≤ length work.old) × (e.ports ≤ length holds.old) }
+    requires { Bounded e × (e.ports * e.ports ≤ C) × (e.ports ≤ P) × (C ≤ 16384) × (P ≤ 128) }
     ensures { Gives (planned e n cells.now (doubled_rule rule Forward e.width n cells.now) plan.old) result plan.new }
 {
-    match check_demand(n, e.ports, cells) {
-        Checked::Faulty(r) => Outcome::Refused(r),
-        Checked::Fine(longest) => {
-            let size = cells.len();
-            plan_fine(
-                rule,
-                e,
-                n,
-                longest,
-                cells,
-                &mut work[..size],
-                &mut holds[..n],
-                plan,
-            )
-        }
-    }
+    let longest = check_demand(n, e.ports, cells)?;
+    let mut work = [0u32; C];
+    let mut holds = [0u16; P];
+    let size = cells.len();
+    plan_fine(
+        rule,
+        e,
+        n,
+        longest,
+        cells,
+        &mut work[..size],
+        &mut holds[..n],
+        plan,
+    )
 }
 
 // The same for a demand that nothing but the room can refuse. If T is 0, the plan is empty, and there is no u to divide by.
@@ -141,11 +96,11 @@ fn plan_fine(
     holds: &mut [u16],
     plan: &mut [u8],
 ) -> Outcome
-    requires { (check_demand e.ports n cells.now ≡ Fine longest) × Bounded e × (length work.old ≡ length cells.now) × (length holds.old ≡ n) }
+    requires { (check_demand e.ports n cells.now ≡ Ok longest) × Bounded e × (length work.old ≡ length cells.now) × (length holds.old ≡ n) }
     ensures { Gives (planned e n cells.now (doubled_rule rule Forward e.width n cells.now) plan.old) result plan.new }
 {
     if longest == 0 {
-        return Outcome::Done(Counts {
+        return Ok(Counts {
             records: 0,
             longest: 0,
             total: 0,
@@ -178,14 +133,14 @@ fn plan_parts(
     let room = plan.len() / (width + HEAD);
     let need = needed(cells, work, n, unit, first, turns, room);
     if room < need {
-        return Outcome::Refused(Refusal::Room(need));
+        return Err(Refusal::Room(need));
     }
     let records = lay_parts(e, work, n, first, unit, holds, plan);
     let total = first * unit as u64 + second.total;
-    Outcome::Done(Counts {
+    Ok(Counts {
         records: records + turns,
-        longest: longest,
-        total: total,
+        longest,
+        total,
         length: 0,
         empty: empty_slots(n, cells, total),
     })

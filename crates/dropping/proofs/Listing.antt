@@ -2,13 +2,18 @@
 use mathlib.Core.Path.{◌≡◌, refl, sym, ap, ap₂, ◌∙◌}
 use mathlib.Core.Bool.{cond}
 use mathlib.Core.List.{List, [], ◌∷◌, ◌++◌}
-use Prim.Native.Nat.{ℕ, ◌+◌, ◌-◌, ◌/◌, ◌%◌, ◌<◌, ◌≤◌}
+use Prim.Native.Nat.{ℕ, ◌+◌, ◌-◌, ◌<◌, ◌≤◌}
 use native.Mathlib.Omega.{arith}
-use lib.ListN.{length, set, length-append}
+use lib.ListN.{length, take, drop, length-append}
+use borrow.Rule.Slice.PartMut.{put_mid}
+use Rattle.std.proofs.lemmas.List.{drop-drop, append_assoc}
 use Rattle.switch.specs.declared.Edition.{Edition}
 use Rattle.plans.specs.Reading.{Readable}
+use Rattle.dropping.specs.declared.Reason.{Reason}
+use Rattle.dropping.specs.declared.Reason.TheVariants.{Hold, Ports, Spare, Range, Twice, Past, Torn}
+use Rattle.dropping.specs.Reason.{number_of}
 use Rattle.records.specs.Bytes.{record_at, whole, laid}
-use Rattle.records.proofs.Laid.{laid_none, length-laid, laid_more, laid-stores}
+use Rattle.records.proofs.Laid.{laid_none, length-laid, laid_more}
 use Rattle.rescue_rule.specs.Reason.{reason_of}
 use Rattle.rescue_rule.specs.Rescue.{entry_of, dropped_to, dropped_at, torn_tail, dropped, entry_bytes}
 use Rattle.rescue_rule.proofs.Those.{those-none, those-next}
@@ -20,12 +25,23 @@ nil : entry_bytes [] ≡ []
 unfolding entry_bytes
 nil = refl
 
--- four stores are an entry
-pub entry-laid : (d : List ℕ) (at k why : ℕ) → at + 4 ≤ length d
-    → set (set (set (set d at (k % 256)) (at + 1) (k / 256)) (at + 2) why) (at + 3) 0 ≡ laid d at (entry_bytes (record { number = k; reason = why } ∷ []))
-unfolding entry_bytes
-entry-laid d at k why l =
-    sym (laid_none (set (set (set (set d at (k % 256)) (at + 1) (k / 256)) (at + 2) why) (at + 3) 0) (at + 4)) ∙ laid-stores d at (k % 256) (k / 256) why 0 [] (omega arith)
+-- an entry's bytes in the place of those that were there
+pub entry-laid : (d : List ℕ) (at m : ℕ) (s t : List ℕ) → m ≡ length t → s ≡ t → put_mid at m d s ≡ laid d at t
+unfolding laid
+entry-laid d at m s t e q =
+    ap (λ (x : List ℕ). take at d ++ (x ++ drop m (drop at d))) q
+    ∙ ap (λ (x : List ℕ). take at d ++ (t ++ x)) (drop-drop m at d ∙ ap (λ (y : ℕ). drop (at + y) d) e)
+    ∙ sym (append_assoc (take at d) t (drop (at + length t) d))
+
+-- every reason has a number above 0
+pub some-reason : (r : Reason) → number_of r ≡ 0 → ⊥
+some-reason Hold e = omega arith
+some-reason Ports e = omega arith
+some-reason Spare e = omega arith
+some-reason Range e = omega arith
+some-reason Twice e = omega arith
+some-reason Past e = omega arith
+some-reason Torn e = omega arith
 
 module _ (W e N : ℕ) (plan : List ℕ) where
   pub no-entries : entry_bytes (dropped_to W e N plan 0) ≡ []

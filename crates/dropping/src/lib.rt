@@ -3,44 +3,57 @@
 // records of any edition. What is kept, and whether the list has room, is left to the crate above.
 #![tactic(auto)]
 
-ghost use Rattle.std.specs.Prelude.{◌≡◌, false, ◌||◌, [], ◌∷◌, ltb, eqb, length, ◌+◌, ◌-◌, ◌<◌, ◌≤◌};
+ghost use Rattle.std.specs.Prelude.{◌≡◌, false, [], ◌∷◌, length, ◌+◌, ◌-◌, ◌<◌, ◌≤◌};
 ghost use Rattle.records.specs.Record.{all, inside, outputs_fine};
 ghost use Rattle.records.specs.Bytes.{whole, laid};
 ghost use Rattle.plans.specs.Reading.{Readable};
+ghost use Rattle.dropping.specs.Reason.{number_of, told};
 ghost use Rattle.rescue_rule.specs.Reason.{outputs_reason, reason_of};
 ghost use Rattle.rescue_rule.specs.Rescue.{dropped_to, dropped_at, dropped, torn_tail, entry_bytes};
 
-use numbers::size_of_byte;
 use records::HEAD;
 use switch::Edition;
 
-// Why a record is dropped (§19.2).
-pub const HOLD: u8 = 1;
+// Why a record is dropped (§19.2): no hold, another number of ports, another spare byte, an output out of range, a port twice, an output
+// past the last input, or bytes that are no whole record.
+#[derive(Clone, Copy, PartialEq, Eq)]
+pub enum Reason {
+    Hold,
+    Ports,
+    Spare,
+    Range,
+    Twice,
+    Past,
+    Torn,
+}
 
-pub const PORTS: u8 = 2;
-
-pub const SPARE: u8 = 3;
-
-pub const RANGE: u8 = 4;
-
-pub const TWICE: u8 = 5;
-
-pub const PAST: u8 = 6;
-
-pub const TORN: u8 = 7;
+impl Reason {
+    // Its number in the list.
+    pub fn number(self) -> u8
+        ensures { result ≡ number_of self }
+    {
+        match self {
+            Reason::Hold => 1,
+            Reason::Ports => 2,
+            Reason::Spare => 3,
+            Reason::Range => 4,
+            Reason::Twice => 5,
+            Reason::Past => 6,
+            Reason::Torn => 7,
+        }
+    }
+}
 
 // An entry of the list of dropped records has 4 bytes.
 pub const ENTRY: usize = 4;
 
 // How many torn tails a plan has: one or none.
+// A number and no bool, since it is added to the records that are dropped.
 pub fn torn(damaged: &[u8], width: usize) -> usize
     requires { width ≤ 128 }
     ensures { result ≡ length (torn_tail width damaged.now) }
 {
-    if damaged.len() % (width + HEAD) == 0 {
-        return 0;
-    }
-    1
+    usize::from(damaged.len() % (width + HEAD) != 0)
 }
 
 // Lists all that is dropped of a plan: the records that are not well formed, and then a torn tail.
@@ -53,10 +66,11 @@ pub fn list_dropped(n: usize, damaged: &[u8], e: Edition, list: &mut [u8])
     if torn(damaged, e.width) == 0 {
         return;
     }
-    put_entry(list, next, records, TORN);
+    put_entry(list, next, records, Reason::Torn);
 }
 
 // Lists the dropped ones among a plan's whole records from the list's start on, 4 bytes each; and where the next entry goes.
+// k is the number that is listed, and where its entry goes depends on those before.
 fn list_whole(n: usize, damaged: &[u8], e: Edition, records: usize, list: &mut [u8]) -> usize
     requires { Readable e n damaged.now records × (length (entry_bytes (dropped_to e.width e.byte n damaged.now records)) ≤ length list.old) }
     ensures { (result ≡ length (entry_bytes (dropped_to e.width e.byte n damaged.now records))) × (list.new ≡ laid list.old 0 (entry_bytes (dropped_to e.width e.byte n damaged.now records))) }
@@ -82,57 +96,54 @@ fn list_record(
     ensures { (result ≡ next + length (entry_bytes (dropped_at e.width e.byte n damaged.now k))) × (list.new ≡ laid list.old next (entry_bytes (dropped_at e.width e.byte n damaged.now k))) }
 {
     let rec = plans::record_at(damaged, e.width, k);
-    let why = reason_of(rec, n, e.byte);
-    if why == 0 {
+    let Some(why) = reason_of(rec, n, e.byte) else {
         return next;
-    }
+    };
     put_entry(list, next, k, why);
     next + ENTRY
 }
 
 // Lays one entry over a list from `at` on: a number in two bytes, low first, a reason, a zero byte.
-fn put_entry(list: &mut [u8], at: usize, number: usize, reason: u8)
-    requires { (number < 65536) × (at + 4 ≤ length list.old) }
-    ensures { list.new ≡ laid list.old at (entry_bytes (record { number = number; reason = reason } ∷ [])) }
+fn put_entry(list: &mut [u8], at: usize, k: usize, reason: Reason)
+    requires { (k < 65536) × (at + 4 ≤ length list.old) }
+    ensures { list.new ≡ laid list.old at (entry_bytes (record { number = k; reason = number_of reason } ∷ [])) }
 {
-    list[at] = (number % 256) as u8;
-    list[at + 1] = (number / 256) as u8;
-    list[at + 2] = reason;
-    list[at + 3] = 0;
+    let [low, high] = (k as u16).to_le_bytes();
+    list[at..at + ENTRY].copy_from_slice(&[low, high, reason.number(), 0]);
 }
 
-// Why a record is dropped: the first reason that applies, and 0 where it is well formed. Most are, so that is asked first.
-fn reason_of(rec: &[u8], n: usize, edition: u8) -> u8
+// Why a record is dropped: the first reason that applies, if one does. Most are well formed, so that is asked first.
+fn reason_of(rec: &[u8], n: usize, edition: u8) -> Option<Reason>
     requires { (n ≤ 128) × (n + 4 ≤ length rec.now) }
-    ensures { result ≡ reason_of (length rec.now - 4) edition n rec.now }
+    ensures { told result ≡ reason_of (length rec.now - 4) edition n rec.now }
 {
     if records::record_fine(rec, n, edition) {
-        return 0;
+        return None;
     }
     if records::hold_of(rec) == 0 {
-        return HOLD;
+        return Some(Reason::Hold);
     }
-    if size_of_byte(rec[2]) != n {
-        return PORTS;
+    if usize::from(rec[2]) != n {
+        return Some(Reason::Ports);
     }
     if rec[3] != edition {
-        return SPARE;
+        return Some(Reason::Spare);
     }
-    outputs_reason(&rec[HEAD..], n)
+    Some(outputs_reason(&rec[HEAD..], n))
 }
 
-// Which of the reasons 4, 5 and 6 is the first that applies to outputs that are not fine.
-fn outputs_reason(outputs: &[u8], n: usize) -> u8
+// Which is the first reason that applies to outputs that are not fine.
+fn outputs_reason(outputs: &[u8], n: usize) -> Reason
     requires { (n ≤ 128) × (n ≤ length outputs.now) × (outputs_fine (length outputs.now) n outputs.now ≡ false) }
-    ensures { result ≡ outputs_reason (length outputs.now) n outputs.now }
+    ensures { number_of result ≡ outputs_reason (length outputs.now) n outputs.now }
 {
     if !in_range(outputs, n) {
-        return RANGE;
+        return Reason::Range;
     }
     if !records::setting_fine(outputs, n) {
-        return TWICE;
+        return Reason::Twice;
     }
-    PAST
+    Reason::Past
 }
 
 // Has every one of n inputs a port for its output, or none?
@@ -140,20 +151,7 @@ fn in_range(outputs: &[u8], n: usize) -> bool
     requires { n ≤ length outputs.now }
     ensures { result ≡ all n (inside n outputs.now) }
 {
-    for i in 0..n {
-        if !one_in_range(outputs[i], n) {
-            return false;
-        }
-    }
-    true
-}
-
-// Is an output a port of n, or idle?
-fn one_in_range(b: u8, n: usize) -> bool
-    ensures { result ≡ (ltb b n || eqb b 255) }
-{
-    if (b as usize) < n {
-        return true;
-    }
-    b == records::IDLE
+    outputs[..n]
+        .iter()
+        .all(|b| usize::from(*b) < n || *b == records::IDLE)
 }

@@ -15,7 +15,12 @@ use Rattle.rules.specs.Exact.{exact_plan}
 use Rattle.rules.specs.Doubled.{stretch}
 use Rattle.rules.proofs.Exact.{longest-cong, exact-cong}
 use Rattle.peel.specs.Standing.{Cells}
-use Rattle.exact.specs.Laying.{Place}
+use Rattle.planner.specs.Planned.{shortage}
+use Rattle.planner.proofs.Planned.{fits-room, lacks-room}
+use Rattle.std.specs.Prelude.{Some, None}
+use Rattle.std.specs.Option.{unwrap_or}
+use Rattle.std.specs.declared.option.Option.{Option}
+use Rattle.exact.specs.Laying.{Exceeds, Place}
 
 module _ (E : Edition) (bounded : Bounded E) (N T : ℕ) (d w : List ℕ) (a : Asked E.ports N T d) (z : List ℕ) (copied : w ≡ d ++ z) where
   padded : (i j : ℕ) → i < N → j < N → cell N w i j ≡ cell N d i j
@@ -54,6 +59,11 @@ module _ (E : Edition) (bounded : Bounded E) (N T : ℕ) (d w : List ℕ) (a : A
       mul-le-mul_right (E.width + 4) l,
     );
   }
+
+-- what exceeds the room, as a number: what a plan is short of
+pub exceeds-shortage : (room need : ℕ) (r : Option ℕ) → Exceeds room need r → unwrap_or r 0 ≡ shortage room need
+exceeds-shortage room need (Some k) e = e.1 ∙ lacks-room room need e.0
+exceeds-shortage room need None e = fits-room room need e
 
 pub stretch-once : (p : List Record) → map (stretch 1) p ≡ p
 unfolding stretch

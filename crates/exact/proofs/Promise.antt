@@ -1,4 +1,5 @@
 -- The contract gives the outcome and the buffer by a definition, so it determines both; and what is written reads back as the exact plan.
+use Rattle.std.specs.Prelude.{Ok}
 use mathlib.Core.Path.{◌≡◌, sym, ap, ◌∙◌, subst}
 use mathlib.Core.List.{List}
 use Prim.Native.Nat.{ℕ, ◌+◌, ◌*◌, ◌/◌, ◌≤◌}
@@ -6,14 +7,13 @@ use native.Mathlib.Omega.{arith}
 use native.Mathlib.Nat.{le_of_eq}
 use lib.ListN.{length, take}
 use lib.Seq.{take_at}
-use Rattle.switch.specs.declared.Outcome.{Outcome}
+use Rattle.switch.specs.Outcome.{Outcome}
 use Rattle.switch.specs.declared.Edition.{Edition}
 use Rattle.switch.specs.Editions.{Bounded}
 use Rattle.switch.specs.Demand.{cell}
 use Rattle.switch.specs.Plan.{Record}
 use Rattle.switch.specs.Empty.{empty_slots}
 use Rattle.switch.proofs.Answer.{determined}
-use Rattle.demand.specs.declared.Checked.TheVariants.{Fine}
 use Rattle.demand.specs.Check.{check_demand, Asked}
 use Rattle.demand.proofs.Check.{fine-asked}
 use Rattle.rules.specs.Exact.{exact_plan}
@@ -37,7 +37,7 @@ module _ (E : Edition) (N : ℕ) (d buf : List ℕ) where
   same_bytes l m p q = determined l m _ p q
 
 -- where nothing is refused, the records at the buffer's start are the exact plan
-module _ (E : Edition) (bounded : Bounded E) (N T : ℕ) (d buf : List ℕ) (fine : check_demand E.ports N d ≡ Fine T)
+module _ (E : Edition) (bounded : Bounded E) (N T : ℕ) (d buf : List ℕ) (fine : check_demand E.ports N d ≡ Ok T)
     (room : length (exact_plan E.width N d) ≤ length buf / (E.width + 4)) where
   abbrev plan : List Record
   plan = exact_plan E.width N d

@@ -1,7 +1,13 @@
 -- Inner: a place for records in a plan. Definitions only.
-use Rattle.std.specs.Prelude.{◌≡◌, Bool, true, List, ℕ, ◌+◌, ◌*◌, ◌≤◌, length}
+use Rattle.std.specs.Prelude.{◌≡◌, Bool, true, List, ℕ, ◌+◌, ◌*◌, ◌<◌, ◌≤◌, length, Some, None}
+use Rattle.std.specs.declared.option.Option.{Option}
 use Rattle.switch.specs.Plan.{Record}
 use Rattle.rules.specs.Exact.{exact_plan}
+
+-- what a plan has, where it does not fit the room
+abbrev pub Exceeds : ℕ → ℕ → (Option ℕ) → Type 0
+Exceeds room need (Some k) = (room < need) × (k ≡ need)
+Exceeds room need None = need ≤ room
 
 -- room for the records of p in a plan, W outputs each, from `at` on; and T fits a hold when it is u times as long
 pub record Place (N T u W at : ℕ) (p : List Record) (plan : List ℕ) : Type 0 where

@@ -4,23 +4,24 @@
 // multiplied, so that a planner above needs nothing but their promises.
 #![tactic(auto)]
 
-ghost use Rattle.std.specs.Prelude.{◌≡◌, map, ℕ, ◌*◌, ◌≤◌, length};
+ghost use Rattle.std.specs.Prelude.{◌≡◌, map, ℕ, ◌*◌, ◌≤◌, length, Ok};
 ghost use Rattle.switch.specs.Editions.{first_edition, second_edition, Bounded};
 ghost use Rattle.switch.specs.Result.{Gives};
-ghost use Rattle.demand.specs.declared.Checked.TheVariants.{Fine};
 ghost use Rattle.demand.specs.Check.{check_demand};
 ghost use Rattle.rules.specs.Exact.{exact_plan};
 ghost use Rattle.rules.specs.Doubled.{stretch};
 ghost use Rattle.records.specs.Bytes.{bytes, laid};
 ghost use Rattle.records.specs.Laying.{laid_if};
-ghost use Rattle.planner.specs.Planned.{planned, shortage};
+ghost use Rattle.planner.specs.Planned.{planned};
 ghost use Rattle.peel.specs.Standing.{Cells, Tables};
-ghost use Rattle.exact.specs.Laying.{Place, Goes};
+ghost use Rattle.exact.specs.Laying.{Exceeds, Place, Goes};
 
-use demand::{Checked, check_demand, empty_slots};
+use demand::{check_demand, empty_slots};
+use labels::Outputs;
 use peel::{nobody, start, take_off};
-use records::{HEAD, IDLE, put_if};
+use records::{HEAD, put_if};
 use room::exact_records;
+use search::Pairs;
 use switch::{Counts, Edition, Outcome, Refusal, WIDE_PORTS};
 
 // The cells of a switch of 64 ports, and of 128.
@@ -29,7 +30,8 @@ const CELLS: usize = 4096;
 const WIDE_CELLS: usize = 16384;
 
 // What becomes of the records of N ports and a longest line T: they are counted, or written over a plan from `at` on, so many outputs
-// each, and each held `unit` times as long.
+// each, and each held `unit` times as long. One loop does both: handed what becomes of a record as a closure, its contract would have to
+// tell each call of it in order.
 #[derive(Clone, Copy)]
 struct Job {
     n: usize,
@@ -45,27 +47,24 @@ struct Job {
 pub fn exact_plan(n: usize, cells: &[u32], plan: &mut [u8]) -> Outcome
     ensures { Gives (planned first_edition n cells.now (exact_plan 64 n cells.now) plan.old) result plan.new }
 {
-    let mut work = [0u32; CELLS];
-    plan_for(switch::first_edition(), n, cells, &mut work, plan)
+    plan_for::<CELLS>(switch::first_edition(), n, cells, plan)
 }
 
 // The exact plan in the second edition.
 pub fn exact_plan_second(n: usize, cells: &[u32], plan: &mut [u8]) -> Outcome
     ensures { Gives (planned second_edition n cells.now (exact_plan 128 n cells.now) plan.old) result plan.new }
 {
-    let mut work = [0u32; WIDE_CELLS];
-    plan_for(switch::second_edition(), n, cells, &mut work, plan)
+    plan_for::<WIDE_CELLS>(switch::second_edition(), n, cells, plan)
 }
 
-// The exact plan of an edition. Lent beside the plan are the cells of its largest switch, for the working copy.
-pub fn plan_for(e: Edition, n: usize, cells: &[u32], work: &mut [u32], plan: &mut [u8]) -> Outcome
-    requires { Bounded e × (e.ports * e.ports ≤ length work.old) }
+// The exact plan of an edition, with a working copy of as many cells as its largest switch has.
+pub fn plan_for<const ROOM: usize>(e: Edition, n: usize, cells: &[u32], plan: &mut [u8]) -> Outcome
+    requires { Bounded e × (e.ports * e.ports ≤ ROOM) × (ROOM ≤ 16384) }
     ensures { Gives (planned e n cells.now (exact_plan e.width n cells.now) plan.old) result plan.new }
 {
-    match check_demand(n, e.ports, cells) {
-        Checked::Faulty(r) => Outcome::Refused(r),
-        Checked::Fine(longest) => lay_or_refuse(e, n, longest, cells, work, plan),
-    }
+    let longest = check_demand(n, e.ports, cells)?;
+    let mut work = [0u32; ROOM];
+    lay_or_refuse(e, n, longest, cells, &mut work, plan)
 }
 
 // The exact plan at the plan's start, or code 5. The demand is only read; what is filled and peeled is a working copy.
@@ -77,39 +76,38 @@ fn lay_or_refuse(
     work: &mut [u32],
     plan: &mut [u8],
 ) -> Outcome
-    requires { (check_demand e.ports n cells.now ≡ Fine longest) × Bounded e × (n * n ≤ length work.old) }
+    requires { (check_demand e.ports n cells.now ≡ Ok longest) × Bounded e × (n * n ≤ length work.old) }
     ensures { Gives (planned e n cells.now (exact_plan e.width n cells.now) plan.old) result plan.new }
 {
     board::copy(cells, work);
-    let need = short_of(work, n, longest, plan.len() / (e.width + HEAD));
-    if need != 0 {
-        return Outcome::Refused(Refusal::Room(need));
+    if let Some(need) = short_of(work, n, longest, plan.len() / (e.width + HEAD)) {
+        return Err(Refusal::Room(need));
     }
     board::copy(cells, work);
     let records = lay(e, work, n, longest, 1, plan, 0);
-    Outcome::Done(Counts {
-        records: records,
-        longest: longest,
+    Ok(Counts {
+        records,
+        longest,
         total: longest,
         length: 0,
         empty: empty_slots(n, cells, longest),
     })
 }
 
-// How many records the exact plan has, where the room is too small for them; and 0 where it is not. The cells are spent.
+// How many records the exact plan has, where the room is too small for them. The cells are spent.
 // They are not counted where there is the room that is promised beforehand.
-pub fn short_of(work: &mut [u32], n: usize, longest: u64, room: usize) -> usize
+pub fn short_of(work: &mut [u32], n: usize, longest: u64, room: usize) -> Option<usize>
     requires { Cells n longest work.old }
-    ensures { (W : ℕ) → n ≤ W → W ≤ 128 → result ≡ shortage room (length (exact_plan W n work.old)) }
+    ensures { (W : ℕ) → n ≤ W → W ≤ 128 → Exceeds room (length (exact_plan W n work.old)) result }
 {
     if exact_records(n, longest) <= room {
-        return 0;
+        return None;
     }
     let need = count(work, n, longest);
     if room < need {
-        return need;
+        return Some(need);
     }
-    0
+    None
 }
 
 // How many records the exact plan has. The cells are spent.
@@ -118,8 +116,8 @@ pub fn count(work: &mut [u32], n: usize, longest: u64) -> usize
     ensures { (W : ℕ) → n ≤ W → W ≤ 128 → result ≡ length (exact_plan W n work.old) }
 {
     let job = Job {
-        n: n,
-        longest: longest,
+        n,
+        longest,
         writes: false,
         edition: 0,
         width: 0,
@@ -144,13 +142,13 @@ pub fn lay(
     ensures { (result ≡ length (exact_plan e.width n work.old)) × (plan.new ≡ laid plan.old at (bytes e.byte n (map (stretch unit) (exact_plan e.width n work.old)))) }
 {
     let job = Job {
-        n: n,
-        longest: longest,
+        n,
+        longest,
         writes: true,
         edition: e.byte,
         width: e.width,
-        unit: unit,
-        at: at,
+        unit,
+        at,
     };
     peel_all(job, work, plan)
 }
@@ -161,47 +159,44 @@ fn peel_all(job: Job, work: &mut [u32], plan: &mut [u8]) -> usize
     ensures { ((W : ℕ) → job.n ≤ W → W ≤ 128 → result ≡ length (exact_plan W job.n work.old)) × (plan.new ≡ laid_if job.writes plan.old job.at (bytes job.edition job.n (map (stretch job.unit) (exact_plan job.width job.n work.old)))) }
 {
     let n = job.n;
-    let mut lows = [0u64; WIDE_PORTS];
-    let mut highs = [0u64; WIDE_PORTS];
-    let mut by = [0u8; WIDE_PORTS];
-    let mut out = [IDLE; WIDE_PORTS];
-    peel_off(
-        job,
-        work,
-        &mut lows[..n],
-        &mut highs[..n],
-        &mut by,
-        &mut out,
-        plan,
-    )
+    let mut rows = [Outputs::none(); WIDE_PORTS];
+    let mut pairs = Pairs::new();
+    peel_off(job, work, &mut rows[..n], &mut pairs, plan)
 }
 
 // One setting after the other, until nothing is left: how many they are, and their records where they are to be written.
+// There is nothing to walk over: how many settings there are is known where nothing remains.
 fn peel_off(
     job: Job,
     work: &mut [u32],
-    lows: &mut [u64],
-    highs: &mut [u64],
-    by: &mut [u8],
-    out: &mut [u8],
+    rows: &mut [Outputs],
+    pairs: &mut Pairs,
     plan: &mut [u8],
 ) -> usize
-    requires { Cells job.n job.longest work.old × Tables job.n lows.old highs.old by.old out.old × Goes job.n job.longest job.writes job.width job.unit job.at work.old plan.old }
+    requires { Cells job.n job.longest work.old × Tables job.n rows.old pairs.old.by pairs.old.out × Goes job.n job.longest job.writes job.width job.unit job.at work.old plan.old }
     ensures { ((W : ℕ) → job.n ≤ W → W ≤ 128 → result ≡ length (exact_plan W job.n work.old)) × (plan.new ≡ laid_if job.writes plan.old job.at (bytes job.edition job.n (map (stretch job.unit) (exact_plan job.width job.n work.old)))) }
 {
     let n = job.n;
-    start(work, n, job.longest, lows, highs);
+    start(work, n, job.longest, rows);
     let width = job.width;
     let mut records: usize = 0;
     let mut seats = nobody(n);
     let mut remains = job.longest;
     let mut next = job.at;
     while 0 < remains {
-        let s = take_off(work, n, lows, highs, by, out, seats);
+        let s = take_off(work, n, rows, pairs, seats);
         seats = s.seats;
         remains -= s.hold as u64;
         let hold = (s.hold * job.unit) as u16;
-        next = put_if(job.writes, plan, next, job.edition, hold, n, &out[..width]);
+        next = put_if(
+            job.writes,
+            plan,
+            next,
+            job.edition,
+            hold,
+            n,
+            &pairs.out[..width],
+        );
         records += 1;
     }
     records

@@ -2,11 +2,13 @@
 use mathlib.Core.Path.{◌≡◌, sym, ap, ◌∙◌}
 use mathlib.Core.List.{List, [], ◌∷◌, ◌++◌}
 use mathlib.Core.Logic.{dite}
-use Prim.Native.Nat.{ℕ, ◌+◌, ◌*◌, ◌/◌, ◌%◌, ◌<◌, ◌≤◌}
+use Prim.Native.Nat.{ℕ, ◌+◌, ◌-◌, ◌*◌, ◌/◌, ◌%◌, ◌<◌, ◌≤◌}
 use native.Mathlib.Decide.{ℕ_discrete}
 use native.Mathlib.Nat.{mul-le-mul_left, div-add-mod'}
 use native.Mathlib.Omega.{arith}
-use lib.ListN.{length, get_or, set, length-set}
+use lib.ListN.{length, get_or, set, take, drop, length-set, length-take, length-drop}
+use Rattle.std.proofs.lemmas.List.{get_or-take, get_or-drop}
+use Rattle.records.proofs.Meaning.{output-byte}
 use lib.Arith.{digits_lt}
 use Rattle.counting.specs.Count.{δ}
 use Rattle.counting.proofs.Count.{δ-same, δ-other, δ-le}
@@ -35,6 +37,14 @@ unfolding cell
 cell-index N d k = ap (λ (i : ℕ). get_or d i 0) (div-add-mod' k N)
 
 -- ---- one record
+
+-- the outputs of the N inputs, as they are gone over
+module _ (N : ℕ) (b : List ℕ) (long : N + 4 ≤ length b) where
+  pub outputs-length : length (take (4 + N - 4) (drop 4 b)) ≡ N
+  outputs-length = simp (length-take, length-drop) (omega arith)
+
+  pub output-read : (i : ℕ) → i < N → output (decoded b) i ≡ get_or (take (4 + N - 4) (drop 4 b)) i 0
+  output-read i l = output-byte b i (omega arith) ∙ sym (get_or-take (4 + N - 4) (drop 4 b) i 0 (omega arith) ∙ get_or-drop 4 b i 0)
 
 -- the inputs below i have had their turn
 pub record Partly (N h : ℕ) (r : Record) (before after : List ℕ) (i : ℕ) : Type 0 where

@@ -3,34 +3,43 @@
 // asked. Which plans there are and what a well-formed record is stand below; what the grants are held against is left to the crates above.
 #![tactic(auto)]
 
-ghost use Rattle.std.specs.Prelude.{◌*◌};
+ghost use Rattle.std.specs.Prelude.{◌≡◌, ◌*◌};
 ghost use Rattle.records.specs.Record.{decoded};
 ghost use Rattle.records.specs.Bytes.{plan_from};
-ghost use Rattle.plans.specs.Reading.{Readable, Passed};
+ghost use Rattle.plans.specs.Read.{malformed};
+ghost use Rattle.plans.specs.Reading.{Readable, passing};
+ghost use Rattle.switch.specs.Plan.{total};
 ghost use Rattle.switch.specs.Demand.{Blank};
 ghost use Rattle.grants.specs.Grants.{Grants, Granting, Granted};
 
-use numbers::size_of_byte;
 use records::HEAD;
-use switch::{Counts, Edition, InputPort, OutputPort};
+use switch::{Edition, InputPort, OutputPort, Refusal};
 
 // One pass over a plan's first records, up to the first that is not well formed: each hold goes to the total and to the pairs that the record
 // joins.
-pub fn grant_plan(n: usize, plan: &[u8], e: Edition, records: usize, grants: &mut [u32]) -> Counts
+// k names the record in a refusal.
+pub fn grant_plan(
+    n: usize,
+    plan: &[u8],
+    e: Edition,
+    records: usize,
+    grants: &mut [u32],
+) -> Result<u64, Refusal>
     requires { Readable e n plan.now records × Blank (n * n) grants.old }
-    ensures { Passed e n plan.now records result.records result.total × Grants n (plan_from e.width plan.now 0 result.records) grants.new }
+    ensures told { result ≡ passing e n plan.now records total }
+    ensures granted { Grants n (plan_from e.width plan.now 0 (malformed e.width e.byte n plan.now records 0)) grants.new }
 {
     let mut total: u64 = 0;
     for k in 0..records {
         let rec = plans::record_at(plan, e.width, k);
         if !records::record_fine(rec, n, e.byte) {
-            return plans::counted(k, total, 0);
+            return Err(Refusal::Malformed(k));
         }
-        let hold = records::hold_of(rec);
-        grant_record(rec, n, hold as u32, grants);
-        total += hold as u64;
+        let hold = u32::from(records::hold_of(rec));
+        grant_record(rec, n, hold, grants);
+        total += u64::from(hold);
     }
-    plans::counted(records, total, 0)
+    Ok(total)
 }
 
 // Adds a record's hold to the grant of each pair that the record joins. An idle input's 255 is no output.
@@ -38,8 +47,9 @@ pub fn grant_record(rec: &[u8], n: usize, hold: u32, grants: &mut [u32])
     requires { Granting n rec.now hold grants.old }
     ensures { Granted n hold (decoded rec.now) grants.old grants.new }
 {
-    for i in 0..n {
-        let j = size_of_byte(rec[HEAD + i]);
+    let outputs = &rec[HEAD..HEAD + n];
+    for (i, b) in outputs.iter().enumerate() {
+        let j = usize::from(*b);
         if j < n {
             let at = demand::cell_at(n, InputPort(i), OutputPort(j));
             grants[at] += hold;

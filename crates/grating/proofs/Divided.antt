@@ -1,5 +1,7 @@
 -- The exact call takes the quotients and has room for its plan of them, so what it writes reads back as that plan; and that, each record u
 -- times as long, is the first part.
+use Rattle.std.specs.Prelude.{Err, Ok}
+use Rattle.switch.specs.declared.Refusal.{Refusal}
 use mathlib.Core.Path.{◌≡◌, refl, sym, ap, ap₂, ◌∙◌}
 use mathlib.Core.List.{List, ◌++◌, map}
 use Prim.Native.Nat.{ℕ, ◌+◌, ◌*◌, ◌/◌, ◌≤◌}
@@ -7,7 +9,7 @@ use native.Mathlib.Omega.{arith}
 use lib.ListN.{length}
 use Rattle.switch.specs.declared.Edition.{Edition}
 use Rattle.switch.specs.declared.Counts.{Counts}
-use Rattle.switch.specs.declared.Outcome.{Outcome}
+use Rattle.switch.specs.Outcome.{Outcome}
 use Rattle.switch.specs.Answer.{demand_counts, counts_of}
 use Rattle.switch.specs.Empty.{empty_slots}
 use Rattle.switch.specs.Demand.{cell, longest}
@@ -44,6 +46,13 @@ module _ {E : Edition} {N T u : ℕ} {d q : List ℕ} (v : Divided E N T u d q) 
   module _ (buf : List ℕ) (room : E.ports ≤ whole E.width buf) where
     written : planned E N q plan buf ≡ writes E N S (empty_slots N (cell N q) plan) plan buf
     written = planned-done E N q plan buf S (sym (fine E.ports N q (some-ports E.ports N (asked v).some (asked v).few) (size v) (small v refl))) (omega (arith, few, room))
+
+    -- the exact call refuses nothing
+    pub unrefused : {o : Outcome} {r : Refusal} → o ≡ (planned E N q plan buf).outcome → o ≡ Err r → ⊥
+    unfolding writes
+    unrefused {o} outcome-is e =
+        let done : o ≡ Ok (demand_counts (length plan) S (total plan) (empty_slots N (cell N q) plan)) = outcome-is ∙ ap (λ (x : Result). x.outcome) written in
+        let z : ◌≡◌ {A = ℕ} 0 1 = cc in omega arith
 
     -- what the exact call leaves
     module _ {o : Outcome} {after : List ℕ} {c : Counts} (outcome-is : o ≡ (planned E N q plan buf).outcome) (bytes-are : after ≡ (planned E N q plan buf).bytes)

@@ -1,5 +1,5 @@
 -- Inner: what the code is told of the first part, which stands as a plan of its own in a buffer. Definitions only.
-use Rattle.std.specs.Prelude.{◌≡◌, List, ◌++◌, map, ℕ, ◌*◌, ◌≤◌, length}
+use Rattle.std.specs.Prelude.{◌≡◌, List, ◌++◌, map, ℕ, ◌+◌, ◌*◌, ◌/◌, ◌≤◌}
 use Rattle.switch.specs.declared.Edition.{Edition}
 use Rattle.switch.specs.Editions.{Bounded}
 use Rattle.switch.specs.Plan.{Record, total}
@@ -23,10 +23,11 @@ pub record First (W u : ℕ) (first : List ℕ) (records sum : ℕ) : Type 0 whe
   pub sum_is : sum ≡ total (plan_from W first 0 records)
   pub small : sum * u ≤ 65535
 
--- what the planner is lent for the largest switch of an edition, and for smaller ones
-pub record Lent (E : Edition) (quotients work holds first : List ℕ) : Type 0 where
+-- so many cells, holds and bytes have room for the quotients, the anti-rotations and the first part of an edition's largest switch
+pub record Roomy (E : Edition) (cells holds first : ℕ) : Type 0 where
   pub bounded : Bounded E
-  pub divided : E.ports * E.ports ≤ length quotients
-  pub copied : E.ports * E.ports ≤ length work
-  pub held : E.ports ≤ length holds
-  pub parted : E.ports ≤ whole E.width first
+  pub divided : E.ports * E.ports ≤ cells
+  pub held : E.ports ≤ holds
+  pub parted : E.ports ≤ first / (E.width + 4)
+  -- and fit an array
+  pub few : (cells ≤ 16384) × (holds ≤ 128) × (first ≤ 65536)

@@ -4,24 +4,22 @@
 // does to the wavelengths is told by the crate wavelengths.
 #![tactic(auto)]
 
-ghost use Rattle.std.specs.Prelude.{◌≡◌, ◌+◌, ◌*◌, ◌≤◌, length};
+ghost use Rattle.std.specs.Prelude.{◌≡◌, ◌+◌, ◌*◌, ◌≤◌, length, Ok};
 ghost use Rattle.switch.specs.Editions.{first_edition, Bounded};
 ghost use Rattle.switch.specs.Result.{Gives};
-ghost use Rattle.switch.specs.declared.Outcome.TheVariants.{Done};
 ghost use Rattle.switch.specs.Answer.{plan_counts};
-ghost use Rattle.demand.specs.declared.Checked.TheVariants.{Fine};
 ghost use Rattle.demand.specs.Check.{check_demand};
 ghost use Rattle.switch.specs.Plan.{total};
 ghost use Rattle.records.specs.Bytes.{whole, plan_from, bytes, laid};
 ghost use Rattle.planner.specs.Planned.{room_for};
 ghost use Rattle.turns.specs.Second.{Table};
 ghost use Rattle.grating.specs.Grating.{grating_planned};
-ghost use Rattle.grating.specs.Parts.{stretched, made_parts, First, Lent};
+ghost use Rattle.grating.specs.Parts.{stretched, made_parts, First, Roomy};
 
-use demand::{Checked, check_demand};
+use demand::check_demand;
 use plans::record_at;
 use records::{HEAD, hold_of, put_record};
-use switch::{Counts, Edition, Outcome, PORTS, Refusal, numbers_of};
+use switch::{Counts, Edition, Outcome, PORTS, Refusal};
 use turns::{Rule, Turning};
 
 // The cells of a switch of 64 ports.
@@ -34,69 +32,49 @@ const FIRST: usize = 4352;
 pub fn grating_doubled(n: usize, cells: &[u32], plan: &mut [u8]) -> Outcome
     ensures { Gives (grating_planned first_edition n cells.now plan.old) result plan.new }
 {
-    let mut quotients = [0u32; CELLS];
-    let mut work = [0u32; CELLS];
-    let mut holds = [0u16; PORTS];
-    let mut first = [0u8; FIRST];
-    plan_for(
-        switch::first_edition(),
+    plan_for::<CELLS, PORTS, FIRST>(switch::first_edition(), n, cells, plan)
+}
+
+// The same plan of an edition. It has, for the edition's largest switch, `C` cells for the quotients, as has the exact call's working copy,
+// a hold for each of `P` anti-rotations, and `F` bytes for the first part, which has no more records than there are ports.
+pub fn plan_for<const C: usize, const P: usize, const F: usize>(
+    e: Edition,
+    n: usize,
+    cells: &[u32],
+    plan: &mut [u8],
+) -> Outcome
+    requires { Roomy e C P F }
+    ensures { Gives (grating_planned e n cells.now plan.old) result plan.new }
+{
+    let longest = check_demand(n, e.ports, cells)?;
+    let mut quotients = [0u32; C];
+    let mut holds = [0u16; P];
+    let mut first = [0u8; F];
+    let size = cells.len();
+    plan_fine::<C>(
+        e,
         n,
+        longest,
         cells,
-        &mut quotients,
-        &mut work,
-        &mut holds,
+        &mut quotients[..size],
+        &mut holds[..n],
         &mut first,
         plan,
     )
 }
 
-// The same plan of an edition. Lent beside it are, for its largest switch, the cells of the quotients and of the exact call's working copy,
-// a hold for each anti-rotation, and the first part, which has no more records than there are ports.
-pub fn plan_for(
-    e: Edition,
-    n: usize,
-    cells: &[u32],
-    quotients: &mut [u32],
-    work: &mut [u32],
-    holds: &mut [u16],
-    first: &mut [u8],
-    plan: &mut [u8],
-) -> Outcome
-    requires { Lent e quotients.old work.old holds.old first.old }
-    ensures { Gives (grating_planned e n cells.now plan.old) result plan.new }
-{
-    match check_demand(n, e.ports, cells) {
-        Checked::Faulty(r) => Outcome::Refused(r),
-        Checked::Fine(longest) => {
-            let size = cells.len();
-            plan_fine(
-                e,
-                n,
-                longest,
-                cells,
-                &mut quotients[..size],
-                work,
-                &mut holds[..n],
-                first,
-                plan,
-            )
-        }
-    }
-}
-
 // The same for a demand that nothing but the room can refuse. If T is 0, the plan is empty, and there is no u to divide by.
-fn plan_fine(
+fn plan_fine<const C: usize>(
     e: Edition,
     n: usize,
     longest: u64,
     cells: &[u32],
     quotients: &mut [u32],
-    work: &mut [u32],
     holds: &mut [u16],
     first: &mut [u8],
     plan: &mut [u8],
 ) -> Outcome
-    requires { (check_demand e.ports n cells.now ≡ Fine longest) × Bounded e × (length quotients.old ≡ length cells.now) × (e.ports * e.ports ≤ length work.old) × (length holds.old ≡ n) × (e.ports ≤ whole e.width first.old) }
+    requires { (check_demand e.ports n cells.now ≡ Ok longest) × Bounded e × (length quotients.old ≡ length cells.now) × ((e.ports * e.ports ≤ C) × (C ≤ 16384)) × (length holds.old ≡ n) × (e.ports ≤ whole e.width first.old) }
     ensures { Gives (grating_planned e n cells.now plan.old) result plan.new }
 {
     if longest == 0 {
@@ -111,17 +89,8 @@ fn plan_fine(
         quotients,
         holds,
     );
-    let made = numbers_of(exact::plan_for(e, n, quotients, work, first));
-    lay_parts(
-        e,
-        n,
-        unit,
-        first,
-        made.counts.records,
-        made.counts.total,
-        holds,
-        plan,
-    )
+    let made = exact::plan_for::<C>(e, n, quotients, first)?;
+    lay_parts(e, n, unit, first, made.records, made.total, holds, plan)
 }
 
 // Both parts, once it is known that there is room for both: so many records at the start of `first`, with the sum of their holds, and the
@@ -144,7 +113,7 @@ fn lay_parts(
     let width = e.width;
     let room = plan.len() / (width + HEAD);
     if room < need {
-        return Outcome::Refused(Refusal::Room(need));
+        return Err(Refusal::Room(need));
     }
     lay_first(e, n, unit, first, records, plan);
     turns::lay(
@@ -180,12 +149,12 @@ fn lay_first(e: Edition, n: usize, unit: u32, first: &[u8], records: usize, plan
 
 // A plan of so many records and so long in all is written.
 fn done(records: usize, total: u64) -> Outcome
-    ensures { result ≡ Done (plan_counts records 0 total) }
+    ensures { result ≡ Ok (plan_counts records 0 total) }
 {
-    Outcome::Done(Counts {
-        records: records,
+    Ok(Counts {
+        records,
         longest: 0,
-        total: total,
+        total,
         length: 0,
         empty: 0,
     })

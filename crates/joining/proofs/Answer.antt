@@ -1,13 +1,15 @@
 -- Joining case by case: a plan that is refused by itself changes nothing, and else the joined plan is laid where there is room for it.
+use Rattle.std.specs.Prelude.{Err, Ok}
 use mathlib.Core.Path.{◌≡◌, refl, sym, ap, ◌∙◌}
 use mathlib.Core.List.{List}
 use Prim.Native.Nat.{ℕ, ◌+◌, ◌*◌, ◌<◌, ◌≤◌}
 use native.Mathlib.Nat.{mul-le-mul_right}
 use native.Mathlib.Omega.{arith}
-use lib.ListN.{length, get_or}
+use lib.ListN.{length, take}
+use lib.Seq.{length-take-le}
+use Rattle.std.proofs.lemmas.List.{get_or-take}
 use Rattle.switch.specs.declared.Counts.{Counts}
-use Rattle.switch.specs.declared.Outcome.{Outcome}
-use Rattle.switch.specs.declared.Outcome.TheVariants.{Done, Refused}
+use Rattle.switch.specs.Outcome.{Outcome}
 use Rattle.switch.specs.declared.Refusal.{Refusal}
 use Rattle.switch.specs.declared.Refusal.TheVariants.{Room}
 use Rattle.switch.specs.Answer.{plan_counts}
@@ -25,7 +27,8 @@ use Rattle.switch.proofs.Result.{gives}
 use Rattle.planner.specs.Planned.{writes, room_for}
 use Rattle.planner.proofs.Planned.{no_room, room, written-outcome, written-bytes}
 use Rattle.tally.specs.Sums.{sums}
-use Rattle.tally.specs.Table.{entries_from, Listed}
+use Rattle.tally.specs.declared.Entry.{Entry}
+use Rattle.tally.specs.Table.{entry_at, entry_sums, Listed}
 use Rattle.joining.specs.Join.{cut, join_plan, joining}
 use Rattle.joining.proofs.Joined.{join-total, join-sound}
 
@@ -38,10 +41,10 @@ module _ (E : Edition) (N : ℕ) (plan buf : List ℕ) where
   after e = ap (λ (o : Outcome). after_reading o buf (λ c. room_for E N 0 0 result buf)) e
 
   -- codes 1, 9, 10 and 11
-  pub joining-refused : {r : Refusal} → Refused r ≡ checking E N plan → refuses r buf ≡ joining E N plan buf
+  pub joining-refused : {r : Refusal} → Err r ≡ checking E N plan → refuses r buf ≡ joining E N plan buf
   joining-refused e = after e
 
-  module _ {c : Counts} (fine : Done c ≡ checking E N plan) where
+  module _ {c : Counts} (fine : Ok c ≡ checking E N plan) where
     pub joining-room : room_for E N 0 0 result buf ≡ joining E N plan buf
     joining-room = after fine
 
@@ -53,10 +56,10 @@ module _ (E : Edition) (N : ℕ) (plan buf : List ℕ) where
     joining-done l = sym (room E N 0 0 result buf l) ∙ joining-room
 
 module _ (E : Edition) (N : ℕ) (plan buf : List ℕ) where
-  pub answers-refused : {r : Refusal} → Refused r ≡ checking E N plan → Gives (joining E N plan buf) (Refused r) buf
+  pub answers-refused : {r : Refusal} → Err r ≡ checking E N plan → Gives (joining E N plan buf) (Err r) buf
   answers-refused e = gives (sym (joining-refused E N plan buf e)) refl refl
 
-  module _ (bounded : Bounded E) (c : Counts) (fine : Done c ≡ checking E N plan) where
+  module _ (bounded : Bounded E) (c : Counts) (fine : Ok c ≡ checking E N plan) where
     abbrev W : ℕ
     W = E.width
 
@@ -73,18 +76,26 @@ module _ (E : Edition) (N : ℕ) (plan buf : List ℕ) where
     ports-few = omega (arith, known.few, bounded.ports, bounded.width)
 
     -- a table that lists the plan's sums
-    module _ (count : ℕ) (firsts totals : List ℕ) (t : Listed W plan c.records count firsts totals) where
+    module _ (count : ℕ) (entries : List Entry) (t : Listed W plan c.records count entries) where
+      abbrev table : List Entry
+      table = take count entries
+
       abbrev laying : List Record
-      laying = cut (entries_from W plan firsts totals 0 count)
+      laying = cut (entry_sums W plan table)
 
       table-cut : laying ≡ result E N plan buf
-      table-cut = cut_sums (entries_from W plan firsts totals 0 count) _ (t.lists ∙ ap (λ (m : ℕ). sums (plan_from W plan 0 m)) records-whole)
+      table-cut = cut_sums (entry_sums W plan table) _ (t.lists ∙ ap (λ (m : ℕ). sums (plan_from W plan 0 m)) records-whole)
         where
           cut_sums : (q p : List Record) → q ≡ sums p → cut q ≡ join_plan p
           cut_sums q p e = unfold join_plan in ap cut e
 
-      pub first-inside : (e : ℕ) → e < count → get_or firsts e 0 < whole W plan
-      first-inside e l = omega (arith, t.before e l, records-whole)
+      pub table-length : length table ≡ count
+      table-length = length-take-le count entries t.room
+
+      pub first-inside : (e : ℕ) → e < length table → (entry_at table e).first < whole W plan
+      first-inside e l =
+          let b : e < count = omega (arith, table-length) in
+          omega (arith, ap (λ (x : Entry). x.first) (get_or-take count entries e (record { first = 0; next = 0; total = 0 }) b), t.before e b, records-whole)
 
       pub table-room : (need : ℕ) → need ≡ length laying → need ≤ whole W buf → length (bytes E.byte N laying) ≤ length buf
       table-room need q l =
@@ -97,13 +108,13 @@ module _ (E : Edition) (N : ℕ) (plan buf : List ℕ) where
             whole-fits W buf,
           )
 
-      pub answers-short : (need : ℕ) → need ≡ length laying → whole W buf < need → Gives (joining E N plan buf) (Refused (Room need)) buf
+      pub answers-short : (need : ℕ) → need ≡ length laying → whole W buf < need → Gives (joining E N plan buf) (Err (Room need)) buf
       answers-short need q l =
           let e : need ≡ length (result E N plan buf) = q ∙ ap length table-cut in
-          gives (sym (joining-short E N plan buf fine (omega arith))) (ap {B = Outcome} (λ (k : ℕ). Refused (Room k)) e) refl
+          gives (sym (joining-short E N plan buf fine (omega arith))) (ap {B = Outcome} (λ (k : ℕ). Err (Room k)) e) refl
 
       pub answers-done : (need : ℕ) → need ≡ length laying → need ≤ whole W buf → (after : List ℕ) → after ≡ laid buf 0 (bytes E.byte N laying)
-          → Gives (joining E N plan buf) (Done (plan_counts need 0 c.total)) after
+          → Gives (joining E N plan buf) (Ok (plan_counts need 0 c.total)) after
       answers-done need q l after w =
           let e : need ≡ length (result E N plan buf) = q ∙ ap length table-cut in
           let sum : c.total ≡ total (result E N plan buf) = ap (λ (x : Counts). x.total) known.counts ∙ sym (join-total (plan_of W plan)) in

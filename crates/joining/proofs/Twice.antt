@@ -1,5 +1,6 @@
 -- What joining wrote, read back, is the joined plan, whose equal settings are joined: joined once more into any buffer it answers and leaves
 -- just what joining the plan itself does.
+use Rattle.std.specs.Prelude.{Err, Ok}
 use mathlib.Core.Path.{◌≡◌, refl, sym, ap, ◌∙◌}
 use mathlib.Core.List.{List}
 use Prim.Native.Nat.{ℕ, zero, suc, ◌+◌, ◌*◌, ◌<◌, ◌≤◌}
@@ -8,8 +9,7 @@ use native.Mathlib.Omega.{arith}
 use lib.ListN.{length, get_or, take, drop}
 use lib.Seq.{take_at, get_or-take, get_or-drop}
 use Rattle.switch.specs.declared.Counts.{Counts}
-use Rattle.switch.specs.declared.Outcome.{Outcome}
-use Rattle.switch.specs.declared.Outcome.TheVariants.{Done, Refused}
+use Rattle.switch.specs.Outcome.{Outcome}
 use Rattle.switch.specs.declared.Refusal.{Refusal}
 use Rattle.switch.specs.Answer.{plan_counts}
 use Rattle.switch.specs.Plan.{Record, total}
@@ -49,7 +49,7 @@ module _ (E : Edition) (bounds : Bounded E) (N : ℕ) (plan : List ℕ) (byte : 
   abbrev again : List Record
   again = join_plan (plan_of W plan)
 
-  module _ {c : Counts} (fine : Done c ≡ checking E N plan) where
+  module _ {c : Counts} (fine : Ok c ≡ checking E N plan) where
     known : Checked E N plan c
     known = checked E N plan bounds c fine
 
@@ -61,7 +61,7 @@ module _ (E : Edition) (bounds : Bounded E) (N : ℕ) (plan : List ℕ) (byte : 
     no_longer = omega (arith, join-records (holds-small W plan byte (whole W plan) 0), length-plan W plan 0 (whole W plan))
 
     -- it is well formed
-    pub joined-passes : checking E N (bytes E.byte N again) ≡ Done (plan_counts (length again) 0 (total again))
+    pub joined-passes : checking E N (bytes E.byte N again) ≡ Ok (plan_counts (length again) 0 (total again))
     joined-passes = bytes-pass E bounds N known.some known.few (omega (arith, no_longer, known.most)) sound
 
     -- joined once more, it gives the same
@@ -72,17 +72,17 @@ module _ (E : Edition) (bounds : Bounded E) (N : ℕ) (plan : List ℕ) (byte : 
         ∙ joining-room E N plan buf fine
 
   -- the records that a call wrote
-  module _ (buf : List ℕ) (c : Counts) (done : Done c ≡ (joining E N plan buf).outcome) where
+  module _ (buf : List ℕ) (c : Counts) (done : Ok c ≡ (joining E N plan buf).outcome) where
     abbrev wrote : List ℕ
     wrote = take (c.records * (W + 4)) (joining E N plan buf).bytes
 
     refused : {r : Refusal} {A : Type 0} → refuses r buf ≡ joining E N plan buf → A
     refused {r} e =
-        let q : Done c ≡ Refused r = done ∙ ap (λ (x : Result). x.outcome) (sym e) in
+        let q : Ok c ≡ Err r = done ∙ ap (λ (x : Result). x.outcome) (sym e) in
         let z : ◌≡◌ {A = ℕ} 0 1 = cc in
         absurd (let f : ⊥ = omega arith in f)
 
-    module _ {o : Counts} (fine : Done o ≡ checking E N plan) where
+    module _ {o : Counts} (fine : Ok o ≡ checking E N plan) where
       front : length again ≤ whole W buf → wrote ≡ bytes E.byte N again
       front l =
           let w = joining-done E N plan buf fine l in
@@ -90,10 +90,10 @@ module _ (E : Edition) (bounds : Bounded E) (N : ℕ) (plan : List ℕ) (byte : 
           ∙ ap (λ (x : Counts). x.records * (W + 4)) (sym (same (done ∙ ap (λ (x : Result). x.outcome) (sym w) ∙ counts))) in
           ap (λ (x : Result). take (c.records * (W + 4)) x.bytes) (sym w) ∙ ap (take (c.records * (W + 4))) written ∙ laid-first (bytes E.byte N again) _ size
         where
-          same : {x y : Counts} → Done x ≡ Done y → x ≡ y
+          same : {x y : Counts} → ◌≡◌ {A = Outcome} (Ok x) (Ok y) → x ≡ y
           same z = cc
 
-          counts : (writes E N 0 0 again buf).outcome ≡ Done (plan_counts (length again) 0 (total again))
+          counts : (writes E N 0 0 again buf).outcome ≡ Ok (plan_counts (length again) 0 (total again))
           counts = unfold writes in refl
 
           written : (writes E N 0 0 again buf).bytes ≡ laid buf 0 (bytes E.byte N again)
@@ -111,5 +111,5 @@ module _ (E : Edition) (bounds : Bounded E) (N : ℕ) (plan : List ℕ) (byte : 
     twice next = by (checking E N plan) refl
       where
         by : (o : Outcome) → o ≡ checking E N plan → joining E N wrote next ≡ joining E N plan next
-        by (Done x) q = by-room q (dec_lt (whole W buf) (length again)) next
-        by (Refused r) q = refused (joining-refused E N plan buf q)
+        by (Ok x) q = by-room q (dec_lt (whole W buf) (length again)) next
+        by (Err r) q = refused (joining-refused E N plan buf q)

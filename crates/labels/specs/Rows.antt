@@ -1,14 +1,17 @@
--- Inner: a label of outputs for each input, in two lists: the low words and the high words. Definitions only.
+-- Inner: a label of outputs for each input. Definitions only.
 use Rattle.std.specs.Prelude.{◌≡◌, ◌≢◌, List, ℕ, length, get_or}
-use Rattle.sets.specs.Wide.{two}
+use Rattle.labels.specs.Ports.{Outputs, outputs_of}
+
+-- no output
+abbrev pub nothing : Outputs
+nothing = record { numbers = record { low = record { 0 = 0 }; high = record { 0 = 0 } }; of = record {} }
 
 -- the label of input i
-abbrev pub row_of : (lows highs : List ℕ) (i : ℕ) → ℕ
-row_of lows highs i = two (get_or highs i 0) (get_or lows i 0)
+abbrev pub row_of : (rows : List Outputs) (i : ℕ) → ℕ
+row_of rows i = outputs_of (get_or rows i nothing)
 
 -- input i has the label l now, and every other input the one it had
-pub record RowPut (i l : ℕ) (lows highs lows' highs' : List ℕ) : Type 0 where
-  pub low : length lows' ≡ length lows
-  pub high : length highs' ≡ length highs
-  pub here : row_of lows' highs' i ≡ l
-  pub other : (k : ℕ) → k ≢ i → row_of lows' highs' k ≡ row_of lows highs k
+pub record RowPut (i l : ℕ) (rows rows' : List Outputs) : Type 0 where
+  pub size : length rows' ≡ length rows
+  pub here : row_of rows' i ≡ l
+  pub other : (k : ℕ) → k ≢ i → row_of rows' k ≡ row_of rows k

@@ -1,249 +1,206 @@
 // Labels: sets of ports, each a set of numbers under a type of its own, so that no function takes inputs for outputs; and a label of
-// outputs for each input. This is the fast set of the matching search, of the record check and of the wish list; what a port's being
-// in a set means is left to the callers.
+// outputs for each input. This is the fast set of the planners; what a port's being in a set means is left to the callers.
 #![tactic(auto)]
 
 ghost use Rattle.std.specs.Prelude.{◌≡◌, ℕ, ◌≤◌, ◌<◌, length};
 ghost use Rattle.sets.specs.Label.{In, Marked, Cleared, ClearedIf, Lowered, Union, But, Common, Below, From, Upto, Lowest, is_in};
-ghost use Rattle.labels.specs.Ports.{outputs_of, inputs_of, output_found, input_found, Untried};
+ghost use Rattle.labels.specs.Ports.{found, outputs_of, UntriedBy};
 ghost use Rattle.labels.specs.Rows.{row_of, RowPut};
 
-use sets::{Found, Label, Wide};
+use sets::{NumberSet, Wide};
+use std::marker::PhantomData;
 use switch::{InputPort, OutputPort};
 
-// A set of outputs.
+// A port, which stands in a set by its number.
+pub trait Port: Copy {
+    ghost number: { Self → ℕ };
+
+    fn number(self) -> usize
+        ensures { result ≡ number self };
+
+    // The port of this number.
+    fn at(k: usize) -> Self
+        ensures { number result ≡ k };
+}
+
+impl Port for InputPort {
+    ghost number = { λ i. i.0 };
+
+    fn number(self) -> usize {
+        self.0
+    }
+
+    fn at(k: usize) -> InputPort {
+        InputPort(k)
+    }
+}
+
+impl Port for OutputPort {
+    ghost number = { λ j. j.0 };
+
+    fn number(self) -> usize {
+        self.0
+    }
+
+    fn at(k: usize) -> OutputPort {
+        OutputPort(k)
+    }
+}
+
+// A set of ports of one side, P, as the set of their numbers.
 #[derive(Clone, Copy)]
-pub struct Outputs(pub Wide);
+pub struct PortSet<P, S> {
+    pub numbers: S,
+    of: PhantomData<P>,
+}
+
+// A set of outputs.
+pub type Outputs = PortSet<OutputPort, Wide>;
 
 // A set of inputs.
-#[derive(Clone, Copy)]
-pub struct Inputs(pub Wide);
+pub type Inputs = PortSet<InputPort, Wide>;
 
-// The lowest output of a set.
-#[derive(Clone, Copy)]
-pub enum FoundOutput {
-    At(OutputPort),
-    Nothing,
-}
-
-// The lowest input of a set.
-#[derive(Clone, Copy)]
-pub enum FoundInput {
-    At(InputPort),
-    Nothing,
-}
-
-impl Outputs {
-    // No output.
-    pub fn none() -> Outputs
-        ensures { (k : ℕ) → In (outputs_of result) k → ⊥ }
+impl<P: Port, S: NumberSet> PortSet<P, S> {
+    // The ports of these numbers.
+    pub fn of(numbers: S) -> PortSet<P, S>
+        ensures { result.numbers ≡ numbers }
     {
-        Outputs(Wide::none())
-    }
-
-    // Every output.
-    pub fn every() -> Outputs
-        ensures { (k : ℕ) → k < 128 → In (outputs_of result) k }
-    {
-        Outputs(Wide::every())
-    }
-
-    // Is output j in the set?
-    pub fn has(self, j: OutputPort) -> bool
-        requires { j.0 < 128 }
-        ensures { result ≡ is_in (outputs_of self) j.0 }
-    {
-        let s = self.0;
-        s.has(j.0)
-    }
-
-    // The set and output j besides.
-    pub fn mark(self, j: OutputPort) -> Outputs
-        requires { j.0 < 128 }
-        ensures { Marked (outputs_of self) j.0 (outputs_of result) }
-    {
-        let s = self.0;
-        Outputs(s.mark(j.0))
-    }
-
-    // The set without output j.
-    pub fn without(self, j: OutputPort) -> Outputs
-        requires { j.0 < 128 }
-        ensures { Cleared (outputs_of self) j.0 (outputs_of result) }
-    {
-        let s = self.0;
-        Outputs(s.without(j.0))
-    }
-
-    // The set without output j, where that is gone.
-    pub fn without_if(self, j: OutputPort, gone: bool) -> Outputs
-        requires { j.0 < 128 }
-        ensures { ClearedIf gone (outputs_of self) j.0 (outputs_of result) }
-    {
-        let s = self.0;
-        Outputs(s.without_if(j.0, gone))
-    }
-
-    // The set without its lowest output.
-    pub fn without_lowest(self) -> Outputs
-        ensures { Lowered (outputs_of self) (outputs_of result) }
-    {
-        let s = self.0;
-        Outputs(s.without_lowest())
-    }
-
-    // The outputs of both sets.
-    pub fn with(self, other: Outputs) -> Outputs
-        ensures { Union (outputs_of self) (outputs_of other) (outputs_of result) }
-    {
-        let s = self.0;
-        Outputs(s.with(other.0))
-    }
-
-    // The outputs of the set but those of the other.
-    pub fn but(self, other: Outputs) -> Outputs
-        ensures { But (outputs_of self) (outputs_of other) (outputs_of result) }
-    {
-        let s = self.0;
-        Outputs(s.but(other.0))
-    }
-
-    // The outputs that both sets have.
-    pub fn common(self, other: Outputs) -> Outputs
-        ensures { Common (outputs_of self) (outputs_of other) (outputs_of result) }
-    {
-        let s = self.0;
-        Outputs(s.common(other.0))
-    }
-
-    // The outputs of the set that are lower than j.
-    pub fn below(self, j: OutputPort) -> Outputs
-        requires { j.0 < 128 }
-        ensures { Below (outputs_of self) j.0 (outputs_of result) }
-    {
-        let s = self.0;
-        Outputs(s.below(j.0))
-    }
-
-    // The lowest output of the set.
-    pub fn lowest(self) -> FoundOutput
-        ensures { Lowest 128 (outputs_of self) (output_found result) }
-    {
-        let s = self.0;
-        let f = s.lowest();
-        match f {
-            Found::At(j) => FoundOutput::At(OutputPort(j)),
-            Found::Nothing => FoundOutput::Nothing,
+        PortSet {
+            numbers,
+            of: PhantomData,
         }
     }
 
-    // The lowest output of the set that is not tried.
-    pub fn lowest_untried(self, tried: Outputs) -> FoundOutput
-        ensures { Untried 128 (outputs_of self) (outputs_of tried) result }
+    // No port.
+    pub fn none() -> PortSet<P, S>
+        ensures { (k : ℕ) → In (S.numbers result.numbers) k → ⊥ }
+    {
+        PortSet::of(S::none())
+    }
+
+    // Every port.
+    pub fn every() -> PortSet<P, S>
+        ensures { (k : ℕ) → k < S.SIZE → In (S.numbers result.numbers) k }
+    {
+        PortSet::of(S::every())
+    }
+
+    // The first n ports.
+    pub fn first(n: usize) -> PortSet<P, S>
+        requires { n ≤ S.SIZE }
+        ensures { Upto n (S.numbers result.numbers) }
+    {
+        let every = S::every();
+        if n == S::SIZE {
+            return PortSet::of(every);
+        }
+        PortSet::of(every.below(n))
+    }
+
+    // Is port p in the set?
+    pub fn has(self, p: P) -> bool
+        requires { P.number p < S.SIZE }
+        ensures { result ≡ is_in (S.numbers self.numbers) (P.number p) }
+    {
+        self.numbers.has(p.number())
+    }
+
+    // The set and port p besides.
+    pub fn mark(self, p: P) -> PortSet<P, S>
+        requires { P.number p < S.SIZE }
+        ensures { Marked (S.numbers self.numbers) (P.number p) (S.numbers result.numbers) }
+    {
+        PortSet::of(self.numbers.mark(p.number()))
+    }
+
+    // The set without port p.
+    pub fn without(self, p: P) -> PortSet<P, S>
+        requires { P.number p < S.SIZE }
+        ensures { Cleared (S.numbers self.numbers) (P.number p) (S.numbers result.numbers) }
+    {
+        PortSet::of(self.numbers.without(p.number()))
+    }
+
+    // The set without port p, where that is gone.
+    pub fn without_if(self, p: P, gone: bool) -> PortSet<P, S>
+        requires { P.number p < S.SIZE }
+        ensures { ClearedIf gone (S.numbers self.numbers) (P.number p) (S.numbers result.numbers) }
+    {
+        PortSet::of(self.numbers.without_if(p.number(), gone))
+    }
+
+    // The set without its lowest port.
+    pub fn without_lowest(self) -> PortSet<P, S>
+        ensures { Lowered (S.numbers self.numbers) (S.numbers result.numbers) }
+    {
+        PortSet::of(self.numbers.without_lowest())
+    }
+
+    // The ports of both sets.
+    pub fn with(self, other: PortSet<P, S>) -> PortSet<P, S>
+        ensures { Union (S.numbers self.numbers) (S.numbers other.numbers) (S.numbers result.numbers) }
+    {
+        PortSet::of(self.numbers.with(other.numbers))
+    }
+
+    // The ports of the set but those of the other.
+    pub fn but(self, other: PortSet<P, S>) -> PortSet<P, S>
+        ensures { But (S.numbers self.numbers) (S.numbers other.numbers) (S.numbers result.numbers) }
+    {
+        PortSet::of(self.numbers.but(other.numbers))
+    }
+
+    // The ports that both sets have.
+    pub fn common(self, other: PortSet<P, S>) -> PortSet<P, S>
+        ensures { Common (S.numbers self.numbers) (S.numbers other.numbers) (S.numbers result.numbers) }
+    {
+        PortSet::of(self.numbers.common(other.numbers))
+    }
+
+    // The ports of the set that are lower than p.
+    pub fn below(self, p: P) -> PortSet<P, S>
+        requires { P.number p < S.SIZE }
+        ensures { Below (S.numbers self.numbers) (P.number p) (S.numbers result.numbers) }
+    {
+        PortSet::of(self.numbers.below(p.number()))
+    }
+
+    // The ports of the set that are not lower than p.
+    pub fn from(self, p: P) -> PortSet<P, S>
+        requires { P.number p < S.SIZE }
+        ensures { From (S.numbers self.numbers) (P.number p) (S.numbers result.numbers) }
+    {
+        PortSet::of(self.numbers.from(p.number()))
+    }
+
+    // The lowest port of the set.
+    pub fn lowest(self) -> Option<P>
+        ensures { Lowest S.SIZE (S.numbers self.numbers) (found P.number result) }
+    {
+        Some(P::at(self.numbers.lowest()?))
+    }
+
+    // The lowest port of the set that is not tried.
+    pub fn lowest_untried(self, tried: PortSet<P, S>) -> Option<P>
+        ensures { UntriedBy P.number S.SIZE (S.numbers self.numbers) (S.numbers tried.numbers) result }
     {
         let new = self.but(tried);
         new.lowest()
     }
 }
 
-impl Inputs {
-    // No input.
-    pub fn none() -> Inputs
-        ensures { (k : ℕ) → In (inputs_of result) k → ⊥ }
-    {
-        Inputs(Wide::none())
-    }
-
-    // The first n inputs.
-    pub fn first(n: usize) -> Inputs
-        requires { n ≤ 128 }
-        ensures { Upto n (inputs_of result) }
-    {
-        let every = Wide::every();
-        if n == 128 {
-            return Inputs(every);
-        }
-        Inputs(every.below(n))
-    }
-
-    // The set and input i besides.
-    pub fn mark(self, i: InputPort) -> Inputs
-        requires { i.0 < 128 }
-        ensures { Marked (inputs_of self) i.0 (inputs_of result) }
-    {
-        let s = self.0;
-        Inputs(s.mark(i.0))
-    }
-
-    // The set without input i.
-    pub fn without(self, i: InputPort) -> Inputs
-        requires { i.0 < 128 }
-        ensures { Cleared (inputs_of self) i.0 (inputs_of result) }
-    {
-        let s = self.0;
-        Inputs(s.without(i.0))
-    }
-
-    // The set without its lowest input.
-    pub fn without_lowest(self) -> Inputs
-        ensures { Lowered (inputs_of self) (inputs_of result) }
-    {
-        let s = self.0;
-        Inputs(s.without_lowest())
-    }
-
-    // The inputs of the set that are lower than i.
-    pub fn below(self, i: InputPort) -> Inputs
-        requires { i.0 < 128 }
-        ensures { Below (inputs_of self) i.0 (inputs_of result) }
-    {
-        let s = self.0;
-        Inputs(s.below(i.0))
-    }
-
-    // The inputs of the set that are not lower than i.
-    pub fn from(self, i: InputPort) -> Inputs
-        requires { i.0 < 128 }
-        ensures { From (inputs_of self) i.0 (inputs_of result) }
-    {
-        let s = self.0;
-        Inputs(s.from(i.0))
-    }
-
-    // The lowest input of the set.
-    pub fn lowest(self) -> FoundInput
-        ensures { Lowest 128 (inputs_of self) (input_found result) }
-    {
-        let s = self.0;
-        let f = s.lowest();
-        match f {
-            Found::At(i) => FoundInput::At(InputPort(i)),
-            Found::Nothing => FoundInput::Nothing,
-        }
-    }
-}
-
-// The label of input i: its two words stand in lists of their own.
-pub fn row_of(lows: &[u64], highs: &[u64], i: InputPort) -> Outputs
-    requires { (i.0 < length lows.now) × (i.0 < length highs.now) }
-    ensures { outputs_of result ≡ row_of lows.now highs.now i.0 }
+// The label of input i.
+pub fn row_of(rows: &[Outputs], i: InputPort) -> Outputs
+    requires { i.0 < length rows.now }
+    ensures { outputs_of result ≡ row_of rows.now i.0 }
 {
-    let k = i.0;
-    Outputs(Wide {
-        low: Label(lows[k]),
-        high: Label(highs[k]),
-    })
+    rows[i.0]
 }
 
 // Input i gets this label.
-pub fn put_row(lows: &mut [u64], highs: &mut [u64], i: InputPort, row: Outputs)
-    requires { (i.0 < length lows.old) × (i.0 < length highs.old) }
-    ensures { RowPut i.0 (outputs_of row) lows.old highs.old lows.new highs.new }
+pub fn put_row(rows: &mut [Outputs], i: InputPort, row: Outputs)
+    requires { i.0 < length rows.old }
+    ensures { RowPut i.0 (outputs_of row) rows.old rows.new }
 {
-    let k = i.0;
-    let words = row.0;
-    let low = words.low;
-    let high = words.high;
-    lows[k] = low.0;
-    highs[k] = high.0;
+    rows[i.0] = row;
 }

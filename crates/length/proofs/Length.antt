@@ -1,4 +1,5 @@
 -- A record is charged d or nothing, so no length is above total hold + d × number of records.
+use Rattle.std.specs.Prelude.{Ok, Err}
 use mathlib.Core.Path.{◌≡◌, refl, sym, ap, ◌∙◌}
 use mathlib.Core.Bool.{Bool, true, false, cond}
 use mathlib.Core.List.{List, []}
@@ -8,8 +9,7 @@ use lib.ListN.{length}
 use Rattle.counting.specs.Sum.{sum}
 use Rattle.counting.proofs.Sum.{sum-zero, sum-const, sum_mono}
 use Rattle.switch.specs.declared.Counts.{Counts}
-use Rattle.switch.specs.declared.Outcome.{Outcome}
-use Rattle.switch.specs.declared.Outcome.TheVariants.{Done}
+use Rattle.switch.specs.Outcome.{Outcome}
 use Rattle.switch.specs.Plan.{Record, total}
 use Rattle.switch.specs.declared.Edition.{Edition}
 use Rattle.plans.specs.Read.{opening}
@@ -17,9 +17,9 @@ use Rattle.records.specs.Record.{outputs}
 use Rattle.records.specs.Bytes.{record_at, whole, plan_from, plan_of}
 use Rattle.tally.specs.Sums.{same_outputs, setting_at}
 use Rattle.tally.proofs.Same.{same-yes, same-no, told_same, told-other}
-use Rattle.plans.specs.Reading.{Passed}
-use Rattle.length.specs.Length.{moves, charge, length_of, length_counts, plan_length, Charged}
-use Rattle.plans.proofs.Reading.{reading-whole}
+use Rattle.plans.specs.Reading.{passing}
+use Rattle.length.specs.Length.{moves, charge, length_of, length_counts, plan_length}
+use Rattle.plans.proofs.Reading.{reading-malformed, reading-whole, passed-all}
 use Rattle.plans.proofs.Read.{opened-records}
 use Rattle.plans.proofs.Plans.{length-plan}
 
@@ -87,24 +87,27 @@ module _ (d W : ℕ) (plan : List ℕ) where
   charged-moved (suc k) n l a b ea eb t e q =
       sym (charge-moved d read k (λ s. told-other a b t e q ((ea ∙ less k) ∙ sym (setting-read W plan k (omega arith)) ∙ s ∙ setting-read W plan (suc k) l ∙ sym eb)))
 
--- a pass that came to the plan's end
-pub length-done : (E : Edition) (N d : ℕ) (plan : List ℕ) {o : Counts} → Done o ≡ opening E N plan → (c : Counts) → Passed E N plan o.records c.records c.total
-    → Charged d (plan_of E.width plan) c → o.records ≤ c.records → Done c ≡ plan_length E d N plan
-unfolding plan_length
-length-done E N d plan {o} start c passed charged end =
-    ap {B = Outcome} (λ (x : Counts). Done x) counts ∙ reading-whole E N plan (λ p. Done (length_counts d p)) start c.records c.total passed end
+-- a pass over all records of a plan, whose holds and charges are summed
+pub counts-told : (E : Edition) (d : ℕ) (plan : List ℕ) (m t l : ℕ) → m ≡ whole E.width plan → t ≡ total (plan_from E.width plan 0 m)
+    → l ≡ t + sum m (charge d (plan_of E.width plan)) → record { records = m; longest = 0; total = t; length = l; empty = 0 } ≡ length_counts d (plan_from E.width plan 0 m)
+counts-told E d plan m t l all holds long = λ i. record { records = records i; longest = 0; total = holds i; length = whole-long i; empty = 0 }
   where
-    all : c.records ≡ whole E.width plan
-    all = omega (arith, passed.inside, opened-records E N plan o start)
+    records : m ≡ length (plan_from E.width plan 0 m)
+    records = sym (length-plan E.width plan 0 m)
 
-    records : c.records ≡ length (plan_of E.width plan)
-    records = all ∙ sym (length-plan E.width plan 0 (whole E.width plan))
+    whole-long : l ≡ length_of d (plan_from E.width plan 0 m)
+    whole-long = unfold length_of in omega (
+      arith,
+      long,
+      holds,
+      ap (λ (p : List Record). sum m (charge d p)) (ap (plan_from E.width plan 0) all),
+      ap (λ (i : ℕ). sum i (charge d (plan_from E.width plan 0 m))) records,
+    )
 
-    holds : c.total ≡ total (plan_of E.width plan)
-    holds = passed.holds ∙ ap (λ (i : ℕ). total (plan_from E.width plan 0 i)) all
-
-    long : c.length ≡ length_of d (plan_of E.width plan)
-    long = unfold length_of in omega (arith, charged.length, holds, ap (λ (m : ℕ). sum m (charge d (plan_of E.width plan))) records)
-
-    counts : c ≡ length_counts d (plan_of E.width plan)
-    counts = λ i. record { records = records i; longest = charged.longest i; total = holds i; length = long i; empty = charged.empty i }
+-- what the pass answers is what is asked
+pub length-done : (E : Edition) (N d : ℕ) (plan : List ℕ) {c : Counts} → Ok c ≡ opening E N plan → (o : Outcome) → o ≡ passing E N plan c.records (length_counts d) → o ≡ plan_length E d N plan
+unfolding plan_length
+length-done E N d plan {c} start (Err r) e = reading-malformed E N plan (λ p. Ok (length_counts d p)) (length_counts d) start e
+length-done E N d plan {c} start (Ok x) e =
+    ap {B = Outcome} (λ (y : Counts). Ok y) ((passed-all E N plan (length_counts d) start e).0 ∙ ap (λ (m : ℕ). length_counts d (plan_from E.width plan 0 m)) (opened-records E N plan c start))
+    ∙ reading-whole E N plan (λ p. Ok (length_counts d p)) (length_counts d) start e

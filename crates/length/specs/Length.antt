@@ -1,9 +1,9 @@
 -- The length of a plan where switching takes d slots (§11). Definitions only.
-use Rattle.std.specs.Prelude.{◌≡◌, Bool, true, not, cond, List, ℕ, zero, suc, ◌+◌, length}
+use Rattle.std.specs.Prelude.{Ok}
+use Rattle.std.specs.Prelude.{Bool, true, not, cond, List, ℕ, zero, suc, ◌+◌, length}
 use Rattle.counting.specs.Sum.{sum}
 use Rattle.switch.specs.declared.Counts.{Counts}
-use Rattle.switch.specs.declared.Outcome.{Outcome}
-use Rattle.switch.specs.declared.Outcome.TheVariants.{Done}
+use Rattle.switch.specs.Outcome.{Outcome}
 use Rattle.switch.specs.Plan.{Record, total}
 use Rattle.switch.specs.declared.Edition.{Edition}
 use Rattle.tally.specs.Sums.{same_outputs, setting_at}
@@ -28,10 +28,4 @@ length_counts d p = record { records = length p; longest = 0; total = total p; l
 
 -- codes 1, 9, 10, 11 in this order (§9.9)
 unfoldable pub plan_length : (E : Edition) (d N : ℕ) (plan : List ℕ) → Outcome
-plan_length E d N plan = reading E N plan (λ p. Done (length_counts d p))
-
--- inner: what a pass over plan p counted: the length of the records that it passed, no T and no empty slots
-pub record Charged (d : ℕ) (p : List Record) (c : Counts) : Type 0 where
-  pub longest : c.longest ≡ 0
-  pub empty : c.empty ≡ 0
-  pub length : c.length ≡ c.total + sum c.records (charge d p)
+plan_length E d N plan = reading E N plan (λ p. Ok (length_counts d p))

@@ -1,24 +1,24 @@
 -- The text case by case: what is refused is printed as refused, and else the plan that was written is what is printed.
+use Rattle.std.specs.Prelude.{Err, Ok}
 use mathlib.Core.Path.{◌≡◌, refl, sym, ap, ◌∙◌, subst}
 use mathlib.Core.Bool.{false}
 use mathlib.Core.List.{List}
-use Prim.Native.Nat.{ℕ, ◌+◌, ◌*◌, ◌<◌, ◌≤◌}
+use Prim.Native.Nat.{ℕ, ◌+◌, ◌*◌, ◌<◌, ◌≤◌, min}
+use native.Mathlib.Decide.{dec_le}
 use native.Mathlib.Omega.{arith}
 use lib.ListN.{length, take, drop, length-take}
 use lib.Seq.{take_at, take_all}
 use Rattle.switch.specs.declared.Refusal.{Refusal}
 use Rattle.switch.specs.declared.Refusal.TheVariants.{Ports}
 use Rattle.switch.specs.declared.Counts.{Counts}
-use Rattle.switch.specs.declared.Outcome.{Outcome}
-use Rattle.switch.specs.declared.Outcome.TheVariants.{Done, Refused}
+use Rattle.switch.specs.Outcome.{Outcome}
 use Rattle.switch.specs.Answer.{demand_counts}
 use Rattle.switch.specs.Demand.{cell}
 use Rattle.switch.specs.Check.{ports_fine}
 use Rattle.switch.specs.Plan.{Record, total}
 use Rattle.switch.specs.Empty.{empty_slots}
 use Rattle.switch.proofs.Check.{some-ports}
-use Rattle.demand.specs.declared.Checked.{Checked}
-use Rattle.demand.specs.declared.Checked.TheVariants.{Fine, Faulty}
+use Rattle.demand.specs.Checked.{Checked}
 use Rattle.demand.specs.Check.{check_demand, Asked}
 use Rattle.demand.proofs.Check.{fine-asked}
 use Rattle.records.specs.Bytes.{bytes, laid, plan_from}
@@ -43,7 +43,7 @@ pub record Written (N : ℕ) (d : List ℕ) (c : Counts) (after : List ℕ) : Ty
   pub text : plan_text N c (plan_from 64 (take (c.records * 68) after) 0 c.records) ≡ demand_text N d
   pub fits : length (demand_text N d) ≤ 16384
 
-never : {r : Refusal} {c : Counts} {A : Type 0} → Refused r ≡ Done c → A
+never : {r : Refusal} {c : Counts} {A : Type 0} → Err r ≡ Ok c → A
 never e = let z : ◌≡◌ {A = ℕ} 0 1 = cc in absurd (let f : ⊥ = omega arith in f)
 
 module _ (N : ℕ) (d buf : List ℕ) (small : N ≤ 16) (size : length buf ≡ 15368) where
@@ -53,7 +53,7 @@ module _ (N : ℕ) (d buf : List ℕ) (small : N ≤ 16) (size : length buf ≡ 
   abbrev answer : Result
   answer = planned first_edition N d plan buf
 
-  module _ (T : ℕ) (fine : check_demand 64 N d ≡ Fine T) where
+  module _ (T : ℕ) (fine : check_demand 64 N d ≡ Ok T) where
     asked : Asked 64 N T d
     asked = fine-asked 64 N T d fine
 
@@ -83,7 +83,7 @@ module _ (N : ℕ) (d buf : List ℕ) (small : N ≤ 16) (size : length buf ≡ 
       fits = rw text-is (text-fits N T d small asked);
     }
 
-    done-outcome : answer.outcome ≡ Done counts
+    done-outcome : answer.outcome ≡ Ok counts
     unfolding writes
     done-outcome = ap (λ (a : Result). a.outcome) done-is
 
@@ -91,8 +91,8 @@ module _ (N : ℕ) (d buf : List ℕ) (small : N ≤ 16) (size : length buf ≡ 
     unfolding writes
     done-bytes = ap (λ (a : Result). a.bytes) done-is
 
-  module _ (r : Refusal) (faulty : check_demand 64 N d ≡ Faulty r) where
-    refused-is : answer.outcome ≡ Refused r
+  module _ (r : Refusal) (faulty : check_demand 64 N d ≡ Err r) where
+    refused-is : answer.outcome ≡ Err r
     refused-is = ap (λ (a : Result). a.outcome) (planned-faulty first_edition N d plan buf r faulty)
 
     refused-text : demand_text N d ≡ refused_line r
@@ -100,25 +100,25 @@ module _ (N : ℕ) (d buf : List ℕ) (small : N ≤ 16) (size : length buf ≡ 
     refused-text = rw faulty
 
   -- the planner's two answers
-  pub demand-refused : (r : Refusal) → Refused r ≡ answer.outcome → refused_line r ≡ demand_text N d
+  pub demand-refused : (r : Refusal) → Err r ≡ answer.outcome → refused_line r ≡ demand_text N d
   demand-refused r q = by (check_demand 64 N d) refl
     where
       by : (k : Checked) → check_demand 64 N d ≡ k → refused_line r ≡ demand_text N d
-      by (Fine T) e = never (q ∙ done-outcome T e)
-      by (Faulty x) e = same (q ∙ refused-is x e) ∙ sym (refused-text x e)
+      by (Ok T) e = never (q ∙ done-outcome T e)
+      by (Err x) e = same (q ∙ refused-is x e) ∙ sym (refused-text x e)
         where
-          same : {a b : Refusal} → ◌≡◌ {A = Outcome} (Refused a) (Refused b) → refused_line a ≡ refused_line b
+          same : {a b : Refusal} → ◌≡◌ {A = Outcome} (Err a) (Err b) → refused_line a ≡ refused_line b
           same h = cc
 
-  pub demand-done : (c : Counts) (after : List ℕ) → Done c ≡ answer.outcome → after ≡ answer.bytes → Written N d c after
+  pub demand-done : (c : Counts) (after : List ℕ) → Ok c ≡ answer.outcome → after ≡ answer.bytes → Written N d c after
   demand-done c after q b = by (check_demand 64 N d) refl
     where
       by : (k : Checked) → check_demand 64 N d ≡ k → Written N d c after
-      by (Fine T) e = same (sym (q ∙ done-outcome T e)) (sym (b ∙ done-bytes T e)) (written T e)
+      by (Ok T) e = same (sym (q ∙ done-outcome T e)) (sym (b ∙ done-bytes T e)) (written T e)
         where
-          same : {x y : Counts} {u v : List ℕ} → Done x ≡ Done y → u ≡ v → Written N d x u → Written N d y v
+          same : {x y : Counts} {u v : List ℕ} → ◌≡◌ {A = Outcome} (Ok x) (Ok y) → u ≡ v → Written N d x u → Written N d y v
           same {x} {y} {u} {v} h g w = let e : x ≡ y = cc in subst (λ (k : Counts). Written N d k v) e (subst (λ (l : List ℕ). Written N d x l) g w)
-      by (Faulty x) e = never (sym (q ∙ refused-is x e))
+      by (Err x) e = never (sym (q ∙ refused-is x e))
 
 -- a wish list for 1 to 16 ports, which the call for up to 64 takes alike
 module _ (N : ℕ) (s cells : List ℕ) (some : 0 < N) (small : N ≤ 16) (size : length cells ≡ N * N) where
@@ -126,11 +126,11 @@ module _ (N : ℕ) (s cells : List ℕ) (some : 0 < N) (small : N ≤ 16) (size 
   unfolding outcome
   outcome-same = rw (some-ports 64 N some (omega arith), some-ports 16 N some small, size)
 
-  pub wish-refused : (r : Refusal) → Refused r ≡ outcome 64 N s (length cells) → refused_line r ≡ wish_text N s
+  pub wish-refused : (r : Refusal) → Err r ≡ outcome 64 N s (length cells) → refused_line r ≡ wish_text N s
   unfolding wish_text
   wish-refused r q = ap (wished_text N s) (q ∙ outcome-same)
 
-  pub wish-done : (c : Counts) → Done c ≡ outcome 64 N s (length cells) → demand_text N (cells_after 64 N s cells) ≡ wish_text N s
+  pub wish-done : (c : Counts) → Ok c ≡ outcome 64 N s (length cells) → demand_text N (cells_after 64 N s cells) ≡ wish_text N s
   unfolding wish_text cells_after
   wish-done c q = ap (λ (o : Outcome). demand_text N (cells_of N s cells o)) (sym q) ∙ ap (wished_text N s) (q ∙ outcome-same)
 
@@ -152,9 +152,16 @@ pub shown : (s t : List ℕ) (n : ℕ) → n ≡ length s → take n t ≡ s →
 shown s t n l e = (omega (arith, l, ap length e, length-take n t), l ∙ ap length (sym e))
 
 -- only the first 4,096 bytes count
-pub list-whole : (s : List ℕ) → length s ≤ 4096 → wish_text (ports_of s) s ≡ listing_of s
+first-bytes : (s : List ℕ) (m most : ℕ) → m ≡ min (length s) most → take m s ≡ take most s
+first-bytes s m most e = go (dec_le (length s) most)
+  where
+    go : Dec (length s ≤ most) → take m s ≡ take most s
+    go (yes l) = take_all m s (omega arith) ∙ sym (take_all most s l)
+    go (no g) = ap (λ (i : ℕ). take i s) (let same : m ≡ most = omega (arith, g) in same)
+
+pub list-part : (s : List ℕ) (m : ℕ) → m ≡ min (length s) 4096 → wish_text (ports_of (take m s)) (take m s) ≡ listing_of s
 unfolding listing_of
-list-whole s l = ap (λ (w : List ℕ). wish_text (ports_of w) w) (sym (take_all 4096 s l))
+list-part s m e = ap (λ (w : List ℕ). wish_text (ports_of w) w) (first-bytes s m 4096 e)
 
 pub list-first : (s : List ℕ) → wish_text (ports_of (take 4096 s)) (take 4096 s) ≡ listing_of s
 unfolding listing_of

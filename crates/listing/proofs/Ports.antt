@@ -1,14 +1,23 @@
 -- The number of ports is above every port of a record, and one above some, by induction over the records.
-use mathlib.Core.Path.{◌≡◌, refl, subst}
+use mathlib.Core.Path.{◌≡◌, refl, ap, ◌∙◌, subst}
 use mathlib.Core.Logic.{◌⊎◌, inl, inr, ⊎_elim, dite}
-use mathlib.Core.List.{List}
+use mathlib.Core.List.{List, []}
 use Prim.Native.Nat.{ℕ, zero, suc, ◌+◌, ◌*◌, ◌<◌, ◌≤◌, max}
 use native.Mathlib.Numerals.{add-one}
 use native.Mathlib.Omega.{arith}
 use native.Mathlib.Decide.{dec_lt, dec_le}
-use lib.ListN.{get_or}
+use lib.ListN.{get_or, drop}
+use lib.Seq.{get_or-take, get_or-drop}
+use Rattle.std.specs.Simd.{first_chunks}
 use Rattle.wishes.specs.Record.{record_at}
 use Rattle.listing.specs.Listing.{ports_in, PortsIn}
+
+-- byte j of the k-th of q pieces of eight
+pub piece-byte : (q k j : ℕ) (s : List ℕ) → k < q → j < 8 → get_or (get_or (first_chunks 8 q s) k []) j 0 ≡ get_or s (8 * k + j) 0
+piece-byte zero k j s l m = absurd (omega arith)
+piece-byte (suc q) zero j s l m = get_or-take 8 s j 0 m ∙ ap (λ (i : ℕ). get_or s i 0) (let e : j ≡ 8 * 0 + j = omega arith in e)
+piece-byte (suc q) (suc k) j s l m =
+    piece-byte q k j (drop 8 s) (omega arith) m ∙ get_or-drop 8 s (8 * k + j) 0 ∙ ap (λ (i : ℕ). get_or s i 0) (let e : 8 + (8 * k + j) ≡ 8 * suc k + j = omega arith in e)
 
 -- one record more
 pub ports-next : (s : List ℕ) (k i j : ℕ) → i ≡ get_or s (8 * k) 0 + 1 → j ≡ get_or s (8 * k + 1) 0 + 1 → max (max (ports_in s k) i) j ≡ ports_in s (k + 1)

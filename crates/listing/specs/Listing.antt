@@ -1,13 +1,12 @@
 -- What the lister prints for the bytes at its standard input (§14). Definitions only.
+use Rattle.std.specs.Prelude.{Err, Ok}
 use Rattle.std.specs.Prelude.{◌≡◌, ◌⊎◌, List, ℕ, zero, suc, ◌+◌, ◌*◌, ◌/◌, ◌<◌, max, length, take}
-use Rattle.switch.specs.declared.Outcome.{Outcome}
-use Rattle.switch.specs.declared.Outcome.TheVariants.{Done, Refused}
+use Rattle.switch.specs.Outcome.{Outcome}
 use Rattle.switch.specs.Answer.{demand_counts}
 use Rattle.switch.specs.Demand.{cell}
 use Rattle.switch.specs.Plan.{Record, total}
 use Rattle.switch.specs.Empty.{empty_slots}
-use Rattle.demand.specs.declared.Checked.{Checked}
-use Rattle.demand.specs.declared.Checked.TheVariants.{Fine, Faulty}
+use Rattle.demand.specs.Checked.{Checked}
 use Rattle.demand.specs.Check.{check_demand}
 use Rattle.rules.specs.Exact.{exact_plan}
 use Rattle.wishes.specs.Record.{record_at}
@@ -35,8 +34,8 @@ counted_text N T d p = plan_text N (demand_counts (length p) T (total p) (empty_
 
 -- It prints the exact plan, or what the planner refuses
 abbrev pub checked_text : ℕ → List ℕ → Checked → List ℕ
-checked_text N d (Fine T) = counted_text N T d (exact_plan 64 N d)
-checked_text N d (Faulty r) = refused_line r
+checked_text N d (Ok T) = counted_text N T d (exact_plan 64 N d)
+checked_text N d (Err r) = refused_line r
 
 -- of a demand
 unfoldable pub demand_text : (N : ℕ) (d : List ℕ) → List ℕ
@@ -44,8 +43,8 @@ demand_text N d = checked_text N d (check_demand 64 N d)
 
 -- what the wish list is refused for, or the text of its demand
 abbrev pub wished_text : ℕ → List ℕ → Outcome → List ℕ
-wished_text N s (Done c) = demand_text N (demand_of N s (length s / 8))
-wished_text N s (Refused r) = refused_line r
+wished_text N s (Ok c) = demand_text N (demand_of N s (length s / 8))
+wished_text N s (Err r) = refused_line r
 
 -- of a wish list for N ports; N 0 or over 16 is code 1
 unfoldable pub wish_text : (N : ℕ) (s : List ℕ) → List ℕ

@@ -8,8 +8,7 @@ ghost use Rattle.records.specs.Bytes.{laid};
 ghost use Rattle.text.specs.Put.{Put};
 ghost use Rattle.listing.specs.Listing.{ports_of, demand_text, wish_text, listing_of};
 
-use numbers::larger_size;
-use switch::{Outcome, Refusal};
+use switch::Refusal;
 use text::{put_plan, put_refusal};
 
 // What is behind so many bytes of the input does not count.
@@ -33,10 +32,8 @@ const RECORD: usize = 8;
 pub fn listing(input: &[u8], text: &mut [u8; TEXT]) -> usize
     ensures { (result ≡ length (listing_of input.now)) × (text.new ≡ laid text.old 0 (listing_of input.now)) × (take result text.new ≡ listing_of input.now) }
 {
-    if input.len() < LISTED {
-        return list_text(input, text);
-    }
-    list_text(&input[..LISTED], text)
+    let end = input.len().min(LISTED);
+    list_text(&input[..end], text)
 }
 
 // The text of a wish list, whole; code 1 where it names no port or too many.
@@ -45,10 +42,7 @@ fn list_text(list: &[u8], text: &mut [u8]) -> usize
     ensures { Put (wish_text (ports_of list.now) list.now) text.old 0 text.new result }
 {
     let n = ports_of(list);
-    if n == 0 {
-        return put_refusal(text, Refusal::Ports);
-    }
-    if PORTS < n {
+    if n == 0 || PORTS < n {
         return put_refusal(text, Refusal::Ports);
     }
     let mut cells = [0u32; CELLS];
@@ -60,12 +54,10 @@ fn list_text(list: &[u8], text: &mut [u8]) -> usize
 fn ports_of(list: &[u8]) -> usize
     ensures { result ≡ ports_of list.now }
 {
-    let count = list.len() / RECORD;
+    let (records, _) = list.as_chunks::<RECORD>();
     let mut n: usize = 0;
-    for k in 0..count {
-        let at = RECORD * k;
-        n = larger_size(n, above(list[at]));
-        n = larger_size(n, above(list[at + 1]));
+    for rec in records {
+        n = n.max(above(rec[0])).max(above(rec[1]));
     }
     n
 }
@@ -74,7 +66,7 @@ fn ports_of(list: &[u8]) -> usize
 fn above(port: u8) -> usize
     ensures { result ≡ port + 1 }
 {
-    port as usize + 1
+    usize::from(port) + 1
 }
 
 // The text of a wish list for n ports.
@@ -84,8 +76,8 @@ fn wish_text(n: usize, list: &[u8], cells: &mut [u32], text: &mut [u8]) -> usize
 {
     let outcome = wishes::wishes(n, list, cells);
     match outcome {
-        Outcome::Refused(refusal) => put_refusal(text, refusal),
-        Outcome::Done(_) => demand_text(n, cells, text),
+        Err(refusal) => put_refusal(text, refusal),
+        Ok(_) => demand_text(n, cells, text),
     }
 }
 
@@ -97,8 +89,8 @@ fn demand_text(n: usize, cells: &[u32], text: &mut [u8]) -> usize
     let mut plan = [0u8; PLAN];
     let outcome = exact::exact_plan(n, cells, &mut plan);
     match outcome {
-        Outcome::Refused(refusal) => put_refusal(text, refusal),
-        Outcome::Done(counts) => {
+        Err(refusal) => put_refusal(text, refusal),
+        Ok(counts) => {
             let end = counts.records * records::RECORD;
             put_plan(text, n, counts, &plan[..end])
         }

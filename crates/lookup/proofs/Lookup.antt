@@ -1,4 +1,5 @@
 -- Lookups case by case: which return is which case of the definition, and a record in force is one of its plan.
+use Rattle.std.specs.Prelude.{Err, Ok}
 use mathlib.Core.Path.{◌≡◌, refl, ap, subst}
 use mathlib.Core.Bool.{Bool, true, false, cond}
 use mathlib.Core.Logic.{dite}
@@ -12,8 +13,7 @@ use borrow.Author.Tests.{lt-ltb, le-ltb, eq-eqb, ne_eqb}
 use Rattle.switch.specs.declared.About.{About}
 use Rattle.switch.specs.declared.About.TheVariants as about
 use Rattle.switch.specs.declared.Counts.{Counts}
-use Rattle.switch.specs.declared.Outcome.{Outcome}
-use Rattle.switch.specs.declared.Outcome.TheVariants.{Done, Refused}
+use Rattle.switch.specs.Outcome.{Outcome}
 use Rattle.switch.specs.declared.Refusal.{Refusal}
 use Rattle.switch.specs.declared.Refusal.TheVariants.{Ports, NotInForce}
 use Rattle.switch.specs.Check.{ports_fine}
@@ -24,43 +24,41 @@ use Rattle.switch.specs.declared.Edition.{Edition}
 use Rattle.switch.specs.Editions.{Bounded}
 use Rattle.plans.specs.Read.{checking}
 use Rattle.plans.proofs.Plans.{checked, length-plan}
-use Rattle.lookup.specs.declared.Spot.{Spot}
-use Rattle.lookup.specs.declared.Spot.TheVariants as spot
 use Rattle.lookup.specs.Force.{in_force}
-use Rattle.lookup.specs.Lookup.{repeating, spot_in, after_plan, spot_of, Inside, Judged}
+use Rattle.lookup.specs.Lookup.{Answered, in_tonight, in_standby, refused, repeating, spot_in, after_plan, spot_of, Inside, Judged}
 use Rattle.lookup.proofs.Force.{in-force}
 
 -- the case of each return
 module _ (p s : List Record) (t : ℕ) where
-  pub spot-tonight : t < total p → spot.Tonight (in_force p t) ≡ spot_in p s t
+  pub spot-tonight : t < total p → in_tonight (in_force p t) ≡ spot_in p s t
   unfolding spot_in
   spot-tonight l = rw (lt-ltb _ _ l)
 
   module _ (over : total p ≤ t) where
-    pub spot-nothing : length s ≡ 0 → spot.Refused about.Nothing NotInForce ≡ spot_in p s t
+    pub spot-nothing : length s ≡ 0 → refused about.Nothing NotInForce ≡ spot_in p s t
     unfolding spot_in repeating
     spot-nothing e = rw (le-ltb _ _ over, eq-eqb _ _ e)
 
-    pub spot-standby : (length s ≡ 0 → ⊥) → spot.Standby (in_force s ((t - total p) % total s)) ≡ spot_in p s t
+    pub spot-standby : (length s ≡ 0 → ⊥) → in_standby (in_force s ((t - total p) % total s)) ≡ spot_in p s t
     unfolding spot_in repeating
     spot-standby n = rw (le-ltb _ _ over, ne_eqb _ _ n)
 
 -- a plan that is refused is named, and one that is not leaves the rest to say
-module _ (a : About) (s : Spot) {o : Outcome} where
-  pub plan-refused : {r : Refusal} → Refused r ≡ o → spot.Refused a r ≡ after_plan a o s
+module _ (a : About) (s : Answered) {o : Outcome} where
+  pub plan-refused : {r : Refusal} → Err r ≡ o → refused a r ≡ after_plan a o s
   plan-refused e = ap (λ (x : Outcome). after_plan a x s) e
 
-  pub plan-judged : {c : Counts} → Done c ≡ o → s ≡ after_plan a o s
+  pub plan-judged : {c : Counts} → Ok c ≡ o → s ≡ after_plan a o s
   plan-judged e = ap (λ (x : Outcome). after_plan a x s) e
 
 module _ (E : Edition) (N : ℕ) (tonight standby : List ℕ) (t : ℕ) where
-  abbrev pub within : Spot
+  abbrev pub within : Answered
   within = spot_in (plan_of E.width tonight) (plan_of E.width standby) t
 
-  abbrev pub after : Spot
+  abbrev pub after : Answered
   after = after_plan about.Standby (checking E N standby) within
 
-  pub of-ports : ports_fine E.ports N ≡ false → spot.Refused about.Nothing Ports ≡ spot_of E N tonight standby t
+  pub of-ports : ports_fine E.ports N ≡ false → refused about.Nothing Ports ≡ spot_of E N tonight standby t
   unfolding spot_of
   of-ports e = rw e
 
@@ -74,7 +72,7 @@ unfolding total
 total-some [] s l = absurd (omega arith)
 total-some (r ∷ p) (Each.more h s) l = omega (arith, h.held)
 
-module _ (E : Edition) (N : ℕ) (plan : List ℕ) (b : Bounded E) (c : Counts) (d : Done c ≡ checking E N plan) where
+module _ (E : Edition) (N : ℕ) (plan : List ℕ) (b : Bounded E) (c : Counts) (d : Ok c ≡ checking E N plan) where
   pub judged : Judged E.width plan c
   judged =
       let k = checked E N plan b c d in
@@ -101,7 +99,7 @@ module _ (p s : List Record) (t : ℕ) (held : 0 < length s → 0 < total s) (x 
 module _ (E : Edition) (N : ℕ) (tonight standby : List ℕ) (t : ℕ) (b : Bounded E) where
   -- as many records as a plan may have that no check refuses
   abbrev Few : List ℕ → ℕ → Type 0
-  Few plan x = (c : Counts) → Done c ≡ checking E N plan → whole E.width plan ≤ x
+  Few plan x = (c : Counts) → Ok c ≡ checking E N plan → whole E.width plan ≤ x
 
   inside_of : (x y : ℕ) → Few tonight x → Few standby y → Inside x y (spot_of E N tonight standby t)
   unfolding spot_of
@@ -109,15 +107,15 @@ module _ (E : Edition) (N : ℕ) (tonight standby : List ℕ) (t : ℕ) (b : Bou
     where
       judge : (d h : Outcome) → d ≡ checking E N tonight → h ≡ checking E N standby
           → Inside x y (after_plan about.Tonight d (after_plan about.Standby h (within E N tonight standby t)))
-      judge (Refused r) h d e = tt
-      judge (Done c) (Refused r) d e = tt
-      judge (Done c) (Done h) d e =
+      judge (Err r) h d e = tt
+      judge (Ok c) (Err r) d e = tt
+      judge (Ok c) (Ok h) d e =
           let size = length-plan E.width standby 0 (whole E.width standby) in
           inside-in (plan_of E.width tonight) (plan_of E.width standby) t (λ l. (judged E N standby b h e).held (omega (arith, size))) x y
           (omega (arith, f c d, length-plan E.width tonight 0 (whole E.width tonight))) (omega (arith, g h e, size))
 
       by-ports : (fine : Bool)
-          → Inside x y (cond fine (after_plan about.Tonight (checking E N tonight) (after E N tonight standby t)) (spot.Refused about.Nothing Ports))
+          → Inside x y (cond fine (after_plan about.Tonight (checking E N tonight) (after E N tonight standby t)) (refused about.Nothing Ports))
       by-ports true = judge (checking E N tonight) (checking E N standby) refl refl
       by-ports false = tt
 

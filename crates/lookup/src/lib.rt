@@ -6,14 +6,13 @@
 ghost use Rattle.std.specs.Prelude.{◌≡◌, ◌<◌, ◌≤◌};
 ghost use Rattle.records.specs.Bytes.{whole, plan_of};
 ghost use Rattle.switch.specs.Editions.{first_edition, Bounded};
-ghost use Rattle.plans.specs.Read.{checking};
 ghost use Rattle.lookup.specs.Force.{in_force};
-ghost use Rattle.lookup.specs.Lookup.{spot_in, spot_of, part_of, found_of, part_found, none_found, after_plan, Inside, Judged};
+ghost use Rattle.lookup.specs.Lookup.{spot_in, spot_of, part_of, found_of, part_found, none_found, Inside, Judged};
 
 use records::HEAD;
-use switch::{About, Counts, Edition, Outcome, Refusal};
+use switch::{About, Blamed, Counts, Edition, Outcome, Refusal};
 
-// The numbers of the two plans.
+// The numbers of the two plans, for an edge that knows numbers alone.
 const TONIGHT: u64 = 1;
 
 const STANDBY: u64 = 2;
@@ -25,8 +24,6 @@ pub enum Spot {
     Tonight(usize),
     // A record of the standby plan.
     Standby(usize),
-    // Why there is none, and which plan that is about.
-    Refused(About, Refusal),
 }
 
 // A lookup in numbers: bytes start .. start + size of plan 1, tonight's, or 2, standby's; all three are 0 where it is refused.
@@ -40,14 +37,14 @@ pub struct Found {
 }
 
 // The record in force at a slot, its own bytes out of one of the two plans; empty where the lookup is refused.
+// Its promise gives bytes in every case, so that they are no Option.
 pub fn part_in_force<'a>(n: usize, tonight: &'a [u8], standby: &'a [u8], slot: u64) -> &'a [u8]
     ensures { result.now ≡ part_of first_edition (spot_of first_edition n tonight.now standby.now slot) tonight.now standby.now }
 {
-    let spot = spot_of(n, tonight, standby, slot, switch::first_edition());
-    match spot {
-        Spot::Tonight(k) => plans::record_at(tonight, records::OUTPUTS, k),
-        Spot::Standby(k) => plans::record_at(standby, records::OUTPUTS, k),
-        Spot::Refused(_, _) => &tonight[0..0],
+    match spot_of(n, tonight, standby, slot, switch::first_edition()) {
+        Ok(Spot::Tonight(k)) => plans::record_at(tonight, records::OUTPUTS, k),
+        Ok(Spot::Standby(k)) => plans::record_at(standby, records::OUTPUTS, k),
+        Err(_) => &[],
     }
 }
 
@@ -60,14 +57,14 @@ pub fn find(n: usize, tonight: &[u8], standby: &[u8], slot: u64) -> Found
 }
 
 // A spot in numbers.
-fn found_of(spot: Spot, e: Edition) -> Found
+fn found_of(spot: Result<Spot, Blamed>, e: Edition) -> Found
     requires { Bounded e × Inside e.records e.records spot }
     ensures { result ≡ found_of e spot }
 {
     match spot {
-        Spot::Tonight(k) => part_found(TONIGHT, k, e.width + HEAD),
-        Spot::Standby(k) => part_found(STANDBY, k, e.width + HEAD),
-        Spot::Refused(about, r) => none_found(about, r),
+        Ok(Spot::Tonight(k)) => part_found(TONIGHT, k, e.width + HEAD),
+        Ok(Spot::Standby(k)) => part_found(STANDBY, k, e.width + HEAD),
+        Err(blamed) => none_found(blamed),
     }
 }
 
@@ -76,15 +73,8 @@ fn part_found(plan: u64, k: usize, size: usize) -> Found
     requires { (k < 65536) × (size ≤ 132) }
     ensures { result ≡ part_found plan k size }
 {
-    let counts = Counts {
-        records: 0,
-        longest: 0,
-        total: 0,
-        length: 0,
-        empty: 0,
-    };
     Found {
-        outcome: Outcome::Done(counts),
+        outcome: Ok(plans::counted(0, 0, 0)),
         about: About::Nothing,
         plan,
         start: k * size,
@@ -93,54 +83,41 @@ fn part_found(plan: u64, k: usize, size: usize) -> Found
 }
 
 // An empty part of no plan.
-fn none_found(about: About, r: Refusal) -> Found
-    ensures { result ≡ none_found about r }
+fn none_found(blamed: Blamed) -> Found
+    ensures { result ≡ none_found blamed.about blamed.refusal }
 {
     Found {
-        outcome: Outcome::Refused(r),
-        about,
+        outcome: Err(blamed.refusal),
+        about: blamed.about,
         plan: 0,
         start: 0,
         size: 0,
     }
 }
 
-// Where the record in force at a slot stands, in plans of an edition.
-pub fn spot_of(n: usize, tonight: &[u8], standby: &[u8], slot: u64, e: Edition) -> Spot
+// Where the record in force at a slot stands, in plans of an edition; or why there is none, and which plan that is about.
+pub fn spot_of(
+    n: usize,
+    tonight: &[u8],
+    standby: &[u8],
+    slot: u64,
+    e: Edition,
+) -> Result<Spot, Blamed>
     requires { Bounded e }
     ensures { result ≡ spot_of e n tonight.now standby.now slot }
 {
     if n == 0 {
-        return Spot::Refused(About::Nothing, Refusal::Ports);
+        return Err(Refusal::Ports.about(About::Nothing));
     }
     if e.ports < n {
-        return Spot::Refused(About::Nothing, Refusal::Ports);
+        return Err(Refusal::Ports.about(About::Nothing));
     }
-    match plans::check_plan(n, tonight, e) {
-        Outcome::Refused(r) => Spot::Refused(About::Tonight, r),
-        Outcome::Done(first) => spot_after(n, tonight, first, standby, slot, e),
-    }
+    let first = plans::check_plan(n, tonight, e).map_err(|r| r.about(About::Tonight))?;
+    let second = plans::check_plan(n, standby, e).map_err(|r| r.about(About::Standby))?;
+    spot_in(tonight, first, standby, second, slot, e.width)
 }
 
-// Where tonight's plan is judged.
-fn spot_after(
-    n: usize,
-    tonight: &[u8],
-    first: Counts,
-    standby: &[u8],
-    slot: u64,
-    e: Edition,
-) -> Spot
-    requires { Bounded e × Judged e.width tonight.now first }
-    ensures { result ≡ after_plan About.Standby (checking e n standby.now) (spot_in (plan_of e.width tonight.now) (plan_of e.width standby.now) slot) }
-{
-    match plans::check_plan(n, standby, e) {
-        Outcome::Refused(r) => Spot::Refused(About::Standby, r),
-        Outcome::Done(second) => spot_in(tonight, first, standby, second, slot, e.width),
-    }
-}
-
-// Where both are. The standby plan starts where tonight's is over, and repeats.
+// Where both plans are judged. The standby plan starts where tonight's is over, and repeats.
 fn spot_in(
     tonight: &[u8],
     first: Counts,
@@ -148,29 +125,31 @@ fn spot_in(
     second: Counts,
     slot: u64,
     width: usize,
-) -> Spot
+) -> Result<Spot, Blamed>
     requires { (width ≤ 128) × Judged width tonight.now first × Judged width standby.now second }
     ensures { result ≡ spot_in (plan_of width tonight.now) (plan_of width standby.now) slot }
 {
     if slot < first.total {
-        return Spot::Tonight(record_in_force(tonight, width, first.records, slot));
+        let k = record_in_force(tonight, width, first.records, slot);
+        return Ok(Spot::Tonight(k));
     }
     if second.records == 0 {
-        return Spot::Refused(About::Nothing, Refusal::NotInForce);
+        return Err(Refusal::NotInForce.about(About::Nothing));
     }
-    let past = slot - first.total;
-    let at = past % second.total;
-    Spot::Standby(record_in_force(standby, width, second.records, at))
+    let at = (slot - first.total) % second.total;
+    let k = record_in_force(standby, width, second.records, at);
+    Ok(Spot::Standby(k))
 }
 
 // The record in force at a slot of a plan: one pass over the holds, which ends there; the number of records where all are over by then.
+// No call comes that late, so that an Option would only be taken apart again.
 fn record_in_force(plan: &[u8], width: usize, records: usize, slot: u64) -> usize
     requires { (width ≤ 128) × (records ≡ whole width plan.now) }
     ensures { result ≡ in_force (plan_of width plan.now) slot }
 {
     let mut left = slot;
     for k in 0..records {
-        let hold = records::hold_of(plans::record_at(plan, width, k)) as u64;
+        let hold = u64::from(records::hold_of(plans::record_at(plan, width, k)));
         if left < hold {
             return k;
         }

@@ -1,21 +1,29 @@
 -- Inputs are seated one after the other: each that asks keeps the others seated, and one that is stuck shows that no full setting keeps what is fixed.
-use mathlib.Core.Path.{◌≡◌, sym, ap, subst, ◌∙◌}
+use Rattle.labels.specs.Ports.{Outputs}
+use Rattle.std.specs.Prelude.{Err, Ok}
+use mathlib.Core.Path.{◌≡◌, sym, subst, ◌∙◌}
 use mathlib.Core.Logic.{◌⊎◌, inl, inr, ⊎_elim}
 use mathlib.Core.List.{List}
 use Prim.Native.Nat.{ℕ, ◌+◌, ◌<◌, ◌≤◌}
 use native.Mathlib.Omega.{arith}
-use lib.ListN.{length, get_or, set}
+use lib.ListN.{get_or, set}
 use lib.Seq.{get_or-set_other}
 use Rattle.sets.specs.Label.{In, Marked, Cleared}
 use Rattle.sets.proofs.Digits.{same_or}
 use Rattle.search.specs.Tables.{Held, Holds, joined, Matching}
 use Rattle.search.specs.Search.{Free, AskPre, Around, Gained, Moved, Unmoved}
-use Rattle.matching.specs.Chosen.{Fixed, AllHeld, NoneKeeps, Seating, SeatPre, SeatPost}
-use Rattle.matching.specs.declared.Placed.{Placed}
-use Rattle.matching.specs.declared.Placed.TheVariants.{Taken, Refused}
+use Rattle.matching.specs.Chosen.{Fixed, AllHeld, NoneKeeps, Seating, SeatPre}
+use Rattle.std.specs.declared.result.Result.{Result}
 use Rattle.search.proofs.Tables.{held-not-free, taken-good}
 use Rattle.search.proofs.Search.{take-gains}
 use Rattle.matching.proofs.Closed.{not_there}
+
+abbrev is-ok : {A B : Type 0} → Result A B → Type 0
+is-ok (Ok x) = Unit {0}
+is-ok (Err x) = ⊥
+
+pub ok-err : {A B : Type 0} {x : A} {y : B} → ◌≡◌ {A = Result A B} (Ok x) (Err y) → ⊥
+ok-err e = subst is-ok e tt
 
 -- below i + 1 is below i, or i
 pub one_more : (P : ℕ → Type 0) (i : ℕ) → ((m : ℕ) → m < i → P m) → P i → (m : ℕ) → m < i + 1 → P m
@@ -103,13 +111,3 @@ seats-more w n E by out known fixed rest i s by' out' known' rest' good free g c
 -- one is refused: what is fixed is held as it was at the start
 pub none-through : (n : ℕ) (E : ℕ → ℕ → Type 0) (by₀ out₀ by out : List ℕ) (fixed : ℕ) → Around n by₀ out₀ fixed by out → NoneKeeps n E by fixed → NoneKeeps n E by₀ fixed
 none-through n E by₀ out₀ by out fixed a f o g k = f o g (λ j m x h. k j m x (sym (a.still j x) ∙ h))
-
--- what comes of seating leaves the tables as long as they were
-module _ (w n : ℕ) (E : ℕ → ℕ → Type 0) (by out : List ℕ) (fixed i : ℕ) (by' out' : List ℕ) (g : Matching w n E by out) where
-  pub seat-holders : (s : Placed) → SeatPost w n E by out fixed i by' out' s → length by' ≡ length by
-  seat-holders (Taken k) p = p.0.holders ∙ sym g.holders
-  seat-holders (Refused k) p = ap length p.0
-
-  pub seat-outputs : (s : Placed) → SeatPost w n E by out fixed i by' out' s → length out' ≡ length out
-  seat-outputs (Taken k) p = p.0.outputs ∙ sym g.outputs
-  seat-outputs (Refused k) p = ap length p.1

@@ -1,6 +1,8 @@
 -- The inputs in front keep their outputs while the others are joined around them; where that cannot be, fewer do, and with none it can always be.
 use mathlib.Core.Path.{◌≡◌, refl, sym, subst, ◌∙◌}
-use mathlib.Core.Bool.{Bool, true, false}
+use Rattle.std.specs.Prelude.{⊤, Ok, Err}
+use Rattle.std.specs.declared.result.Result.{Result}
+use Rattle.labels.specs.Ports.{Outputs}
 use mathlib.Core.Logic.{inl}
 use mathlib.Core.List.{List}
 use Prim.Native.Nat.{ℕ, zero, suc, ◌<◌, ◌≤◌}
@@ -45,7 +47,7 @@ module _ (w n : ℕ) (E : ℕ → ℕ → Type 0) (by₀ out₀ : List ℕ) (kno
       got = λ m l. subst (In fixed) (p.same m l) (f.got m l);
     }
 
-    module _ (by' out' : List ℕ) (known' waiting' : ℕ) (b : Bool) (c : CompletePost w n E by out fixed waiting by' out' known' waiting' b) where
+    module _ (by' out' : List ℕ) (known' waiting' : ℕ) (b : Result ⊤ Outputs) (c : CompletePost w n E by out fixed waiting by' out' known' waiting' b) where
       -- what is fixed is as it was
       still : (m : ℕ) → m < firm → joined out' m ≡ joined out m
       still m l = c.seating.good.paired (joined out m) m (c.around.still (joined out m) (f.got m l) ∙ firm-held m l)
@@ -58,7 +60,7 @@ module _ (w n : ℕ) (E : ℕ → ℕ → Type 0) (by₀ out₀ : List ℕ) (kno
       prefix = record { from = λ k x. let a = f.from k x in (a.0, a.1, still a.0 a.1 ∙ a.2); got = λ m l. subst (In fixed) (sym (still m l)) (f.got m l) }
 
       -- all are seated: it remains to settle those behind
-      pub firm-settles : b ≡ true → Settled w n E by' out' fixed firm
+      pub firm-settles : b ≡ Ok tt → Settled w n E by' out' fixed firm
       firm-settles e = record { good = c.seating.good; all = λ m l. c.seating.begun m l (c.all e m); prefix = prefix; best = best }
         where
           best : (m : ℕ) → m < firm → Best n E out' m
@@ -68,18 +70,18 @@ module _ (w n : ℕ) (E : ℕ → ℕ → Type 0) (by₀ out₀ : List ℕ) (kno
               rw (as_first m l) z
 
       -- one was refused: something was fixed, and fewer are to be
-      firm-some : b ≡ false → 0 < firm
-      firm-some e = go firm refl
+      firm-some : (met : Outputs) → b ≡ Err met → 0 < firm
+      firm-some met e = go firm refl
         where
           go : (x : ℕ) → firm ≡ x → 0 < x
-          go zero z = absurd (c.none e r.some.0 r.some.1 (λ k m x h. let l = (f.from k x).1 in absurd (omega arith)))
+          go zero z = absurd (c.none met e r.some.0 r.some.1 (λ k m x h. let l = (f.from k x).1 in absurd (omega arith)))
           go (suc x) z = omega arith
 
-      pub firm-gives : kept ≤ w → b ≡ false → GivePre w n E by' out' known' fixed firm
-      firm-gives wide e = record {
+      pub firm-gives : kept ≤ w → (met : Outputs) → b ≡ Err met → GivePre w n E by' out' known' fixed firm
+      firm-gives wide met e = record {
         good = c.seating.good;
         free = c.seating.free;
-        some = firm-some e;
+        some = firm-some met e;
         short = omega (arith, p.short);
         prefix = prefix;
         held = λ m l. rw (still m l) (c.around.still (joined out m) (f.got m l) ∙ firm-held m l);
@@ -116,10 +118,10 @@ module _ (w n : ℕ) (E : ℕ → ℕ → Type 0) (by₀ out₀ : List ℕ) (kno
           fits = record { full = record { inside = λ i l. r.inside i (joined out'' i) l (used i l); once = once }; used = used }
 
 -- what the inputs past the last that waited may go back to
-pub behind : (w n : ℕ) (E : ℕ → ℕ → Type 0) (by out before : List ℕ) (known waiting last : ℕ) → Ready w n E by out known waiting → before ≡ out → ((m : ℕ) → In waiting m → m < last) → Behind w n E before last
-behind w n E by out before known waiting last r e l = rw e (record {
+pub behind : (w n : ℕ) (E : ℕ → ℕ → Type 0) (by out : List ℕ) (known waiting last : ℕ) → Ready w n E by out known waiting → ((m : ℕ) → In waiting m → m < last) → Behind w n E out last
+behind w n E by out known waiting last r l = record {
   size = r.seating.good.outputs;
   inside = r.inside;
   former = λ m h q. r.former m q (λ x. let z = l m x in omega arith);
   used = λ m h q. r.seating.good.edge (joined out m) m (told w n E by out m r.seating.good (r.seating.begun m q (λ x. let z = l m x in omega arith)));
-})
+}

@@ -1,4 +1,5 @@
 -- What is met is come to through holders that do not keep their outputs; and whatever is come to with more inputs kept is come to with fewer.
+use Rattle.std.specs.Prelude.{None, Some}
 use mathlib.Core.Path.{◌≡◌, subst, ◌∙◌}
 use mathlib.Core.Logic.{◌⊎◌, inl, inr, ⊎_elim}
 use mathlib.Core.List.{List}
@@ -7,8 +8,8 @@ use native.Mathlib.Decide.{dec_le}
 use native.Mathlib.Omega.{arith}
 use Rattle.sets.specs.Label.{In, Union, But, Cleared}
 use Rattle.labels.specs.Ports.{UntriedAt}
-use Rattle.labels.specs.declared.FoundOutput.{FoundOutput}
-use Rattle.labels.specs.declared.FoundOutput.TheVariants.{At, Nothing}
+use Rattle.std.specs.declared.option.Option.{Option}
+use Rattle.switch.specs.declared.OutputPort.{OutputPort}
 use Rattle.search.specs.Tables.{Held, joined}
 use Rattle.search.specs.Search.{Leads}
 use Rattle.search.proofs.Tables.{one-holder}
@@ -53,18 +54,18 @@ module _ (w n : ℕ) (E : ℕ → ℕ → Type 0) (by out : List ℕ) (held fixe
 
     module _ (wave further : ℕ) (b : But met seen wave) where
       -- what a wave leads to is come to: its holders do not keep their outputs
-      pub led-to : (f : FoundOutput) → Leads E by wave f further → Way E by firm first ⊎ ((k : ℕ) → In further k → Reached E by firm first k)
+      pub led-to : (f : (Option OutputPort)) → Leads E by wave f further → Way E by firm first ⊎ ((k : ℕ) → In further k → Reached E by firm first k)
       led-to f x = ⊎_elim inl (go f x) g.known
         where
           loose : (j m : ℕ) → In wave j → Held by j m → Dec (firm ≤ m) → firm ≤ m
           loose j m y h (yes l) = l
           loose j m y h (no l) = absurd (b.gone j y (subst (In seen) (p.good.paired j m h) (g.kept m (omega arith))))
 
-          go : (f : FoundOutput) → Leads E by wave f further → ((k : ℕ) → In met k → Reached E by firm first k) → Way E by firm first ⊎ ((k : ℕ) → In further k → Reached E by firm first k)
-          go (At j) (inside, here, free) r = inl (j.0, r j.0 (b.less j.0 inside), free)
-          go Nothing s r = inr (λ k y. let a = s.from k y in handed a.0 a.1 k (r a.0 (b.less a.0 a.2)) a.3 (loose a.0 a.1 a.2 a.3 (dec_le firm a.1)) a.4)
+          go : (f : (Option OutputPort)) → Leads E by wave f further → ((k : ℕ) → In met k → Reached E by firm first k) → Way E by firm first ⊎ ((k : ℕ) → In further k → Reached E by firm first k)
+          go (Some j) (inside, here, free) r = inl (j.0, r j.0 (b.less j.0 inside), free)
+          go None s r = inr (λ k y. let a = s.from k y in handed a.0 a.1 k (r a.0 (b.less a.0 a.2)) a.3 (loose a.0 a.1 a.2 a.3 (dec_le firm a.1)) a.4)
 
-      module _ (f : FoundOutput) (x : Leads E by wave f further) where
+      module _ (f : (Option OutputPort)) (x : Leads E by wave f further) where
         pub giving-way : (j : ℕ) → UntriedAt w further held j → Way E by firm first
         giving-way j u = ⊎_elim (λ a. a) (λ r. (j, r j u.here, p.free j u.small u.new)) (led-to f x)
 

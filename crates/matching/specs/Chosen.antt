@@ -1,15 +1,15 @@
 -- Inner: from a matching to the full setting that is first in dictionary order: what each step promises. Definitions only.
-use Rattle.std.specs.Prelude.{◌≡◌, Bool, true, false, ◌⊎◌, List, ℕ, ◌<◌, ◌≤◌, length, get_or, set}
+use Rattle.std.specs.Prelude.{Err, Ok}
+use Rattle.std.specs.Prelude.{◌≡◌, ⊤, ◌⊎◌, List, ℕ, ◌<◌, ◌≤◌, length, get_or, set}
 use Rattle.sets.specs.Label.{In, Sub}
-use Rattle.labels.specs.Ports.{outputs_of}
+use Rattle.labels.specs.Ports.{Outputs, outputs_of}
 use Rattle.switch.specs.Plan.{Full}
 use Rattle.rules.specs.First.{Fits, Agree, First}
 use Rattle.search.specs.Tables.{tried_of, Held, Holds, joined, Matching}
 use Rattle.search.specs.declared.Asked.{Asked}
 use Rattle.search.specs.declared.Asked.TheVariants.{Freed, Stuck}
 use Rattle.search.specs.Search.{Around, Closed, Free, Gained, Unmoved}
-use Rattle.matching.specs.declared.Placed.{Placed}
-use Rattle.matching.specs.declared.Placed.TheVariants.{Taken, Refused}
+use Rattle.std.specs.declared.result.Result.{Result}
 
 -- the outputs of the inputs below i, and no others, are fixed
 pub record Fixed (out : List ℕ) (i fixed : ℕ) : Type 0 where
@@ -48,17 +48,17 @@ abbrev pub NoneKeeps : (n : ℕ) (E : ℕ → ℕ → Type 0) (by : List ℕ) (f
 NoneKeeps n E by fixed = (o : ℕ → ℕ) → Fits n E o → Keeps by fixed o → ⊥
 
 -- it holds an output now; or nothing has moved, and no full setting keeps what is fixed
-abbrev pub SeatPost : ℕ → ℕ → (ℕ → ℕ → Type 0) → List ℕ → List ℕ → ℕ → ℕ → List ℕ → List ℕ → Placed → Type 0
-SeatPost w n E by out fixed i by' out' (Taken known) = Matching w n E by' out' × Free w by' (outputs_of known) × Gained n by out fixed i by' out'
-SeatPost w n E by out fixed i by' out' (Refused met) = (by' ≡ by) × (out' ≡ out) × NoneKeeps n E by fixed
+abbrev pub SeatPost : ℕ → ℕ → (ℕ → ℕ → Type 0) → List ℕ → List ℕ → ℕ → ℕ → List ℕ → List ℕ → (Result Outputs Outputs) → Type 0
+SeatPost w n E by out fixed i by' out' (Ok known) = Matching w n E by' out' × Free w by' (outputs_of known) × Gained n by out fixed i by' out'
+SeatPost w n E by out fixed i by' out' (Err met) = (by' ≡ by) × (out' ≡ out) × NoneKeeps n E by fixed
 
 -- nobody waits any more; or no full setting keeps what is fixed. What was fixed is left alone
-pub record CompletePost (w n : ℕ) (E : ℕ → ℕ → Type 0) (by out : List ℕ) (fixed waiting : ℕ) (by' out' : List ℕ) (known' waiting' : ℕ) (full : Bool) : Type 0 where
+pub record CompletePost (w n : ℕ) (E : ℕ → ℕ → Type 0) (by out : List ℕ) (fixed waiting : ℕ) (by' out' : List ℕ) (known' waiting' : ℕ) (r : Result ⊤ Outputs) : Type 0 where
   pub seating : Seating w n E by' out' known' waiting'
   pub fewer : Sub waiting' waiting
   pub around : Around n by out fixed by' out'
-  pub all : full ≡ true → (m : ℕ) → In waiting' m → ⊥
-  pub none : full ≡ false → NoneKeeps n E by fixed
+  pub all : r ≡ Ok tt → (m : ℕ) → In waiting' m → ⊥
+  pub none : (met : Outputs) → r ≡ Err met → NoneKeeps n E by fixed
 
 -- ---- who keeps its output
 

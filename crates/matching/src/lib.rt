@@ -13,24 +13,15 @@ ghost use Rattle.switch.specs.Plan.{Full};
 ghost use Rattle.search.specs.Tables.{tried_of, Allowed, Rows, joined};
 ghost use Rattle.matching.specs.Chosen.{Fixed, AllHeld, Seating, SeatPre, SeatPost, CompletePost, GivePre, GivesWay, Lowering, Lowered, Dead, SettledPost, SettledAll, Settled, Behind, Restored, Ready, Chosen};
 
-use labels::{FoundInput, FoundOutput, Inputs, Outputs, row_of};
-use search::{Asked, Tried, ask_outputs, join, leads_to, release};
+use labels::{Inputs, Outputs, row_of};
+use search::{Asked, Pairs, Tried, ask_outputs, leads_to};
 use switch::{InputPort, OutputPort, WIDE_PORTS};
 
-// Where seating inputs ended: whether all are seated, the outputs that are held, who waits still, and what the one that was refused may take.
+// The inputs that wait for an output, and every output but those that can be had at once.
 #[derive(Clone, Copy)]
-struct Seats {
-    full: bool,
-    held: Outputs,
-    waiting: Inputs,
-    met: Outputs,
-}
-
-// An input was seated, and these outputs are held now; or it was refused, and these it may take.
-#[derive(Clone, Copy)]
-enum Placed {
-    Taken(Outputs),
-    Refused(Outputs),
+pub struct Seats {
+    pub waiting: Inputs,
+    pub held: Outputs,
 }
 
 // The outputs that are fixed, with them those that lead nowhere else, and whether the input before this one was well advised to ask
@@ -42,48 +33,27 @@ struct Prefix {
     alone: bool,
 }
 
-// The first setting in dictionary order, where `out` has the one before it. Only the inputs that wait are seated anew; those before the
-// first of them keep their outputs, or as many of them from the front as the others can be seated around. `held` has every output but
-// those that can be had at once.
-pub fn next_setting(
-    lows: &[u64],
-    highs: &[u64],
-    by: &mut [u8],
-    out: &mut [u8],
-    held: Outputs,
-    waiting: Inputs,
-)
-    requires { Rows 128 lows.now highs.now × Ready 128 (length lows.now) (Allowed lows.now highs.now) by.old out.old (outputs_of held) (inputs_of waiting) }
-    ensures { Chosen 128 (length lows.now) (Allowed lows.now highs.now) out.old by.new out.new }
+// The first setting in dictionary order, where the pairs are of the one before it. Only the inputs that wait are seated anew; those before the
+// first of them keep their outputs, or as many of them from the front as the others can be seated around.
+pub fn next_setting(rows: &[Outputs], pairs: &mut Pairs, seats: Seats)
+    requires { Rows 128 rows.now × Ready 128 (length rows.now) (Allowed rows.now) pairs.old.by pairs.old.out (outputs_of seats.held) (inputs_of seats.waiting) }
+    ensures { Chosen 128 (length rows.now) (Allowed rows.now) pairs.old.out pairs.new.by pairs.new.out }
 {
-    let mut before = [0u8; WIDE_PORTS];
-    keep(out, &mut before);
-    let last = past(waiting);
-    let mut firm = first_of(waiting, lows.len());
-    let mut s = Seats {
-        full: false,
-        held: held,
-        waiting: waiting,
-        met: held,
-    };
+    let before = pairs.out;
+    let last = past(seats.waiting);
+    let mut firm = first_of(seats.waiting, rows.len());
+    let mut now = seats;
     loop {
-        let fixed = fixed_below(out, firm);
-        s = complete(lows, highs, by, out, s.held, fixed, s.waiting);
-        if s.full {
-            settle_from(lows, highs, by, out, fixed, firm, &before, last);
-            return;
+        let fixed = fixed_below(pairs, firm);
+        match complete(rows, pairs, &mut now, fixed) {
+            Ok(()) => {
+                settle_from(rows, pairs, fixed, firm, &before, last);
+                return;
+            }
+            Err(met) => {
+                firm = give_way(rows, pairs, now.held, met, fixed, firm);
+            }
         }
-        firm = give_way(lows, highs, by, out, s, fixed, firm);
-    }
-}
-
-// Copies the outputs by input.
-fn keep(out: &[u8], before: &mut [u8])
-    requires { (length out.now ≡ 128) × (length before.old ≡ 128) }
-    ensures { before.new ≡ out.now }
-{
-    for k in 0..out.len() {
-        before[k] = out[k];
     }
 }
 
@@ -93,36 +63,34 @@ fn past(waiting: Inputs) -> usize
 {
     let mut rest = waiting;
     let mut last = 0;
-    loop {
-        let f = rest.lowest();
-        let FoundInput::At(i) = f else {
-            return last;
-        };
+    while let Some(i) = rest.lowest() {
         last = i.0 + 1;
         rest = rest.without_lowest();
     }
+    last
 }
 
 // The first of these inputs, or n.
+// The answer is where settling begins, so that n, the end of it, serves where none waits.
 fn first_of(waiting: Inputs, n: usize) -> usize
     requires { (m : ℕ) → In (inputs_of waiting) m → m < n }
     ensures { (result ≤ n) × ((m : ℕ) → m < result → In (inputs_of waiting) m → ⊥) }
 {
-    let f = waiting.lowest();
-    match f {
-        FoundInput::At(i) => i.0,
-        FoundInput::Nothing => n,
+    match waiting.lowest() {
+        Some(i) => i.0,
+        None => n,
     }
 }
 
 // The outputs of the inputs below `kept`.
-fn fixed_below(out: &[u8], kept: usize) -> Tried
-    requires { (kept ≤ length out.now) × ((m : ℕ) → m < kept → joined out.now m < 128) }
-    ensures { Fixed out.now kept (tried_of result) }
+// i is an input, which is asked for its output.
+fn fixed_below(pairs: &Pairs, kept: usize) -> Tried
+    requires { (kept ≤ 128) × ((m : ℕ) → m < kept → joined pairs.now.out m < 128) }
+    ensures { Fixed pairs.now.out kept (tried_of result) }
 {
     let mut fixed = Tried::none();
     for i in 0..kept {
-        fixed = fixed.mark(output_of(out, InputPort(i)));
+        fixed = fixed.mark(pairs.output_of(InputPort(i)));
     }
     fixed
 }
@@ -130,169 +98,131 @@ fn fixed_below(out: &[u8], kept: usize) -> Tried
 // As many inputs in front as keep their outputs next. Whoever the refused input leads to is followed with fewer and fewer of them kept,
 // from the last on, until an output that can be had at once is met: with more of them kept it would ask in vain.
 fn give_way(
-    lows: &[u64],
-    highs: &[u64],
-    by: &[u8],
-    out: &[u8],
-    s: Seats,
+    rows: &[Outputs],
+    pairs: &Pairs,
+    held: Outputs,
+    first: Outputs,
     fixed: Tried,
     from: usize,
 ) -> usize
-    requires { Rows 128 lows.now highs.now × GivePre 128 (length lows.now) (Allowed lows.now highs.now) by.now out.now (outputs_of s.held) (tried_of fixed) from }
-    ensures { GivesWay (Allowed lows.now highs.now) by.now (outputs_of s.met) from result }
+    requires { Rows 128 rows.now × GivePre 128 (length rows.now) (Allowed rows.now) pairs.now.by pairs.now.out (outputs_of held) (tried_of fixed) from }
+    ensures { GivesWay (Allowed rows.now) pairs.now.by (outputs_of first) from result }
 {
-    let held = s.held;
-    let mut met = s.met;
+    let mut met = first;
     let mut firm = from - 1;
     let kept = fixed.outputs;
-    let mut seen = kept.without(output_of(out, InputPort(firm)));
+    let mut seen = kept.without(pairs.output_of(InputPort(firm)));
     loop {
         let wave = met.but(seen);
-        let f = wave.lowest();
-        match f {
-            FoundOutput::Nothing => {
+        match wave.lowest() {
+            None => {
                 if firm == 0 {
                     return firm;
                 }
                 firm -= 1;
-                seen = seen.without(output_of(out, InputPort(firm)));
+                seen = seen.without(pairs.output_of(InputPort(firm)));
             }
-            FoundOutput::At(_) => {
+            Some(_) => {
                 seen = seen.with(wave);
-                let w = leads_to(lows, highs, by, wave);
+                let w = leads_to(rows, pairs, wave);
                 let further = w.outputs;
-                let g = further.lowest_untried(held);
-                let FoundOutput::Nothing = g else {
+                if let Some(_) = further.lowest_untried(held) {
                     return firm;
-                };
+                }
                 met = met.with(further);
             }
         }
     }
 }
 
-// Every input that waits is seated, from the first on; one that is refused ends it.
+// Every input that waits is seated, from the first on; one that is refused ends it, with what it may take.
 fn complete(
-    lows: &[u64],
-    highs: &[u64],
-    by: &mut [u8],
-    out: &mut [u8],
-    held: Outputs,
+    rows: &[Outputs],
+    pairs: &mut Pairs,
+    seats: &mut Seats,
     fixed: Tried,
-    waiting: Inputs,
-) -> Seats
-    requires { Rows 128 lows.now highs.now × Seating 128 (length lows.now) (Allowed lows.now highs.now) by.old out.old (outputs_of held) (inputs_of waiting) × AllHeld by.old (tried_of fixed) }
-    ensures { CompletePost 128 (length lows.now) (Allowed lows.now highs.now) by.old out.old (tried_of fixed) (inputs_of waiting) by.new out.new (outputs_of result.held) (inputs_of result.waiting) result.full }
+) -> Result<(), Outputs>
+    requires { Rows 128 rows.now × Seating 128 (length rows.now) (Allowed rows.now) pairs.old.by pairs.old.out (outputs_of seats.old.held) (inputs_of seats.old.waiting) × AllHeld pairs.old.by (tried_of fixed) }
+    ensures { CompletePost 128 (length rows.now) (Allowed rows.now) pairs.old.by pairs.old.out (tried_of fixed) (inputs_of seats.old.waiting) pairs.new.by pairs.new.out (outputs_of seats.new.held) (inputs_of seats.new.waiting) result }
 {
-    let mut known = held;
-    let mut rest = waiting;
-    loop {
-        let f = rest.lowest();
-        let FoundInput::At(i) = f else {
-            return Seats {
-                full: true,
-                held: known,
-                waiting: rest,
-                met: known,
-            };
-        };
-        let s = seat(lows, highs, by, out, known, fixed, i);
-        match s {
-            Placed::Refused(met) => {
-                return Seats {
-                    full: false,
-                    held: known,
-                    waiting: rest,
-                    met: met,
-                };
-            }
-            Placed::Taken(now) => {
-                known = now;
-                rest = rest.without_lowest();
-            }
-        }
+    while let Some(i) = seats.waiting.lowest() {
+        seats.held = seat(rows, pairs, seats.held, fixed, i)?;
+        seats.waiting = seats.waiting.without_lowest();
     }
+    Ok(())
 }
 
 // Input i takes an output that can be had at once, or asks for one.
 fn seat(
-    lows: &[u64],
-    highs: &[u64],
-    by: &mut [u8],
-    out: &mut [u8],
+    rows: &[Outputs],
+    pairs: &mut Pairs,
     held: Outputs,
     fixed: Tried,
     i: InputPort,
-) -> Placed
-    requires { Rows 128 lows.now highs.now × SeatPre 128 (length lows.now) (Allowed lows.now highs.now) by.old out.old (outputs_of held) (tried_of fixed) i.0 }
-    ensures { SeatPost 128 (length lows.now) (Allowed lows.now highs.now) by.old out.old (tried_of fixed) i.0 by.new out.new result }
+) -> Result<Outputs, Outputs>
+    requires { Rows 128 rows.now × SeatPre 128 (length rows.now) (Allowed rows.now) pairs.old.by pairs.old.out (outputs_of held) (tried_of fixed) i.0 }
+    ensures { SeatPost 128 (length rows.now) (Allowed rows.now) pairs.old.by pairs.old.out (tried_of fixed) i.0 pairs.new.by pairs.new.out result }
 {
-    let row = row_of(lows, highs, i);
-    let s = row.lowest_untried(held);
-    match s {
-        FoundOutput::Nothing => seat_around(lows, highs, by, out, held, fixed, i),
-        FoundOutput::At(spare) => {
-            join(by, out, i, spare);
-            Placed::Taken(held.mark(spare))
+    let row = row_of(rows, i);
+    match row.lowest_untried(held) {
+        None => seat_around(rows, pairs, held, fixed, i),
+        Some(spare) => {
+            pairs.join(i, spare);
+            Ok(held.mark(spare))
         }
     }
 }
 
 // Input i, that may take no output at once, asks the holders of those that are not fixed to move.
 fn seat_around(
-    lows: &[u64],
-    highs: &[u64],
-    by: &mut [u8],
-    out: &mut [u8],
+    rows: &[Outputs],
+    pairs: &mut Pairs,
     held: Outputs,
     fixed: Tried,
     i: InputPort,
-) -> Placed
-    requires { Rows 128 lows.now highs.now × SeatPre 128 (length lows.now) (Allowed lows.now highs.now) by.old out.old (outputs_of held) (tried_of fixed) i.0 × Sub (row_of lows.now highs.now i.0) (outputs_of held) }
-    ensures { SeatPost 128 (length lows.now) (Allowed lows.now highs.now) by.old out.old (tried_of fixed) i.0 by.new out.new result }
+) -> Result<Outputs, Outputs>
+    requires { Rows 128 rows.now × SeatPre 128 (length rows.now) (Allowed rows.now) pairs.old.by pairs.old.out (outputs_of held) (tried_of fixed) i.0 × Sub (row_of rows.now i.0) (outputs_of held) }
+    ensures { SeatPost 128 (length rows.now) (Allowed rows.now) pairs.old.by pairs.old.out (tried_of fixed) i.0 pairs.new.by pairs.new.out result }
 {
-    let row = row_of(lows, highs, i);
-    let f = fixed.next(row);
-    let FoundOutput::At(_) = f else {
-        return Placed::Refused(row);
+    let row = row_of(rows, i);
+    let Some(_) = fixed.next(row) else {
+        return Err(row);
     };
-    let a = ask_outputs(lows, highs, by, out, held, fixed, row.but(fixed.outputs));
-    match a {
-        Asked::Stuck(_) => Placed::Refused(row),
+    match ask_outputs(rows, pairs, held, fixed, row.but(fixed.outputs)) {
+        Asked::Stuck(_) => Err(row),
         Asked::Freed(g, _) => {
-            join(by, out, i, g.output);
-            Placed::Taken(held.mark(g.spent))
+            pairs.join(i, g.output);
+            Ok(held.mark(g.spent))
         }
     }
 }
 
 // The inputs from `from` on are settled one after the other. Where none is left that waited, and those before have the same outputs among
 // them as in the setting of before, the others have theirs of before: fewer pairs are allowed now, so that nothing lower can be had.
+// i is an input, which is settled as a port and not read out of a slice.
 fn settle_from(
-    lows: &[u64],
-    highs: &[u64],
-    by: &mut [u8],
-    out: &mut [u8],
+    rows: &[Outputs],
+    pairs: &mut Pairs,
     fixed: Tried,
     from: usize,
-    before: &[u8],
+    before: &[u8; WIDE_PORTS],
     last: usize,
 )
-    requires { Rows 128 lows.now highs.now × (from ≤ length lows.now) × Settled 128 (length lows.now) (Allowed lows.now highs.now) by.old out.old (tried_of fixed) from × Behind 128 (length lows.now) (Allowed lows.now highs.now) before.now last × Fixed before.now from (tried_of fixed) }
-    ensures { SettledAll 128 (length lows.now) (Allowed lows.now highs.now) out.old by.new out.new }
+    requires { Rows 128 rows.now × (from ≤ length rows.now) × Settled 128 (length rows.now) (Allowed rows.now) pairs.old.by pairs.old.out (tried_of fixed) from × Behind 128 (length rows.now) (Allowed rows.now) before.now last × Fixed before.now from (tried_of fixed) }
+    ensures { SettledAll 128 (length rows.now) (Allowed rows.now) pairs.old.out pairs.new.by pairs.new.out }
 {
     let mut firm = Prefix {
-        fixed: fixed,
+        fixed,
         dead: fixed,
         alone: true,
     };
     let mut was = fixed;
-    for i in from..lows.len() {
+    for i in from..rows.len() {
         if as_before(firm, was, last, i) {
-            restore(by, out, before, i, lows.len());
+            restore(pairs, before, i, rows.len());
             return;
         }
-        firm = settle(lows, highs, by, out, firm, InputPort(i));
+        firm = settle(rows, pairs, firm, InputPort(i));
         was = was_too(was, before, InputPort(i));
     }
 }
@@ -305,71 +235,54 @@ fn as_before(firm: Prefix, was: Tried, last: usize, i: usize) -> bool
         return false;
     }
     let fixed = firm.fixed;
-    let f = was.next(fixed.outputs);
-    let FoundOutput::Nothing = f else {
-        return false;
-    };
-    let g = fixed.next(was.outputs);
-    let FoundOutput::Nothing = g else {
-        return false;
-    };
-    true
+    was.next(fixed.outputs).is_none() && fixed.next(was.outputs).is_none()
 }
 
 // The outputs that were had before input i, and its own besides. Before the first setting it has none.
-fn was_too(was: Tried, before: &[u8], i: InputPort) -> Tried
-    requires { i.0 < length before.now }
+fn was_too(was: Tried, before: &[u8; WIDE_PORTS], i: InputPort) -> Tried
+    requires { i.0 < 128 }
     ensures { joined before.now i.0 < 128 → Marked (tried_of was) (joined before.now i.0) (tried_of result) }
 {
-    let own = output_of(before, i);
-    let j = own.0;
-    if WIDE_PORTS <= j {
+    let own = before[i.0] as usize;
+    if WIDE_PORTS <= own {
         return was;
     }
-    was.mark(own)
+    was.mark(OutputPort(own))
 }
 
 // The inputs from `from` on have their outputs of before again.
-fn restore(by: &mut [u8], out: &mut [u8], before: &[u8], from: usize, n: usize)
-    requires { (length by.old ≡ 128) × (length out.old ≡ 128) × (length before.now ≡ 128) × (n ≤ 128) × (from ≤ n) × Full n (joined before.now) }
-    ensures { Restored before.now by.old out.old from by.new out.new n }
+// k is an input, which is joined in both tables, and not only a place of `before`.
+fn restore(pairs: &mut Pairs, before: &[u8; WIDE_PORTS], from: usize, n: usize)
+    requires { (length pairs.old.by ≡ 128) × (length pairs.old.out ≡ 128) × (n ≤ 128) × (from ≤ n) × Full n (joined before.now) }
+    ensures { Restored before.now pairs.old.by pairs.old.out from pairs.new.by pairs.new.out n }
 {
     for k in from..n {
-        join(by, out, InputPort(k), output_of(before, InputPort(k)));
+        pairs.join(InputPort(k), OutputPort(before[k] as usize));
     }
 }
 
 // Input i takes the first output that leaves the inputs after it a setting, and that is fixed: it asks for a lower one than its own
 // until all of them lead nowhere: for the lowest alone while that is often to be had, and else for all at once.
-fn settle(
-    lows: &[u64],
-    highs: &[u64],
-    by: &mut [u8],
-    out: &mut [u8],
-    firm: Prefix,
-    i: InputPort,
-) -> Prefix
-    requires { Rows 128 lows.now highs.now × (i.0 < length lows.now) × Settled 128 (length lows.now) (Allowed lows.now highs.now) by.old out.old (tried_of firm.fixed) i.0 × Dead (Allowed lows.now highs.now) by.old (tried_of firm.fixed) (tried_of firm.dead) }
-    ensures { SettledPost 128 (length lows.now) (Allowed lows.now highs.now) out.old by.new out.new (tried_of result.fixed) (i.0 + 1) × Dead (Allowed lows.now highs.now) by.new (tried_of result.fixed) (tried_of result.dead) }
+fn settle(rows: &[Outputs], pairs: &mut Pairs, firm: Prefix, i: InputPort) -> Prefix
+    requires { Rows 128 rows.now × (i.0 < length rows.now) × Settled 128 (length rows.now) (Allowed rows.now) pairs.old.by pairs.old.out (tried_of firm.fixed) i.0 × Dead (Allowed rows.now) pairs.old.by (tried_of firm.fixed) (tried_of firm.dead) }
+    ensures { SettledPost 128 (length rows.now) (Allowed rows.now) pairs.old.out pairs.new.by pairs.new.out (tried_of result.fixed) (i.0 + 1) × Dead (Allowed rows.now) pairs.new.by (tried_of result.fixed) (tried_of result.dead) }
 {
-    let row = row_of(lows, highs, i);
+    let row = row_of(rows, i);
     let fixed = firm.fixed;
-    let mut own = output_of(out, i);
+    let mut own = pairs.output_of(i);
     let mut dead = dead_for(firm, own);
     let mut alone = firm.alone;
     loop {
         let lower = row.below(own);
-        let f = dead.next(lower);
-        let FoundOutput::At(lowest) = f else {
+        let Some(lowest) = dead.next(lower) else {
             return Prefix {
                 fixed: fixed.mark(own),
                 dead: dead.mark(own),
-                alone: alone,
+                alone,
             };
         };
         let some = lowest_or_all(lower.but(dead.outputs), lowest, alone);
-        let a = ask_lower(lows, highs, by, out, dead, some, own, i);
-        match a {
+        match ask_lower(rows, pairs, dead, some, own, i) {
             Asked::Stuck(seen) => {
                 dead = seen;
                 alone = false;
@@ -398,48 +311,34 @@ fn dead_for(firm: Prefix, own: OutputPort) -> Tried
     requires { own.0 < 128 }
     ensures { ((tried_of result ≡ tried_of firm.dead) × (In (tried_of firm.dead) own.0 → ⊥)) ⊎ (tried_of result ≡ tried_of firm.fixed) }
 {
-    let dead = firm.dead;
-    let outputs = dead.outputs;
-    if outputs.has(own) {
+    if firm.dead.outputs.has(own) {
         return firm.fixed;
     }
-    dead
+    firm.dead
 }
 
 // Input i gives its output up and asks for one of these; where none can be had it takes its own again.
 fn ask_lower(
-    lows: &[u64],
-    highs: &[u64],
-    by: &mut [u8],
-    out: &mut [u8],
+    rows: &[Outputs],
+    pairs: &mut Pairs,
     dead: Tried,
     lower: Outputs,
     own: OutputPort,
     i: InputPort,
 ) -> Asked
-    requires { Rows 128 lows.now highs.now × Lowering 128 (length lows.now) (Allowed lows.now highs.now) by.old out.old (tried_of dead) (outputs_of lower) own.0 i.0 }
-    ensures { Lowered 128 (length lows.now) (Allowed lows.now highs.now) by.old out.old (tried_of dead) (outputs_of lower) own.0 i.0 by.new out.new result }
+    requires { Rows 128 rows.now × Lowering 128 (length rows.now) (Allowed rows.now) pairs.old.by pairs.old.out (tried_of dead) (outputs_of lower) own.0 i.0 }
+    ensures { Lowered 128 (length rows.now) (Allowed rows.now) pairs.old.by pairs.old.out (tried_of dead) (outputs_of lower) own.0 i.0 pairs.new.by pairs.new.out result }
 {
-    release(by, own);
+    pairs.release(own);
     let held = Outputs::every().without(own);
-    let a = ask_outputs(lows, highs, by, out, held, dead, lower);
-    match a {
+    match ask_outputs(rows, pairs, held, dead, lower) {
         Asked::Stuck(seen) => {
-            join(by, out, i, own);
+            pairs.join(i, own);
             Asked::Stuck(seen)
         }
         Asked::Freed(g, seen) => {
-            join(by, out, i, g.output);
+            pairs.join(i, g.output);
             Asked::Freed(g, seen)
         }
     }
-}
-
-// The output that the tables tell for input i.
-fn output_of(out: &[u8], i: InputPort) -> OutputPort
-    requires { i.0 < length out.now }
-    ensures { result.0 ≡ joined out.now i.0 }
-{
-    let k = i.0;
-    OutputPort(out[k] as usize)
 }

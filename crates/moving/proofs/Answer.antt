@@ -1,4 +1,5 @@
 -- Moving case by case: a plan that is refused by itself changes nothing, and else it is laid where there is room for it.
+use Rattle.std.specs.Prelude.{Err, Ok}
 use mathlib.Core.Path.{◌≡◌, refl, sym, ap, ◌∙◌}
 use mathlib.Core.List.{List}
 use Prim.Native.Nat.{ℕ, ◌+◌, ◌<◌, ◌≤◌}
@@ -8,8 +9,7 @@ use lib.Dec.{leb}
 use borrow.Author.Tests.{le-leb, lt-leb}
 use Rattle.switch.specs.declared.Counts.{Counts}
 use Rattle.switch.specs.declared.Edition.{Edition}
-use Rattle.switch.specs.declared.Outcome.{Outcome}
-use Rattle.switch.specs.declared.Outcome.TheVariants.{Done, Refused}
+use Rattle.switch.specs.Outcome.{Outcome}
 use Rattle.switch.specs.declared.Refusal.{Refusal}
 use Rattle.switch.specs.declared.Refusal.TheVariants.{Room}
 use Rattle.switch.specs.Editions.{Bounded}
@@ -33,10 +33,10 @@ module _ (S T : Edition) (N : ℕ) (plan buf : List ℕ) where
   after e = ap (λ (o : Outcome). after_reading o buf placed) e
 
   -- codes 1, 9, 10 and 11
-  pub moving-refused : {r : Refusal} → Refused r ≡ checking S N plan → refuses r buf ≡ moving S T N plan buf
+  pub moving-refused : {r : Refusal} → Err r ≡ checking S N plan → refuses r buf ≡ moving S T N plan buf
   moving-refused e = after e
 
-  module _ {c : Counts} (fine : Done c ≡ checking S N plan) where
+  module _ {c : Counts} (fine : Ok c ≡ checking S N plan) where
     -- code 5
     pub moving-short : whole T.width buf < c.records → refuses (Room c.records) buf ≡ moving S T N plan buf
     moving-short l = rw (lt-leb _ _ l) at (after fine)
@@ -44,11 +44,11 @@ module _ (S T : Edition) (N : ℕ) (plan buf : List ℕ) where
     pub moving-done : c.records ≤ whole T.width buf → moves T N (plan_of S.width plan) c buf ≡ moving S T N plan buf
     moving-done l = rw (le-leb _ _ l) at (after fine)
 
-  pub answers-refused : {r : Refusal} → Refused r ≡ checking S N plan → {o : Outcome} → o ≡ Refused r → Gives (moving S T N plan buf) o buf
+  pub answers-refused : {r : Refusal} → Err r ≡ checking S N plan → {o : Outcome} → o ≡ Err r → Gives (moving S T N plan buf) o buf
   answers-refused e q = gives (sym (moving-refused e)) q refl
 
-  module _ {c : Counts} (fine : Done c ≡ checking S N plan) where
-    pub answers-short : whole T.width buf < c.records → Gives (moving S T N plan buf) (Refused (Room c.records)) buf
+  module _ {c : Counts} (fine : Ok c ≡ checking S N plan) where
+    pub answers-short : whole T.width buf < c.records → Gives (moving S T N plan buf) (Err (Room c.records)) buf
     answers-short l = gives (sym (moving-short fine l)) refl refl
 
     module _ (from : Bounded S) (room : c.records ≤ whole T.width buf) where
@@ -70,7 +70,7 @@ module _ (S T : Edition) (N : ℕ) (plan buf : List ℕ) where
       }
 
       pub answers-done : {after : List ℕ} → after ≡ laid buf 0 (bytes T.byte N (moved_plan T.width N (plan_from S.width plan 0 c.records)))
-          → Gives (moving S T N plan buf) (Done c) after
+          → Gives (moving S T N plan buf) (Ok c) after
       answers-done w =
           gives (sym (moving-done fine room)) refl
           (w ∙ ap (λ (m : ℕ). laid buf 0 (bytes T.byte N (moved_plan T.width N (plan_from S.width plan 0 m)))) count)

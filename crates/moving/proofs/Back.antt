@@ -1,4 +1,5 @@
 -- A moved plan is a plan of its edition, and moved back it is the bytes that it was: its records are sound, and those of a plan are its bytes.
+use Rattle.std.specs.Prelude.{Ok}
 use mathlib.Core.Path.{◌≡◌, sym, ap, ap₂, ◌∙◌}
 use mathlib.Core.List.{List}
 use Prim.Native.Nat.{ℕ, ◌<◌, ◌≤◌}
@@ -6,8 +7,7 @@ use native.Mathlib.Omega.{arith}
 use lib.ListN.{length, get_or}
 use Rattle.switch.specs.declared.Counts.{Counts}
 use Rattle.switch.specs.declared.Edition.{Edition}
-use Rattle.switch.specs.declared.Outcome.{Outcome}
-use Rattle.switch.specs.declared.Outcome.TheVariants.{Done}
+use Rattle.switch.specs.Outcome.{Outcome}
 use Rattle.switch.specs.Answer.{plan_counts}
 use Rattle.switch.specs.Editions.{Bounded}
 use Rattle.switch.specs.Plan.{Record}
@@ -24,7 +24,7 @@ use Rattle.moving.proofs.Bytes.{bytes-plan}
 use Rattle.moving.proofs.Answer.{moving-done}
 
 -- a plan of S that no check refuses, moved to R, which takes so many ports and records
-module _ (S R : Edition) (from : Bounded S) (to : Bounded R) (N : ℕ) (plan : List ℕ) (c : Counts) (fine : Done c ≡ checking S N plan)
+module _ (S R : Edition) (from : Bounded S) (to : Bounded R) (N : ℕ) (plan : List ℕ) (c : Counts) (fine : Ok c ≡ checking S N plan)
     (few : N ≤ R.ports) (most : c.records ≤ R.records) where
   pub known : Checked S N plan c
   known = checked S N plan from c fine
@@ -52,21 +52,21 @@ module _ (S R : Edition) (from : Bounded S) (to : Bounded R) (N : ℕ) (plan : L
   moved-plan = plan_of-bytes R.byte N R.width (each_width R.width N sound)
 
   -- it is read with the same counts
-  pub moved-checks : Done c ≡ checking R N moved
+  pub moved-checks : Ok c ≡ checking R N moved
   moved-checks =
       sym (bytes-pass R to N known.some few (omega (arith, count)) sound
-      ∙ ap₂ {C = Outcome} (λ (m t : ℕ). Done (plan_counts m 0 t)) count (total-moved R.width N records ∙ sym (ap (λ (x : Counts). x.total) known.counts))
-      ∙ ap {B = Outcome} (λ (x : Counts). Done x) (sym counts))
+      ∙ ap₂ {C = Outcome} (λ (m t : ℕ). Ok (plan_counts m 0 t)) count (total-moved R.width N records ∙ sym (ap (λ (x : Counts). x.total) known.counts))
+      ∙ ap {B = Outcome} (λ (x : Counts). Ok x) (sym counts))
     where
       counts : c ≡ plan_counts c.records 0 c.total
       counts = cc known.counts
 
   -- and moved back, into any buffer with room for it, it is the plan itself
   pub moved_back : ((i : ℕ) → get_or plan i 0 < 256) → (buf : List ℕ) → c.records ≤ whole S.width buf
-      → moving R S N moved buf ≡ record { outcome = Done c; bytes = laid buf 0 plan }
+      → moving R S N moved buf ≡ record { outcome = Ok c; bytes = laid buf 0 plan }
   moved_back byte buf room =
       sym (moving-done R S N moved buf moved-checks room)
-      ∙ ap {B = Result} (λ (x : List ℕ). record { outcome = Done c; bytes = laid buf 0 x }) same
+      ∙ ap {B = Result} (λ (x : List ℕ). record { outcome = Ok c; bytes = laid buf 0 x }) same
     where
       same : bytes S.byte N (moved_plan S.width N (plan_of R.width moved)) ≡ plan
       same =

@@ -38,6 +38,13 @@ setting-moved M W N o few wide size =
     ∙ take-append-add (take N o) (replicate (M - N) 255) (W - N)
     ∙ ap (λ (x : List ℕ). take N o ++ x) (take-idle (M - N) (W - N) (omega arith))
 
+-- the first outputs of a record b, copied over others
+pub first-laid : (d : List ℕ) (N : ℕ) (b : List ℕ) → N + 4 ≤ length b → (x : List ℕ) → x ≡ take (4 + N - 4) (drop 4 b) → x ++ drop N d ≡ laid d 0 (take N (outputs b))
+unfolding laid
+first-laid d N b long x is =
+    ap₂ (λ (y : List ℕ) (k : ℕ). y ++ drop k d) (is ∙ ap (λ (k : ℕ). take k (drop 4 b)) (let e : 4 + N - 4 ≡ N = omega arith in e))
+    (let e : N ≡ 0 + length (take N (drop 4 b)) = simp (length-take, length-drop) (omega arith) in e)
+
 -- a record b whose first outputs were copied over idle ones
 module _ (T : Edition) (bounds : Bounded T) (N : ℕ) (b : List ℕ) (few : N ≤ T.width) (long : N + 4 ≤ length b)
     (s : List ℕ) (is : s ≡ laid (replicate 128 255) 0 (take N (outputs b))) where

@@ -1,8 +1,8 @@
 -- A plan moved from one edition to another (§18). Definitions only.
+use Rattle.std.specs.Prelude.{Ok}
 use Rattle.std.specs.Prelude.{List, ◌++◌, map, ℕ, ◌+◌, ◌*◌, ◌-◌, ◌≤◌, length, take, replicate, leb}
 use Rattle.switch.specs.declared.Counts.{Counts}
 use Rattle.switch.specs.declared.Edition.{Edition}
-use Rattle.switch.specs.declared.Outcome.TheVariants.{Done}
 use Rattle.switch.specs.declared.Refusal.TheVariants.{Room}
 use Rattle.switch.specs.Editions.{Bounded}
 use Rattle.switch.specs.Plan.{Record}
@@ -24,7 +24,7 @@ moved_plan W N p = map (moved_record W N) p
 
 -- the moved records at the buffer's start, and nothing else touched; they are as many as were read, and their total is the same
 abbrev pub moves : (T : Edition) (N : ℕ) → List Record → Counts → List ℕ → Result
-moves T N p c buf = record { outcome = Done c; bytes = laid buf 0 (bytes T.byte N (moved_plan T.width N p)) }
+moves T N p c buf = record { outcome = Ok c; bytes = laid buf 0 (bytes T.byte N (moved_plan T.width N p)) }
 
 -- of a plan of S written as one of T: refusals 1, 9, 10 and 11 as S reads it, then 5 where its records of T have no room
 unfoldable pub moving : (S T : Edition) (N : ℕ) (plan buf : List ℕ) → Result

@@ -47,19 +47,17 @@ fn move_for(n: usize, plan: &[u8], from: Edition, to: Edition, moved: &mut [u8])
     requires { Bounded from × Bounded to × (from.ports ≤ to.width) }
     ensures { Gives (moving from to n plan.now moved.old) result moved.new }
 {
-    let checked = plans::check_plan(n, plan, from);
-    let Outcome::Done(counts) = checked else {
-        return checked;
-    };
+    let counts = plans::check_plan(n, plan, from)?;
     let records = counts.records;
     if moved.len() / (to.width + HEAD) < records {
-        return Outcome::Refused(Refusal::Room(records));
+        return Err(Refusal::Room(records));
     }
     move_records(n, plan, from.width, to, records, moved);
-    checked
+    Ok(counts)
 }
 
-// The first records of a plan, moved one after the other to the buffer's start.
+// The first records of a plan, moved one after the other to the buffer's start. The place goes on with the record, so that none is multiplied
+// out.
 fn move_records(n: usize, plan: &[u8], width: usize, to: Edition, records: usize, moved: &mut [u8])
     requires { Moving n plan.now width to records moved.old }
     ensures { moved.new ≡ laid moved.old 0 (bytes to.byte n (moved_plan to.width n (plan_from width plan.now 0 records))) }
@@ -72,13 +70,13 @@ fn move_records(n: usize, plan: &[u8], width: usize, to: Edition, records: usize
     }
 }
 
-// One record, laid from `at` on.
+// One record, laid from `at` on: the outputs of the n inputs, and idle ones.
 fn move_record(n: usize, rec: &[u8], to: Edition, moved: &mut [u8], at: usize)
     requires { Bounded to × (n ≤ to.width) × (n + 4 ≤ length rec.now) × (at + (to.width + 4) ≤ length moved.old) }
     ensures { moved.new ≡ laid moved.old at (encode to.byte (moved_record to.width n (decoded rec.now)).hold n (moved_record to.width n (decoded rec.now)).outputs) }
 {
     let mut setting = [IDLE; PLACES];
-    copy_first(n, rec, &mut setting);
+    setting[..n].copy_from_slice(&rec[HEAD..HEAD + n]);
     let width = to.width;
     records::put_record(
         moved,
@@ -88,14 +86,4 @@ fn move_record(n: usize, rec: &[u8], to: Edition, moved: &mut [u8], at: usize)
         n,
         &setting[..width],
     );
-}
-
-// Copies the outputs of the n inputs.
-fn copy_first(n: usize, rec: &[u8], setting: &mut [u8])
-    requires { (n + 4 ≤ length rec.now) × (n ≤ length setting.old) }
-    ensures { setting.new ≡ laid setting.old 0 (take n (outputs rec.now)) }
-{
-    for i in 0..n {
-        setting[i] = rec[HEAD + i];
-    }
 }

@@ -1,4 +1,5 @@
 -- What is left to plan: a full setting exists while a line has something left, and taking the first off leaves the rest of the plan.
+use Rattle.labels.specs.Ports.{Outputs}
 use mathlib.Core.Path.{◌≡◌, sym, ap, ◌∙◌, subst, fun_ext}
 use mathlib.Core.List.{List, ◌∷◌}
 use Prim.Native.Nat.{ℕ, ◌+◌, ◌-◌, ◌≤◌, ◌<◌}
@@ -25,49 +26,49 @@ use Rattle.board.specs.Level.{Level, Uses}
 use Rattle.board.specs.Labelled.{Labelled, SubtractPost, Emptied}
 use Rattle.board.proofs.Cells.{peeled-sized}
 use Rattle.labels.specs.Ports.{outputs_of, inputs_of}
-use Rattle.peel.specs.declared.Seats.{Seats}
+use Rattle.matching.specs.declared.Seats.{Seats}
 use Rattle.peel.specs.Standing.{left, rest, Standing, Giving, Released, Taken}
 use Rattle.peel.proofs.Release.{released}
 
 -- ---- what is allowed by the labels is what has a cell that is not zero
 
-module _ (N : ℕ) (w lows highs : List ℕ) (l : Labelled N w lows highs) where
-  to-allowed : (i j : ℕ) → i < N → j < N → NonZero (cell N w) i j → Allowed lows highs i j
+module _ (N : ℕ) (w : List ℕ) (rows : List Outputs) (l : Labelled N w rows) where
+  to-allowed : (i j : ℕ) → i < N → j < N → NonZero (cell N w) i j → Allowed rows i j
   to-allowed i j li lj = (l.row i li).all j lj
 
-  from-allowed : (i j : ℕ) → i < N → j < N → Allowed lows highs i j → NonZero (cell N w) i j
+  from-allowed : (i j : ℕ) → i < N → j < N → Allowed rows i j → NonZero (cell N w) i j
   from-allowed i j li lj h = ((l.row i li).only j h).1
 
-  pub first-cells : (o : ℕ → ℕ) → First N (Allowed lows highs) o → First N (NonZero (cell N w)) o
-  first-cells = first_cong N (Allowed lows highs) (NonZero (cell N w)) from-allowed to-allowed
+  pub first-cells : (o : ℕ → ℕ) → First N (Allowed rows) o → First N (NonZero (cell N w)) o
+  first-cells = first_cong N (Allowed rows) (NonZero (cell N w)) from-allowed to-allowed
 
 -- ---- the next setting may be asked for
 
-module _ (N : ℕ) (w lows highs by out : List ℕ) (seats : Seats) (s : Standing N w lows highs by out seats) (pos : 0 < left N w) where
-  pub rows : Rows 128 lows highs
-  rows = record { same = s.labels.high ∙ sym s.labels.low; few = omega (arith, s.labels.low, s.level.sized.few) }
+module _ (N : ℕ) (w : List ℕ) (rows : List Outputs) (by out : List ℕ) (seats : Seats) (s : Standing N w rows by out seats) (pos : 0 < left N w) where
+  pub few : Rows 128 rows
+  few = record { few = omega (arith, s.labels.each, s.level.sized.few) }
 
-  there-is : (o : ℕ → ℕ) × Fits N (Allowed lows highs) o
+  there-is : (o : ℕ → ℕ) × Fits N (Allowed rows) o
   there-is =
       let f = fits-exists N (left N w) (cell N w) pos s.level.rows s.level.cols in
-      (f.0, fits-cong N (NonZero (cell N w)) (Allowed lows highs) (to-allowed N w lows highs s.labels) f.0 f.1)
+      (f.0, fits-cong N (NonZero (cell N w)) (Allowed rows) (to-allowed N w rows s.labels) f.0 f.1)
 
-  pub ready : Ready 128 (length lows) (Allowed lows highs) by out (outputs_of seats.held) (inputs_of seats.waiting)
-  ready = rw s.labels.low (record { seating = s.seating; inside = λ i j li h. ((s.labels.row i li).only j h).0; some = there-is; former = s.former })
+  pub ready : Ready 128 (length rows) (Allowed rows) by out (outputs_of seats.held) (inputs_of seats.waiting)
+  ready = rw s.labels.each (record { seating = s.seating; inside = λ i j li h. ((s.labels.row i li).only j h).0; some = there-is; former = s.former })
 
 -- the table has outputs enough for a record
-pub record-long : {N : ℕ} {w lows highs by out : List ℕ} {seats : Seats} (W : ℕ) → W ≤ 128 → Standing N w lows highs by out seats → length (take W out) ≡ W
+pub record-long : {N : ℕ} {w : List ℕ} {rows : List Outputs} {by out : List ℕ} {seats : Seats} (W : ℕ) → W ≤ 128 → Standing N w rows by out seats → length (take W out) ≡ W
 record-long {out = out} W l s = length-take-le W out (omega (arith, s.seating.good.outputs))
 
 -- ---- a setting is chosen, and its hold
 
-module _ (N : ℕ) (w lows highs by out : List ℕ) (seats : Seats) (s : Standing N w lows highs by out seats) (by' out' : List ℕ)
-    (chosen : Chosen 128 (length lows) (Allowed lows highs) out by' out') where
-  c : Chosen 128 N (Allowed lows highs) out by' out'
-  c = rw s.labels.low at chosen
+module _ (N : ℕ) (w : List ℕ) (rows : List Outputs) (by out : List ℕ) (seats : Seats) (s : Standing N w rows by out seats) (by' out' : List ℕ)
+    (chosen : Chosen 128 (length rows) (Allowed rows) out by' out') where
+  c : Chosen 128 N (Allowed rows) out by' out'
+  c = rw s.labels.each at chosen
 
   first : First N (NonZero (cell N w)) (joined out')
-  first = first-cells N w lows highs s.labels (joined out') c.first
+  first = first-cells N w rows s.labels (joined out') c.first
 
   pub uses : Uses N w out'
   uses = record {
@@ -107,7 +108,7 @@ module _ (N : ℕ) (w lows highs by out : List ℕ) (seats : Seats) (s : Standin
     hold-some = omega (arith, first.fits.used smallest.place smallest.inside, smallest.met)
 
     -- and it is taken off
-    module _ (w' lows' highs' : List ℕ) (p : SubtractPost N w out' h w' lows' highs') where
+    module _ (w' : List ℕ) (rows' : List Outputs) (p : SubtractPost N w out' h w' rows') where
       cells : (i j : ℕ) → i < N → j < N → cell N w' i j ≡ peel h (joined out') (cell N w) i j
       cells i j li lj = ap (λ (v : List ℕ). cell N v i j) p.taken ∙ peel_to-done N h (joined out') w s.level.sized.room N (omega arith) i j li lj
 
@@ -144,22 +145,22 @@ module _ (N : ℕ) (w lows highs by out : List ℕ) (seats : Seats) (s : Standin
         held = λ m x. c.held m (e.few m x);
       }
 
-      fewer : (i j : ℕ) → i < N → j < N → Allowed lows' highs' i j → Allowed lows highs i j
-      fewer i j li lj a = to-allowed N w lows highs s.labels i j li lj
-          (was (from-allowed N w' lows' highs' p.labels i j li lj a))
+      fewer : (i j : ℕ) → i < N → j < N → Allowed rows' i j → Allowed rows i j
+      fewer i j li lj a = to-allowed N w rows s.labels i j li lj
+          (was (from-allowed N w' rows' p.labels i j li lj a))
         where
           was : 0 < cell N w' i j → 0 < cell N w i j
           was q = unfold peel in omega (arith, q, cells i j li lj)
 
       pub taken : (seats' : Seats) (by'' : List ℕ) → Emptied N w' out' (inputs_of seats'.waiting) N → Released (inputs_of seats'.waiting) out' by' by'' (outputs_of seats'.held)
-          → Taken N w w' lows' highs' by'' out' h seats'
+          → Taken N w w' rows' by'' out' h seats'
       taken seats' by'' e r = record {
         standing = record {
           level = level-next;
           labels = p.labels;
-          seating = released N (Allowed lows highs) (Allowed lows' highs') (inputs_of seats'.waiting) out' by' by'' (outputs_of seats'.held) c.good c.held e.few
-              (λ m l f. to-allowed N w' lows' highs' p.labels m (joined out' m) l (uses.inside m l) (e.some m l f)) r;
-          former = λ m l f. first-former N (Allowed lows highs) (Allowed lows' highs') out' fewer c.first;
+          seating = released N (Allowed rows) (Allowed rows') (inputs_of seats'.waiting) out' by' by'' (outputs_of seats'.held) c.good c.held e.few
+              (λ m l f. to-allowed N w' rows' p.labels m (joined out' m) l (uses.inside m l) (e.some m l f)) r;
+          former = λ m l f. first-former N (Allowed rows) (Allowed rows') out' fewer c.first;
           idle = idle;
         };
         some = hold-some;

@@ -1,4 +1,5 @@
 -- The filled cells are level, so that what is left to plan is the exact plan by its definition; at first nobody holds an output.
+use Rattle.labels.specs.Ports.{Outputs}
 use mathlib.Core.Path.{◌≡◌, sym, ap, ◌∙◌}
 use mathlib.Core.List.{List}
 use Prim.Native.Nat.{ℕ, ◌≤◌, ◌<◌}
@@ -18,7 +19,7 @@ use Rattle.board.specs.Labelled.{Labelled}
 use Rattle.board.proofs.Filling.{level-fill}
 use Rattle.sets.specs.Label.{Upto}
 use Rattle.labels.specs.Ports.{inputs_of}
-use Rattle.peel.specs.declared.Seats.{Seats}
+use Rattle.matching.specs.declared.Seats.{Seats}
 use Rattle.peel.specs.Standing.{Cells, left, rest, Started, Standing}
 
 module _ (N T : ℕ) (w : List ℕ) (c : Cells N T w) where
@@ -40,8 +41,8 @@ module _ (N T : ℕ) (w : List ℕ) (c : Cells N T w) where
   unfolding exact_plan
   rest-exact W = ap (λ t. exact_from W N (cell N (fill N t w))) c.longest-is
 
-  pub started : (w' lows' highs' : List ℕ) → w' ≡ fill N T w → Labelled N w' lows' highs' → Started N T w w' lows' highs'
-  started w' lows' highs' e l = record {
+  pub started : (w' : List ℕ) (rows' : List Outputs) → w' ≡ fill N T w → Labelled N w' rows' → Started N T w w' rows'
+  started w' rows' e l = record {
     level = rw e filled;
     labels = l;
     plan = λ W. ap (rest W N) e ∙ rest-exact W;
@@ -55,22 +56,19 @@ idle-all m = go (dec_lt m 128)
     go (yes l) = get_or-replicate 128 m 255 255 l
     go (no l) = get_or-eq_default (replicate 128 255) 255 {n = m} (omega (arith, length-replicate {A = ℕ} 128 255))
 
-pub table-length : (l : List ℕ) (v : ℕ) → l ≡ replicate 128 v → length l ≡ 128
-table-length l v e = ap length e ∙ length-replicate 128 v
-
 -- a table with a place for each of N inputs
-pub table-part : (N v : ℕ) → N ≤ 128 → length (take N (replicate 128 v)) ≡ N
-table-part N v l = length-take-le N (replicate 128 v) (omega (arith, length-replicate 128 v))
+pub table-part : {A : Type 0} (N : ℕ) (v : A) → N ≤ 128 → length (take N (replicate 128 v)) ≡ N
+table-part {A} N v l = length-take-le N (replicate 128 v) (omega (arith, length-replicate {A = A} 128 v))
 
-pub standing : (N T : ℕ) (w w' lows' highs' by out : List ℕ) (seats : Seats) → Started N T w w' lows' highs' → by ≡ replicate 128 0 → out ≡ replicate 128 255 → Upto N (inputs_of seats.waiting)
-    → (T ≡ left N w') × Standing N w' lows' highs' by out seats
-standing N T w w' lows' highs' by out seats s free idle all = (
+pub standing : (N T : ℕ) (w w' : List ℕ) (rows' : List Outputs) (by out : List ℕ) (seats : Seats) → Started N T w w' rows' → by ≡ replicate 128 0 → out ≡ replicate 128 255 → Upto N (inputs_of seats.waiting)
+    → (T ≡ left N w') × Standing N w' rows' by out seats
+standing N T w w' rows' by out seats s free idle all = (
   sym e,
   rw (free, idle) (record {
     level = rw e s.level;
     labels = s.labels;
     seating = record {
-      good = fresh 128 N (Allowed lows' highs') (replicate 128 255) (length-replicate {A = ℕ} 128 255);
+      good = fresh 128 N (Allowed rows') (replicate 128 255) (length-replicate {A = ℕ} 128 255);
       free = λ k _ _. nobody-holds 128 k;
       begun = λ m l f. absurd (f (all.all m l));
       idle = λ m x. (all.only m x, λ h. held-not-free (replicate 128 0) h.0 m h.1 (nobody-holds 128 h.0));

@@ -8,10 +8,9 @@ ghost use Rattle.sets.specs.Label.{In, Upto};
 ghost use Rattle.labels.specs.Ports.{outputs_of, inputs_of};
 ghost use Rattle.peel.specs.Standing.{Cells, Started, left, Standing, Giving, Released, Taken};
 
-use labels::{FoundInput, Inputs, Outputs};
-use matching::next_setting;
-use search::release;
-use switch::OutputPort;
+use labels::{Inputs, Outputs};
+use matching::{Seats, next_setting};
+use search::Pairs;
 
 // A setting that was taken off: how long it is held, and who sits where for the next one.
 #[derive(Clone, Copy)]
@@ -20,20 +19,13 @@ pub struct Step {
     pub seats: Seats,
 }
 
-// The inputs that wait for an output, and every output but those that nobody holds.
-#[derive(Clone, Copy)]
-pub struct Seats {
-    pub waiting: Inputs,
-    pub held: Outputs,
-}
-
 // The cells are filled to T, and each input gets its label.
-pub fn start(work: &mut [u32], n: usize, longest: u64, lows: &mut [u64], highs: &mut [u64])
-    requires { Cells n longest work.old × (length lows.old ≡ n) × (length highs.old ≡ n) }
-    ensures { Started n longest work.old work.new lows.new highs.new }
+pub fn start(work: &mut [u32], n: usize, longest: u64, rows: &mut [Outputs])
+    requires { Cells n longest work.old × (length rows.old ≡ n) }
+    ensures { Started n longest work.old work.new rows.new }
 {
     board::fill_up(work, n, longest);
-    board::label_rows(work, n, lows, highs);
+    board::label_rows(work, n, rows);
 }
 
 // Before the first setting every input waits, and nobody holds an output.
@@ -47,48 +39,42 @@ pub fn nobody(n: usize) -> Seats
     }
 }
 
-// Takes the first setting off the working copy, for as long as its smallest cell; `out` has its outputs.
+// Takes the first setting off the working copy, for as long as its smallest cell; the pairs have its outputs.
 pub fn take_off(
     work: &mut [u32],
     n: usize,
-    lows: &mut [u64],
-    highs: &mut [u64],
-    by: &mut [u8],
-    out: &mut [u8],
+    rows: &mut [Outputs],
+    pairs: &mut Pairs,
     seats: Seats,
 ) -> Step
-    requires { Standing n work.old lows.old highs.old by.old out.old seats × (0 < left n work.old) }
-    ensures { Taken n work.old work.new lows.new highs.new by.new out.new result.hold result.seats }
+    requires { Standing n work.old rows.old pairs.old.by pairs.old.out seats × (0 < left n work.old) }
+    ensures { Taken n work.old work.new rows.new pairs.new.by pairs.new.out result.hold result.seats }
 {
-    next_setting(lows, highs, by, out, seats.held, seats.waiting);
-    let hold = board::smallest(work, n, out);
-    let emptied = board::subtract(work, n, lows, highs, out, hold);
-    let held = release_all(emptied, by, out);
+    next_setting(rows, pairs, seats);
+    let hold = board::smallest(work, n, &pairs.out);
+    let emptied = board::subtract(work, n, rows, &pairs.out, hold);
+    let held = release_all(emptied, pairs);
     Step {
-        hold: hold,
+        hold,
         seats: Seats {
             waiting: emptied,
-            held: held,
+            held,
         },
     }
 }
 
 // These inputs give their outputs up, which can be had at once; the answer has every other.
-fn release_all(emptied: Inputs, by: &mut [u8], out: &[u8]) -> Outputs
-    requires { Giving (inputs_of emptied) out.now by.old }
-    ensures { Released (inputs_of emptied) out.now by.old by.new (outputs_of result) }
+fn release_all(emptied: Inputs, pairs: &mut Pairs) -> Outputs
+    requires { Giving (inputs_of emptied) pairs.old.out pairs.old.by }
+    ensures { Released (inputs_of emptied) pairs.old.out pairs.old.by pairs.new.by (outputs_of result) × (pairs.new.out ≡ pairs.old.out) }
 {
     let mut rest = emptied;
     let mut held = Outputs::every();
-    loop {
-        let f = rest.lowest();
-        let FoundInput::At(i) = f else {
-            return held;
-        };
-        let k = i.0;
-        let j = OutputPort(out[k] as usize);
-        release(by, j);
+    while let Some(i) = rest.lowest() {
+        let j = pairs.output_of(i);
+        pairs.release(j);
         held = held.without(j);
         rest = rest.without_lowest();
     }
+    held
 }

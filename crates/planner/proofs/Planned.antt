@@ -1,4 +1,5 @@
 -- A planner's answer case by case: each refusal is given exactly where its test is the first that fails, and else the plan is written.
+use Rattle.std.specs.Prelude.{Err, Ok}
 use mathlib.Core.Path.{◌≡◌, refl, sym}
 use mathlib.Core.List.{List}
 use Prim.Native.Nat.{ℕ, ◌<◌, ◌≤◌}
@@ -8,13 +9,11 @@ use lib.ListN.{length}
 use borrow.Author.Tests.{lt-ltb, le-ltb, lt-leb, le-leb}
 use Rattle.switch.specs.declared.Refusal.{Refusal}
 use Rattle.switch.specs.declared.Refusal.TheVariants.{Longest, Room}
-use Rattle.switch.specs.declared.Outcome.TheVariants.{Done}
 use Rattle.switch.specs.declared.Edition.{Edition}
 use Rattle.switch.specs.Answer.{demand_counts}
 use Rattle.switch.specs.Demand.{cell}
 use Rattle.switch.specs.Plan.{Record, total}
 use Rattle.switch.specs.Empty.{empty_slots}
-use Rattle.demand.specs.declared.Checked.TheVariants.{Fine, Faulty}
 use Rattle.demand.specs.Check.{check_demand}
 use Rattle.records.specs.Bytes.{whole, bytes, laid}
 use Rattle.switch.specs.Result.{refuses}
@@ -31,11 +30,11 @@ module _ (E : Edition) (N T empty : ℕ) (p : List Record) (buf : List ℕ) wher
 
 module _ (E : Edition) (N : ℕ) (d : List ℕ) (p : List Record) (buf : List ℕ) where
   -- codes 1, 2 and 3
-  pub planned-faulty : (r : Refusal) → check_demand E.ports N d ≡ Faulty r → planned E N d p buf ≡ refuses r buf
+  pub planned-faulty : (r : Refusal) → check_demand E.ports N d ≡ Err r → planned E N d p buf ≡ refuses r buf
   unfolding planned
   planned-faulty r c = rw c
 
-  module _ (T : ℕ) (fine : check_demand E.ports N d ≡ Fine T) where
+  module _ (T : ℕ) (fine : check_demand E.ports N d ≡ Ok T) where
     -- code 5
     pub planned-short : whole E.width buf < length p → planned E N d p buf ≡ refuses (Room (length p)) buf
     unfolding planned
@@ -46,11 +45,11 @@ module _ (E : Edition) (N : ℕ) (d : List ℕ) (p : List Record) (buf : List �
     planned-done l = rw fine (room E N T (empty_slots N (cell N d) p) p buf l)
 
 module _ (limit : ℕ) (E : Edition) (N : ℕ) (d : List ℕ) (p : List Record) (buf : List ℕ) where
-  pub limited-faulty : (r : Refusal) → check_demand E.ports N d ≡ Faulty r → planned_up_to limit E N d p buf ≡ refuses r buf
+  pub limited-faulty : (r : Refusal) → check_demand E.ports N d ≡ Err r → planned_up_to limit E N d p buf ≡ refuses r buf
   unfolding planned_up_to
   limited-faulty r c = rw c
 
-  module _ (T : ℕ) (fine : check_demand E.ports N d ≡ Fine T) where
+  module _ (T : ℕ) (fine : check_demand E.ports N d ≡ Ok T) where
     -- code 4
     pub limited-long : limit < T → planned_up_to limit E N d p buf ≡ refuses Longest buf
     unfolding planned_up_to
@@ -65,9 +64,9 @@ module _ (limit : ℕ) (E : Edition) (N : ℕ) (d : List ℕ) (p : List Record) 
     limited-done h l = rw (fine, le-leb _ _ h) (room E N T (empty_slots N (cell N d) p) p buf l)
 
 -- what is written: the counts and the bytes
-pub written-outcome : (E : Edition) (N T empty r t x : ℕ) (p : List Record) (buf : List ℕ) → r ≡ length p → t ≡ total p → x ≡ empty → Done (demand_counts r T t x) ≡ (writes E N T empty p buf).outcome
+pub written-outcome : (E : Edition) (N T empty r t x : ℕ) (p : List Record) (buf : List ℕ) → r ≡ length p → t ≡ total p → x ≡ empty → Ok (demand_counts r T t x) ≡ (writes E N T empty p buf).outcome
 unfolding writes
-written-outcome E N T empty r t x p buf a b c = λ i. Done (demand_counts (a i) T (b i) (c i))
+written-outcome E N T empty r t x p buf a b c = λ i. Ok (demand_counts (a i) T (b i) (c i))
 
 pub written-bytes : (E : Edition) (N T empty : ℕ) (p : List Record) (buf : List ℕ) → laid buf 0 (bytes E.byte N p) ≡ (writes E N T empty p buf).bytes
 unfolding writes

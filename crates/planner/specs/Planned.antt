@@ -1,21 +1,20 @@
 -- What a planner's call answers, and the plan buffer's bytes afterwards, in any edition. Definitions only.
+use Rattle.std.specs.Prelude.{Err, Ok}
 use Rattle.std.specs.Prelude.{cond, List, ℕ, length, ltb, leb}
 use Rattle.switch.specs.declared.Refusal.TheVariants.{Longest, Room}
-use Rattle.switch.specs.declared.Outcome.TheVariants.{Done}
 use Rattle.switch.specs.declared.Edition.{Edition}
 use Rattle.switch.specs.Answer.{demand_counts}
 use Rattle.switch.specs.Demand.{cell}
 use Rattle.switch.specs.Plan.{Record, total}
 use Rattle.switch.specs.Empty.{empty_slots}
 use Rattle.switch.specs.Result.{Result, refuses, unless}
-use Rattle.demand.specs.declared.Checked.{Checked}
-use Rattle.demand.specs.declared.Checked.TheVariants.{Fine, Faulty}
+use Rattle.demand.specs.Checked.{Checked}
 use Rattle.demand.specs.Check.{check_demand}
 use Rattle.records.specs.Bytes.{whole, bytes, laid}
 
 -- the plan's records at the buffer's start, and nothing else touched; T and the empty slots are those for the demand, and 0 where there is none
 unfoldable pub writes : (E : Edition) (N T empty : ℕ) (p : List Record) (buf : List ℕ) → Result
-writes E N T empty p buf = record { outcome = Done (demand_counts (length p) T (total p) empty); bytes = laid buf 0 (bytes E.byte N p) }
+writes E N T empty p buf = record { outcome = Ok (demand_counts (length p) T (total p) empty); bytes = laid buf 0 (bytes E.byte N p) }
 
 -- code 5: there is room for fewer whole records than the plan has (§9.7)
 unfoldable pub room_for : (E : Edition) (N T empty : ℕ) (p : List Record) (buf : List ℕ) → Result
@@ -23,8 +22,8 @@ room_for E N T empty p buf = unless (leb (length p) (whole E.width buf)) (refuse
 
 -- a demand that is refused by itself, and else what is done with its longest line
 abbrev pub after_check : Checked → (go : ℕ → Result) (buf : List ℕ) → Result
-after_check (Fine T) go buf = go T
-after_check (Faulty r) go buf = refuses r buf
+after_check (Ok T) go buf = go T
+after_check (Err r) go buf = refuses r buf
 
 -- a planner whose rule makes the plan p of the demand d: codes 1, 2, 3, then 5
 unfoldable pub planned : (E : Edition) (N : ℕ) (d : List ℕ) (p : List Record) (buf : List ℕ) → Result

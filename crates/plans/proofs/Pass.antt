@@ -1,5 +1,8 @@
 -- One pass over a plan: as long as every record is well formed, the scan for the first that is not stands where the pass stands, and the sum
 -- of the holds is that of the records passed.
+use Rattle.std.specs.Prelude.{Result, Ok, Err}
+use Rattle.switch.specs.declared.Refusal.{Refusal}
+use Rattle.switch.specs.declared.Refusal.TheVariants.{Malformed}
 use mathlib.Core.Path.{◌≡◌, refl, sym, ap, ◌∙◌}
 use mathlib.Core.Bool.{Bool, true, false, not}
 use mathlib.Core.List.{List, [], ◌∷◌, ◌++◌}
@@ -16,7 +19,8 @@ use Rattle.plans.specs.Read.{malformed}
 use Rattle.records.proofs.Part.{whole-fits, record-fits, record-size}
 use Rattle.plans.proofs.Read.{scan-stop, scan-more, scan-end}
 use Rattle.plans.proofs.Plans.{plan-next}
-use Rattle.plans.specs.Reading.{Readable, Passed}
+use Rattle.plans.proofs.Reading.{passing-stopped, passing-whole}
+use Rattle.plans.specs.Reading.{Readable, passing}
 
 pub total-next : (p : List Record) (r : Record) → total (p ++ r ∷ []) ≡ total p + r.hold
 unfolding total
@@ -40,13 +44,16 @@ module _ (E : Edition) (N : ℕ) (plan : List ℕ) (m : ℕ) where
   }
 
   module _ (r : Readable E N plan m) where
-    pub pass-end : (k t : ℕ) → m ≤ k → Through E N plan m k t → Passed E N plan m m t
-    pass-end k t l th =
-        let e : k ≡ m = omega (arith, th.inside) in record {
-          inside = omega arith;
-          records = sym (th.scan ∙ scan-end E.width E.byte N plan m k l ∙ e);
-          holds = th.holds ∙ ap (λ (i : ℕ). total (plan_from E.width plan 0 i)) e;
-        }
+    -- all are passed
+    pub pass-all : (k t : ℕ) → m ≤ k → Through E N plan m k t → malformed E.width E.byte N plan m 0 ≡ m
+    pass-all k t l th = omega (arith, l, th.inside, th.scan, scan-end E.width E.byte N plan m k l)
+
+    pub pass-end : {A : Type 0} (told : List Record → A) (k t : ℕ) → m ≤ k → Through E N plan m k t → (x : A) → x ≡ told (plan_from E.width plan 0 m)
+        → ◌≡◌ {A = Result A Refusal} (Ok x) (passing E N plan m told)
+    pass-end told k t l th x e = passing-whole E N plan m told x e (omega (arith, pass-all k t l th))
+
+    pub pass-holds : (k t : ℕ) → m ≤ k → Through E N plan m k t → t ≡ total (plan_from E.width plan 0 m)
+    pass-holds k t l th = th.holds ∙ ap (λ (i : ℕ). total (plan_from E.width plan 0 i)) (let e : k ≡ m = omega (arith, l, th.inside) in e)
 
     -- record k, as the pass reads it
     module _ (k t : ℕ) (l : k < m) (b : List ℕ) (is : b ≡ record_at E.width plan k) where
@@ -60,12 +67,11 @@ module _ (E : Edition) (N : ℕ) (plan : List ℕ) (m : ℕ) where
       read-fine = ap (λ (w : ℕ). well_formed w E.byte N b) (let e : length b - 4 ≡ E.width = omega (arith, read-size) in e) ∙ ap (well_formed E.width E.byte N) is
 
       module _ (th : Through E N plan m k t) (fine : Bool) (found : fine ≡ well_formed (length b - 4) E.byte N b) where
-        pub pass-stop : not fine ≡ true → Passed E N plan m k t
-        pass-stop n = record {
-          inside = omega arith;
-          records = sym (th.scan ∙ scan-stop E.width E.byte N plan m k l (sym read-fine ∙ sym found ∙ not-true fine n));
-          holds = th.holds;
-        }
+        pub pass-damaged : not fine ≡ true → malformed E.width E.byte N plan m 0 ≡ k
+        pass-damaged n = th.scan ∙ scan-stop E.width E.byte N plan m k l (sym read-fine ∙ sym found ∙ not-true fine n)
+
+        pub pass-stop : {A : Type 0} (told : List Record → A) → not fine ≡ true → ◌≡◌ {A = Result A Refusal} (Err (Malformed k)) (passing E N plan m told)
+        pass-stop told n = passing-stopped E N plan m told k l (pass-damaged n)
 
         pub pass-more : not fine ≡ false → (h : ℕ) → h ≡ hold b → h ≤ 65535 → Through E N plan m (k + 1) (t + h)
         pass-more n h e s = record {

@@ -1,4 +1,5 @@
 -- Whole plans: the scan stops at the first record that is not well formed; what passes is a plan of sound records, and every such plan's bytes pass.
+use Rattle.std.specs.Prelude.{Err, Ok}
 use mathlib.Core.Path.{◌≡◌, refl, sym, ap, ap₂, ◌∙◌, subst}
 use mathlib.Core.Bool.{Bool, true, false}
 use mathlib.Core.Logic.{dite}
@@ -10,8 +11,7 @@ use native.Mathlib.Decide.{dec_lt}
 use native.Mathlib.Omega.{arith}
 use lib.ListN.{length}
 use Rattle.switch.specs.declared.Counts.{Counts}
-use Rattle.switch.specs.declared.Outcome.{Outcome}
-use Rattle.switch.specs.declared.Outcome.TheVariants.{Done, Refused}
+use Rattle.switch.specs.Outcome.{Outcome}
 use Rattle.switch.specs.declared.Refusal.{Refusal}
 use Rattle.switch.specs.Answer.{plan_counts}
 use Rattle.switch.specs.Plan.{Record, total}
@@ -104,18 +104,18 @@ module _ (E : Edition) (N : ℕ) (plan : List ℕ) where
   abbrev counted : Counts
   counted = plan_counts count 0 (total (plan_of E.width plan))
 
-  refused-not-done : {r : Refusal} {c : Counts} {A : Type 0} → Refused r ≡ checking E N plan → Done c ≡ checking E N plan → A
-  refused-not-done {r} {c} a b = let q : Done c ≡ Refused r = b ∙ sym a in let z : ◌≡◌ {A = ℕ} 0 1 = cc in absurd (let f : ⊥ = omega arith in f)
+  refused-not-done : {r : Refusal} {c : Counts} {A : Type 0} → Err r ≡ checking E N plan → Ok c ≡ checking E N plan → A
+  refused-not-done {r} {c} a b = let q : Ok c ≡ Err r = b ∙ sym a in let z : ◌≡◌ {A = ℕ} 0 1 = cc in absurd (let f : ⊥ = omega arith in f)
 
-  module _ {o : Counts} (opens : Done o ≡ opening E N plan) where
+  module _ {o : Counts} (opens : Ok o ≡ opening E N plan) where
     in_count : checking_in count E N plan ≡ checking E N plan
     in_count = ap (λ (m : ℕ). checking_in m E N plan) (sym (opened-records E N plan o opens)) ∙ check-opened E N plan opens
 
-    all-fine : count ≤ fault → Done counted ≡ checking E N plan
+    all-fine : count ≤ fault → Ok counted ≡ checking E N plan
     all-fine l = check_done E N plan count fault refl (total (plan_of E.width plan)) l refl ∙ in_count
 
     -- a plan passes where each of its records is well formed
-    pub passes : ((k : ℕ) → k < count → fine E.width E.byte N plan k ≡ true) → Done counted ≡ checking E N plan
+    pub passes : ((k : ℕ) → k < count → fine E.width E.byte N plan k ≡ true) → Ok counted ≡ checking E N plan
     passes h = all-fine (omega (arith, malformed-none E.width E.byte N plan count 0 (λ j a b. h j (omega arith))))
 
     module _ (bounds : Bounded E) where
@@ -129,7 +129,7 @@ module _ (E : Edition) (N : ℕ) (plan : List ℕ) where
           (subst (λ (n : ℕ). n * (E.width + 4) ≤ length plan) (let q : count ≡ 0 + count = omega arith in q) (whole-fits E.width plan))
           (λ j a b. formed-where l j (omega arith))
 
-      checked-opened : (c : Counts) → Done c ≡ checking E N plan → Checked E N plan c
+      checked-opened : (c : Counts) → Ok c ≡ checking E N plan → Checked E N plan c
       checked-opened c d =
           let h = opened E N plan o opens in
           dite (dec_lt fault count)
@@ -145,20 +145,20 @@ module _ (E : Edition) (N : ℕ) (plan : List ℕ) where
             counts = same (d ∙ sym (all-fine l));
           })
         where
-          same : {x y : Counts} → Done x ≡ Done y → x ≡ y
+          same : {x y : Counts} → ◌≡◌ {A = Outcome} (Ok x) (Ok y) → x ≡ y
           same e = cc
 
   -- a plan that no check refuses
-  pub checked : Bounded E → (c : Counts) → Done c ≡ checking E N plan → Checked E N plan c
+  pub checked : Bounded E → (c : Counts) → Ok c ≡ checking E N plan → Checked E N plan c
   checked bounds c d = by (opening E N plan) refl
     where
       by : (o : Outcome) → o ≡ opening E N plan → Checked E N plan c
-      by (Done x) q = checked-opened q bounds c d
-      by (Refused r) q = refused-not-done (check-refused E N plan q) d
+      by (Ok x) q = checked-opened q bounds c d
+      by (Err r) q = refused-not-done (check-refused E N plan q) d
 
 -- every sound plan's bytes pass
 module _ (E : Edition) (bounds : Bounded E) (N : ℕ) (some : 0 < N) (few : N ≤ E.ports) where
-  pub bytes-pass : {p : List Record} → length p ≤ E.records → Each (Sound E.width N) p → checking E N (bytes E.byte N p) ≡ Done (plan_counts (length p) 0 (total p))
+  pub bytes-pass : {p : List Record} → length p ≤ E.records → Each (Sound E.width N) p → checking E N (bytes E.byte N p) ≡ Ok (plan_counts (length p) 0 (total p))
   bytes-pass {p} most s =
       let W = E.width in
       let w = each_width W N s in
@@ -166,4 +166,4 @@ module _ (E : Edition) (bounds : Bounded E) (N : ℕ) (some : 0 < N) (few : N �
       let even : length (bytes E.byte N p) % (W + 4) ≡ 0 = ap (λ (l : ℕ). l % (W + 4)) (bytes-size E.byte N W w) ∙ mul-mod_left (length p) (W + 4) in
       sym (passes E N (bytes E.byte N p) (opening-done E N (bytes E.byte N p) some few even (omega (arith, count-is)))
       (λ k l. bytes-fine W E.byte N (omega (arith, bounds.ports)) (omega (arith, bounds.ports, bounds.width)) s k (omega (arith, count-is))))
-      ∙ ap₂ {C = Outcome} (λ (m : ℕ) (q : List Record). Done (plan_counts m 0 (total q))) count-is (plan_of-bytes E.byte N W w)
+      ∙ ap₂ {C = Outcome} (λ (m : ℕ) (q : List Record). Ok (plan_counts m 0 (total q))) count-is (plan_of-bytes E.byte N W w)

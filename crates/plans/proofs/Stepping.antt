@@ -1,4 +1,5 @@
 -- A step over the record that stands at its place: it is told by what the check of the record finds.
+use Rattle.std.specs.Prelude.{Ok}
 use mathlib.Core.Path.{◌≡◌, sym, ap, ◌∙◌, subst}
 use mathlib.Core.Bool.{Bool, true, false, not}
 use mathlib.Core.List.{List}
@@ -7,36 +8,34 @@ use lib.ListN.{length, replicate}
 use borrow.Author.Tests.{not-true, not-false}
 use Rattle.switch.specs.declared.Counts.{Counts}
 use Rattle.switch.specs.declared.Edition.{Edition}
-use Rattle.switch.specs.declared.Outcome.TheVariants.{Done}
 use Rattle.switch.specs.Editions.{Bounded}
 use Rattle.records.specs.Record.{well_formed}
 use Rattle.records.specs.Bytes.{record_at}
 use Rattle.plans.specs.declared.Step.{Step}
 use Rattle.plans.specs.declared.Step.TheVariants as step
 use Rattle.plans.specs.declared.Stepped.{Stepped}
-use Rattle.plans.specs.declared.StepTaken.{StepTaken}
-use Rattle.plans.specs.Read.{opening, nothing, given, step_at, Takes}
+use Rattle.plans.specs.Read.{opening, nothing, given, step_at, Took}
 use Rattle.plans.specs.Reading.{Readable}
 use Rattle.plans.proofs.Read.{step-malformed, step-record, step-opened}
 use Rattle.plans.proofs.Reading.{readable}
 use Rattle.plans.proofs.Pass.{read-size, read-fine}
 
 -- the same step by another name
-pub takes-as : {x y : Stepped} {t : StepTaken} {after : List ℕ} → y ≡ x → Takes y t after → Takes x t after
-takes-as {t = t} {after = after} is = subst (λ (z : Stepped). Takes z t after) is
+pub took-as : {V W : ℕ} {x y : Stepped V} {t : Stepped W} → y ≡ x → Took y t → Took x t
+took-as {V} {t = t} is = subst (λ (z : Stepped V). Took z t) is
 
--- a step that gives no record, where the lent outputs are left idle
-pub takes_none : (E : Edition) (s : Step) (at : ℕ) {x : Stepped} → nothing E s at ≡ x → {t : StepTaken} → t ≡ record { step = s; hold = 0; next = at }
-    → {after : List ℕ} → after ≡ replicate E.width 255 → Takes x t after
-takes_none E s at is e idle = takes-as is (record {
-  step = ap (λ (y : StepTaken). y.step) e;
-  hold = ap (λ (y : StepTaken). y.hold) e;
-  outputs = idle;
-  next = ap (λ (y : StepTaken). y.next) e;
+-- a step that gives no record
+pub took_none : (E : Edition) (s : Step) (at : ℕ) {x : Stepped E.width} → nothing E s at ≡ x → {W : ℕ} → W ≡ E.width → {t : Stepped W}
+    → t ≡ record { step = s; hold = 0; outputs = replicate W 255; next = at } → Took x t
+took_none E s at is {W} width e = took-as is (record {
+  step = ap (λ (y : Stepped W). y.step) e;
+  hold = ap (λ (y : Stepped W). y.hold) e;
+  outputs = ap (λ (y : Stepped W). y.outputs) e ∙ ap (λ (w : ℕ). replicate w 255) width;
+  next = ap (λ (y : Stepped W). y.next) e;
 })
 
 -- a plan that is opened, and b, the record at its place
-module _ (E : Edition) (bounds : Bounded E) (N : ℕ) (plan : List ℕ) {c : Counts} (opens : Done c ≡ opening E N plan) (at : ℕ) (l : at < c.records) where
+module _ (E : Edition) (bounds : Bounded E) (N : ℕ) (plan : List ℕ) {c : Counts} (opens : Ok c ≡ opening E N plan) (at : ℕ) (l : at < c.records) where
   can : Readable E N plan c.records
   can = readable E N plan c bounds opens
 

@@ -1,4 +1,5 @@
 -- The round trips of the calls: what was written is read back by the steps, and what a step gives is written as the same bytes.
+use Rattle.std.specs.Prelude.{Err, Ok}
 use mathlib.Core.Path.{◌≡◌, refl, sym, ap, ◌∙◌, subst}
 use mathlib.Core.Bool.{Bool, true, false}
 use mathlib.Core.Logic.{dite}
@@ -10,8 +11,7 @@ use native.Mathlib.Omega.{arith}
 use lib.ListN.{length, get_or, take, drop}
 use lib.Seq.{take_at, get_or-take, get_or-drop}
 use Rattle.switch.specs.declared.Counts.{Counts}
-use Rattle.switch.specs.declared.Outcome.{Outcome}
-use Rattle.switch.specs.declared.Outcome.TheVariants.{Done, Refused}
+use Rattle.switch.specs.Outcome.{Outcome}
 use Rattle.switch.specs.declared.Refusal.{Refusal}
 use Rattle.switch.specs.Answer.{plan_counts}
 use Rattle.switch.specs.Plan.{Record}
@@ -52,7 +52,7 @@ module _ (E : Edition) (bounds : Bounded E) (N : ℕ) (some : 0 < N) (few : N �
   count : whole E.width plan ≡ length p
   count = whole-bytes E.byte N E.width wide
 
-  opens : Done (plan_counts (whole E.width plan) 0 0) ≡ opening E N plan
+  opens : Ok (plan_counts (whole E.width plan) 0 0) ≡ opening E N plan
   opens = opening-done E N plan some few (ap (λ (l : ℕ). l % (E.width + 4)) (bytes-size E.byte N E.width wide) ∙ mul-mod_left (length p) (E.width + 4)) (omega (arith, count))
 
   -- step k gives record k
@@ -61,7 +61,7 @@ module _ (E : Edition) (bounds : Bounded E) (N : ℕ) (some : 0 < N) (few : N �
       let f = few-ports E bounds few in
       sym (step-record E _ N plan k (omega (arith, count)) (bytes-fine E.width E.byte N f.0 f.1 s k l) ∙ step-opened E N plan k opens)
       ∙ ap (λ (b : List ℕ). given b (k + 1)) (record-bytes E.byte N E.width wide k l d)
-      ∙ ap {B = Stepped} (λ (h : ℕ). record { step = step.Record; hold = h; outputs = (get_or p k d).outputs; next = k + 1 }) (hold-encode E.byte (get_or p k d).hold N (get_or p k d).outputs)
+      ∙ ap {B = Stepped E.width} (λ (h : ℕ). record { step = step.Record; hold = h; outputs = (get_or p k d).outputs; next = k + 1 }) (hold-encode E.byte (get_or p k d).hold N (get_or p k d).outputs)
 
 -- ---- one record: written, then read
 
@@ -73,7 +73,7 @@ pub record Wrote (E : Edition) (h N : ℕ) (o buf : List ℕ) : Type 0 where
   pub fine : well_formed E.width E.byte N (encode E.byte h N o) ≡ true
 
 module _ (E : Edition) (h N : ℕ) (o buf : List ℕ) where
-  pub wrote : (c : Counts) → Done c ≡ (written E h N o buf).outcome → Wrote E h N o buf
+  pub wrote : (c : Counts) → Ok c ≡ (written E h N o buf).outcome → Wrote E h N o buf
   wrote c d =
       dite (dec_lt 0 N) (λ some. dite (dec_lt E.ports N)
       (λ l. refused (write-ports E h N o buf (many-ports _ _ l)))
@@ -83,13 +83,13 @@ module _ (E : Edition) (h N : ℕ) (o buf : List ℕ) where
       (λ z. refused (write-ports E h N o buf (no-ports _ _ (omega (arith, z)))))
     where
       refused : {r : Refusal} {A : Type 0} → refuses r buf ≡ written E h N o buf → A
-      refused {r} e = let q : Done c ≡ Refused r = d ∙ sym (ap (λ (w : Result). w.outcome) e) in let z : ◌≡◌ {A = ℕ} 0 1 = cc in absurd (let f : ⊥ = omega arith in f)
+      refused {r} e = let q : Ok c ≡ Err r = d ∙ sym (ap (λ (w : Result). w.outcome) e) in let z : ◌≡◌ {A = ℕ} 0 1 = cc in absurd (let f : ⊥ = omega arith in f)
 
       by : 0 < N → N ≤ E.ports → E.width + 4 ≤ length buf → (t : Bool) → well_formed E.width E.byte N (encode E.byte h N o) ≡ t → Wrote E h N o buf
       by some few room true w = record { some = some; few = few; room = room; fine = w }
       by some few room false w = refused (write-malformed E h N o buf some few room w)
 
-  module _ (bounds : Bounded E) (one : 0 < E.records) (long : length o ≡ E.width) (c : Counts) (done : Done c ≡ (written E h N o buf).outcome) where
+  module _ (bounds : Bounded E) (one : 0 < E.records) (long : length o ≡ E.width) (c : Counts) (done : Ok c ≡ (written E h N o buf).outcome) where
     pub written-bytes : (written E h N o buf).bytes ≡ laid buf 0 (encode E.byte h N o)
     written-bytes = let w = wrote c done in sym (ap (λ (x : Result). x.bytes) (write_done E h N o buf w.some w.few w.room w.fine))
 
@@ -124,9 +124,9 @@ module _ (E : Edition) (N : ℕ) (plan : List ℕ) (at : ℕ) (found : (step_at 
   gave = by (opening E N plan) refl
     where
       not_end : {s : Step} {A : Type 0} → nothing E s at ≡ step_at E N plan at → (s ≡ step.Record → ⊥) → A
-      not_end e ne = absurd (ne (ap (λ (x : Stepped). x.step) e ∙ found))
+      not_end e ne = absurd (ne (ap (λ (x : Stepped E.width). x.step) e ∙ found))
 
-      by-record : {c : Counts} → Done c ≡ opening E N plan → at < c.records → (t : Bool) → well_formed E.width E.byte N (record_at E.width plan at) ≡ t → Gave E N plan at
+      by-record : {c : Counts} → Ok c ≡ opening E N plan → at < c.records → (t : Bool) → well_formed E.width E.byte N (record_at E.width plan at) ≡ t → Gave E N plan at
       by-record {c} q l true w =
           let h = opened E N plan c q in
           record {
@@ -139,10 +139,10 @@ module _ (E : Edition) (N : ℕ) (plan : List ℕ) (at : ℕ) (found : (step_at 
       by-record {c} q l false w = not_end (step-malformed E c.records N plan at l w ∙ step-opened E N plan at q) (λ e. let z : ◌≡◌ {A = ℕ} 0 1 = cc in omega arith)
 
       by : (o : Outcome) → o ≡ opening E N plan → Gave E N plan at
-      by (Done c) q =
+      by (Ok c) q =
           dite (dec_lt at c.records) (λ l. by-record q l (well_formed E.width E.byte N (record_at E.width plan at)) refl)
           (λ g. not_end (step_end E c.records N plan at (omega (arith, g)) ∙ step-opened E N plan at q) (λ e. let z : ◌≡◌ {A = ℕ} 0 1 = cc in omega arith))
-      by (Refused r) q = not_end (step-refused E N plan at q) (λ e. let z : ◌≡◌ {A = ℕ} 0 1 = cc in omega arith)
+      by (Err r) q = not_end (step-refused E N plan at q) (λ e. let z : ◌≡◌ {A = ℕ} 0 1 = cc in omega arith)
 
   module _ (bounds : Bounded E) (byte : (i : ℕ) → get_or plan i 0 < 256) where
     same_bytes : encode E.byte (hold (record_at E.width plan at)) N (outputs (record_at E.width plan at)) ≡ record_at E.width plan at
@@ -157,9 +157,9 @@ module _ (E : Edition) (N : ℕ) (plan : List ℕ) (at : ℕ) (found : (step_at 
 
     -- what was read, written anew, is the same bytes (§5.9)
     pub read-write : (buf : List ℕ) → E.width + 4 ≤ length buf
-        → written E (step_at E N plan at).hold N (step_at E N plan at).outputs buf ≡ record { outcome = Done (plan_counts 1 0 (step_at E N plan at).hold); bytes = laid buf 0 (record_at E.width plan at) }
+        → written E (step_at E N plan at).hold N (step_at E N plan at).outputs buf ≡ record { outcome = Ok (plan_counts 1 0 (step_at E N plan at).hold); bytes = laid buf 0 (record_at E.width plan at) }
     read-write buf room =
         let b = record_at E.width plan at in
         rw gave.is
         (sym (write_done E (hold b) N (outputs b) buf gave.some gave.few room (ap (well_formed E.width E.byte N) same_bytes ∙ gave.fine))
-        ∙ ap {B = Result} (λ (x : List ℕ). record { outcome = Done (plan_counts 1 0 (hold b)); bytes = laid buf 0 x }) same_bytes)
+        ∙ ap {B = Result} (λ (x : List ℕ). record { outcome = Ok (plan_counts 1 0 (hold b)); bytes = laid buf 0 x }) same_bytes)

@@ -1,7 +1,7 @@
 -- Opening a plan, reading it record by record (§5.4 to §5.7), and checking it whole. Definitions only.
+use Rattle.std.specs.Prelude.{Err, Ok}
 use Rattle.std.specs.Prelude.{◌≡◌, cond, List, ℕ, zero, suc, ◌+◌, ◌%◌, length, replicate, ltb, leb, eqb}
-use Rattle.switch.specs.declared.Outcome.{Outcome}
-use Rattle.switch.specs.declared.Outcome.TheVariants.{Done, Refused}
+use Rattle.switch.specs.Outcome.{Outcome}
 use Rattle.switch.specs.declared.Refusal.TheVariants.{Ports, Torn, Records, Malformed}
 use Rattle.switch.specs.Answer.{plan_counts}
 use Rattle.switch.specs.Check.{ports_fine}
@@ -11,17 +11,15 @@ use Rattle.switch.specs.declared.Edition.{Edition}
 use Rattle.plans.specs.declared.Step.{Step}
 use Rattle.plans.specs.declared.Step.TheVariants as step
 use Rattle.plans.specs.declared.Stepped.{Stepped}
-use Rattle.plans.specs.declared.SteppedSecond.{SteppedSecond}
-use Rattle.plans.specs.declared.StepTaken.{StepTaken}
 use Rattle.records.specs.Record.{hold, outputs, well_formed}
 use Rattle.records.specs.Bytes.{record_at, whole, plan_from}
 
 -- opening refuses by codes 1, 9 and 10, and counts records only (§5.4)
 unfoldable pub opening : (E : Edition) (N : ℕ) (plan : List ℕ) → Outcome
 opening E N plan =
-    unless (ports_fine E.ports N) (Refused Ports)
-    (unless (eqb (length plan % (E.width + 4)) 0) (Refused (Torn (whole E.width plan)))
-    (unless (leb (whole E.width plan) E.records) (Refused (Records E.records)) (Done (plan_counts (whole E.width plan) 0 0))))
+    unless (ports_fine E.ports N) (Err Ports)
+    (unless (eqb (length plan % (E.width + 4)) 0) (Err (Torn (whole E.width plan)))
+    (unless (leb (whole E.width plan) E.records) (Err (Records E.records)) (Ok (plan_counts (whole E.width plan) 0 0))))
 
 -- a step's code on paper, and its place: only a damaged record has one
 abbrev pub step_code : Step → ℕ
@@ -35,15 +33,15 @@ step_place step.End = 0
 step_place (step.Malformed k) = k
 
 -- what the end and code 11 come with: no hold, every output idle, and the place as it was (§5.6)
-abbrev pub nothing : (E : Edition) (s : Step) (at : ℕ) → Stepped
+abbrev pub nothing : (E : Edition) (s : Step) (at : ℕ) → Stepped E.width
 nothing E s at = record { step = s; hold = 0; outputs = replicate E.width 255; next = at }
 
 -- the next record: its hold and all its outputs
-abbrev pub given : (b : List ℕ) (next : ℕ) → Stepped
+abbrev pub given : {W : ℕ} (b : List ℕ) (next : ℕ) → Stepped W
 given b next = record { step = step.Record; hold = hold b; outputs = outputs b; next = next }
 
 -- of m records: the next, or code 11 with the record's number, or the end (§5.5)
-unfoldable pub step_in : Edition → (m N : ℕ) (plan : List ℕ) (at : ℕ) → Stepped
+unfoldable pub step_in : (E : Edition) (m N : ℕ) (plan : List ℕ) (at : ℕ) → Stepped E.width
 step_in E m N plan at =
     cond (ltb at m)
     (cond (well_formed E.width E.byte N (record_at E.width plan at))
@@ -52,19 +50,15 @@ step_in E m N plan at =
     (nothing E step.End at)
 
 -- the step at record `at` of a plan opened for N; where opening is refused all its steps are the end
-unfoldable pub step_at : Edition → (N : ℕ) (plan : List ℕ) (at : ℕ) → Stepped
+unfoldable pub step_at : (E : Edition) (N : ℕ) (plan : List ℕ) (at : ℕ) → Stepped E.width
 step_at E N plan at = by_outcome (opening E N plan) (λ r. nothing E step.End at) (λ c. step_in E c.records N plan at)
 
--- a step of the second edition; only the number of its outputs is another
-abbrev pub of_second : (s : SteppedSecond) → Stepped
-of_second s = record { step = s.step; hold = s.hold; outputs = s.outputs; next = s.next }
-
--- inner: a step, its outputs in lent memory, is what is given
-pub record Takes (given : Stepped) (taken : StepTaken) (after : List ℕ) : Type 0 where
-  pub step : taken.step ≡ given.step
-  pub hold : taken.hold ≡ given.hold
-  pub outputs : after ≡ given.outputs
-  pub next : taken.next ≡ given.next
+-- inner: a step is what is given, where the number of outputs is another in its type
+pub record Took {V W : ℕ} (given : Stepped V) (took : Stepped W) : Type 0 where
+  pub step : took.step ≡ given.step
+  pub hold : took.hold ≡ given.hold
+  pub outputs : took.outputs ≡ given.outputs
+  pub next : took.next ≡ given.next
 
 -- the first of m records from k on that is not well formed; k + m where all are
 unfoldable pub malformed : ℕ → ℕ → ℕ → List ℕ → ℕ → ℕ → ℕ
@@ -75,9 +69,9 @@ malformed W e N plan (suc m) k = cond (well_formed W e N (record_at W plan k)) (
 unfoldable pub checking_in : (m : ℕ) (E : Edition) (N : ℕ) (plan : List ℕ) → Outcome
 checking_in m E N plan =
     cond (ltb (malformed E.width E.byte N plan m 0) m)
-    (Refused (Malformed (malformed E.width E.byte N plan m 0)))
-    (Done (plan_counts m 0 (total (plan_from E.width plan 0 m))))
+    (Err (Malformed (malformed E.width E.byte N plan m 0)))
+    (Ok (plan_counts m 0 (total (plan_from E.width plan 0 m))))
 
 -- who reads a whole plan refuses by 1, 9, 10 and 11
 unfoldable pub checking : (E : Edition) (N : ℕ) (plan : List ℕ) → Outcome
-checking E N plan = by_outcome (opening E N plan) Refused (λ c. checking_in c.records E N plan)
+checking E N plan = by_outcome (opening E N plan) Err (λ c. checking_in c.records E N plan)

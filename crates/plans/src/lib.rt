@@ -4,11 +4,11 @@
 #![tactic(auto)]
 
 ghost use Rattle.std.specs.Prelude.{◌≡◌, ◌+◌, ◌<◌, ◌≤◌, length, replicate};
+ghost use Rattle.switch.specs.Plan.{total};
 ghost use Rattle.switch.specs.Editions.{first_edition, second_edition, Bounded};
-ghost use Rattle.records.specs.Record.{outputs};
 ghost use Rattle.records.specs.Bytes.{record_at, whole};
-ghost use Rattle.plans.specs.Read.{opening, of_second, step_at, Takes, checking};
-ghost use Rattle.plans.specs.Reading.{Readable, Passed};
+ghost use Rattle.plans.specs.Read.{opening, step_at, Took, checking};
+ghost use Rattle.plans.specs.Reading.{Readable, passing};
 
 use records::{HEAD, IDLE};
 use switch::{Counts, Edition, Outcome, Refusal, first_edition, second_edition};
@@ -24,29 +24,13 @@ pub enum Step {
     Malformed(usize),
 }
 
-// A step, the hold and outputs of its record, and the record that the next step is at.
+// A step, the hold and outputs of its record, and the record that the next step is at. A record has W outputs.
+// Where there is no record the hold is 0 and the outputs are idle: `step_at` and C tell all fields of every step.
 #[derive(Clone, Copy)]
-pub struct Stepped {
+pub struct Stepped<const W: usize> {
     pub step: Step,
     pub hold: u16,
-    pub outputs: [u8; 64],
-    pub next: usize,
-}
-
-// The same in the second edition.
-#[derive(Clone, Copy)]
-pub struct SteppedSecond {
-    pub step: Step,
-    pub hold: u16,
-    pub outputs: [u8; 128],
-    pub next: usize,
-}
-
-// A step but for the outputs.
-#[derive(Clone, Copy)]
-pub struct StepTaken {
-    pub step: Step,
-    pub hold: u16,
+    pub outputs: [u8; W],
     pub next: usize,
 }
 
@@ -65,42 +49,25 @@ pub fn open_second(n: usize, plan: &[u8]) -> Outcome
 }
 
 // The step at record `at` of a plan opened for n; a reader starts at record 0.
-pub fn step_at(n: usize, plan: &[u8], at: usize) -> Stepped
+pub fn step_at(n: usize, plan: &[u8], at: usize) -> Stepped<64>
     ensures { result ≡ step_at first_edition n plan.now at }
 {
-    let mut outputs = [IDLE; switch::PORTS];
-    let taken = step_for(n, plan, at, first_edition(), &mut outputs);
-    let step = taken.step;
-    Stepped {
-        step,
-        hold: taken.hold,
-        outputs,
-        next: taken.next,
-    }
+    step_for(n, plan, at, first_edition())
 }
 
 // The same for a plan of the second edition.
-pub fn step_second(n: usize, plan: &[u8], at: usize) -> SteppedSecond
-    ensures { of_second result ≡ step_at second_edition n plan.now at }
+pub fn step_second(n: usize, plan: &[u8], at: usize) -> Stepped<128>
+    ensures { result ≡ step_at second_edition n plan.now at }
 {
-    let mut outputs = [IDLE; switch::WIDE_PORTS];
-    let taken = step_for(n, plan, at, second_edition(), &mut outputs);
-    let step = taken.step;
-    SteppedSecond {
-        step,
-        hold: taken.hold,
-        outputs,
-        next: taken.next,
-    }
+    step_for(n, plan, at, second_edition())
 }
 
-// The step at record `at` of a plan of an edition. Room for the outputs is lent, all idle.
-pub fn step_for(n: usize, plan: &[u8], at: usize, e: Edition, outputs: &mut [u8]) -> StepTaken
-    requires { Bounded e × (outputs.old ≡ replicate e.width 255) }
-    ensures { Takes (step_at e n plan.now at) result outputs.new }
+// The step at record `at` of a plan of an edition.
+pub fn step_for<const W: usize>(n: usize, plan: &[u8], at: usize, e: Edition) -> Stepped<W>
+    requires { Bounded e × (W ≡ e.width) }
+    ensures { Took (step_at e n plan.now at) result }
 {
-    let opened = open(n, plan, e);
-    let Outcome::Done(counts) = opened else {
+    let Ok(counts) = open(n, plan, e) else {
         return no_record(Step::End, at);
     };
     if counts.records <= at {
@@ -110,10 +77,12 @@ pub fn step_for(n: usize, plan: &[u8], at: usize, e: Edition, outputs: &mut [u8]
     if !records::record_fine(rec, n, e.byte) {
         return no_record(Step::Malformed(at), at);
     }
-    copy_outputs(rec, outputs);
-    StepTaken {
+    let mut outputs = [IDLE; W];
+    outputs.copy_from_slice(&rec[HEAD..]);
+    Stepped {
         step: Step::Record,
         hold: records::hold_of(rec),
+        outputs,
         next: at + 1,
     }
 }
@@ -124,46 +93,31 @@ pub fn open(n: usize, plan: &[u8], e: Edition) -> Outcome
     ensures { result ≡ opening e n plan.now }
 {
     if n == 0 {
-        return Outcome::Refused(Refusal::Ports);
+        return Err(Refusal::Ports);
     }
     if e.ports < n {
-        return Outcome::Refused(Refusal::Ports);
+        return Err(Refusal::Ports);
     }
     let size = e.width + HEAD;
     let records = plan.len() / size;
     if plan.len() % size != 0 {
-        return Outcome::Refused(Refusal::Torn(records));
+        return Err(Refusal::Torn(records));
     }
     if e.records < records {
-        return Outcome::Refused(Refusal::Records(e.records));
+        return Err(Refusal::Records(e.records));
     }
-    Outcome::Done(Counts {
-        records,
-        longest: 0,
-        total: 0,
-        length: 0,
-        empty: 0,
-    })
+    Ok(counted(records, 0, 0))
 }
 
 // A step that gives no record, and leaves the place.
-fn no_record(step: Step, at: usize) -> StepTaken
-    ensures { result ≡ record { step = step; hold = 0; next = at } }
+fn no_record<const W: usize>(step: Step, at: usize) -> Stepped<W>
+    ensures { result ≡ record { step = step; hold = 0; outputs = replicate W 255; next = at } }
 {
-    StepTaken {
+    Stepped {
         step,
         hold: 0,
+        outputs: [IDLE; W],
         next: at,
-    }
-}
-
-// Copies the outputs of a record.
-fn copy_outputs(rec: &[u8], to: &mut [u8])
-    requires { length rec.now ≡ length to.old + 4 }
-    ensures { to.new ≡ outputs rec.now }
-{
-    for i in 0..to.len() {
-        to[i] = rec[HEAD + i];
     }
 }
 
@@ -172,35 +126,29 @@ pub fn check_plan(n: usize, plan: &[u8], e: Edition) -> Outcome
     requires { Bounded e }
     ensures { result ≡ checking e n plan.now }
 {
-    let opened = open(n, plan, e);
-    let Outcome::Done(counts) = opened else {
-        return opened;
-    };
-    let records = counts.records;
-    let judged = judge(n, plan, e, records);
-    if judged.records < records {
-        return Outcome::Refused(Refusal::Malformed(judged.records));
-    }
-    Outcome::Done(counted(records, judged.total, 0))
+    let records = open(n, plan, e)?.records;
+    let total = judge(n, plan, e, records)?;
+    Ok(counted(records, total, 0))
 }
 
 // One pass over a plan's first records, up to the first that is not well formed: each hold goes to the total.
-fn judge(n: usize, plan: &[u8], e: Edition, records: usize) -> Counts
+// k names the record in a refusal.
+fn judge(n: usize, plan: &[u8], e: Edition, records: usize) -> Result<u64, Refusal>
     requires { Readable e n plan.now records }
-    ensures { Passed e n plan.now records result.records result.total }
+    ensures { result ≡ passing e n plan.now records total }
 {
     let mut total: u64 = 0;
     for k in 0..records {
         let rec = record_at(plan, e.width, k);
         if !records::record_fine(rec, n, e.byte) {
-            return counted(k, total, 0);
+            return Err(Refusal::Malformed(k));
         }
-        total += records::hold_of(rec) as u64;
+        total += u64::from(records::hold_of(rec));
     }
-    counted(records, total, 0)
+    Ok(total)
 }
 
-// How far a pass over a plan came.
+// What a pass over a plan counts.
 pub fn counted(records: usize, total: u64, length: u64) -> Counts
     ensures { result ≡ record { records = records; longest = 0; total = total; length = length; empty = 0 } }
 {

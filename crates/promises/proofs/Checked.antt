@@ -1,13 +1,13 @@
 -- The checker's answer is the plan's own: each refusal is given where its test is the first that fails, and the last scans all pairs.
+use Rattle.std.specs.Prelude.{Err, Ok}
 use mathlib.Core.Path.{◌≡◌, refl, sym, ap, ◌∙◌, subst}
 use mathlib.Core.List.{List}
 use Prim.Native.Nat.{ℕ, ◌*◌, ◌<◌}
 use native.Mathlib.Decide.{dec_lt}
 use native.Mathlib.Omega.{arith}
-use Rattle.switch.specs.declared.Outcome.{Outcome}
+use Rattle.switch.specs.Outcome.{Outcome}
 use Rattle.switch.specs.declared.Counts.{Counts}
 use Rattle.plans.specs.Read.{checking}
-use Rattle.switch.specs.declared.Outcome.TheVariants.{Done, Refused}
 use Rattle.switch.specs.declared.Refusal.{Refusal}
 use Rattle.switch.specs.declared.Refusal.TheVariants.{Uncovered}
 use Rattle.switch.specs.Answer.{code_of, counts_of}
@@ -15,8 +15,7 @@ use Rattle.switch.specs.Demand.{cell, longest}
 use Rattle.switch.specs.Plan.{grant}
 use Rattle.switch.proofs.Answer.{code-done}
 use Rattle.switch.proofs.Plan.{least-total}
-use Rattle.demand.specs.declared.Checked.{Checked}
-use Rattle.demand.specs.declared.Checked.TheVariants.{Fine, Faulty}
+use Rattle.demand.specs.Checked.{Checked}
 use Rattle.demand.specs.Check.{check_demand, Asked}
 use Rattle.demand.proofs.Check.{fine-asked}
 use Rattle.records.specs.Bytes.{plan_of}
@@ -48,14 +47,14 @@ module _ (E : Edition) (bounds : Bounded E) (N : ℕ) (d plan : List ℕ) where
       ∙ sym (covering-done (longest N (cell N d)) N d p (uncovered N (cell N d) (grant p)) refl (covered-end N (cell N d) (grant p) g.covers)))
 
   -- a refusal is the first whose reason holds
-  module _ (f : Refusal) (e : Refused f ≡ check_plan E N d plan) where
-    it-is : (g : Refusal) → Refused g ≡ check_plan E N d plan → Objects E N d plan g → Objects E N d plan f
+  module _ (f : Refusal) (e : Err f ≡ check_plan E N d plan) where
+    it-is : (g : Refusal) → Err g ≡ check_plan E N d plan → Objects E N d plan g → Objects E N d plan f
     it-is g q = subst (Objects E N d plan) (same (q ∙ sym e))
       where
-        same : {a b : Refusal} → Refused a ≡ Refused b → a ≡ b
+        same : {a b : Refusal} → ◌≡◌ {A = Outcome} (Err a) (Err b) → a ≡ b
         same z = cc
 
-    module _ (T : ℕ) (asks : Fine T ≡ check_demand E.ports N d) where
+    module _ (T : ℕ) (asks : Ok T ≡ check_demand E.ports N d) where
       asked : Asked E.ports N T d
       asked = fine-asked E.ports N T d (sym asks)
 
@@ -65,10 +64,10 @@ module _ (E : Edition) (bounds : Bounded E) (N : ℕ) (d plan : List ℕ) where
       abbrev place : ℕ
       place = uncovered N (cell N d) (grant (plan_of E.width plan))
 
-      refused-in : {g : Refusal} → Refused g ≡ reading E N plan (covering T N d) → Refused g ≡ check_plan E N d plan
+      refused-in : {g : Refusal} → Err g ≡ reading E N plan (covering T N d) → Err g ≡ check_plan E N d plan
       refused-in q = q ∙ check-fine E N d plan asks
 
-      by-cover : (c : Counts) → Done c ≡ checking E N plan → Dec (place < N * N) → Objects E N d plan f
+      by-cover : (c : Counts) → Ok c ≡ checking E N plan → Dec (place < N * N) → Objects E N d plan f
       by-cover c q (yes s) =
           it-is (Uncovered place)
           (refused-in (covering-short T N d (plan_of E.width plan) place refl s ∙ after-checking E N plan (covering T N d) q))
@@ -78,15 +77,15 @@ module _ (E : Edition) (bounds : Bounded E) (N : ℕ) (d plan : List ℕ) where
           ∙ sym (covering-done T N d (plan_of E.width plan) place refl (omega (arith, s))))
 
       by-plan : (o : Outcome) → o ≡ checking E N plan → Objects E N d plan f
-      by-plan (Done c) q = by-cover c q (dec_lt place (N * N))
-      by-plan (Refused g) q = it-is g (refused-in (after-checking E N plan (covering T N d) q)) (unread fair (reading.unread E bounds N plan g (sym q)))
+      by-plan (Ok c) q = by-cover c q (dec_lt place (N * N))
+      by-plan (Err g) q = it-is g (refused-in (after-checking E N plan (covering T N d) q)) (unread fair (reading.unread E bounds N plan g (sym q)))
 
     objects : Objects E N d plan f
     objects = by-demand (check_demand E.ports N d) refl
       where
         by-demand : (o : Checked) → o ≡ check_demand E.ports N d → Objects E N d plan f
-        by-demand (Faulty g) q = it-is g (check-faulty E N d plan q) (faulty (faulty-fault E N d g q))
-        by-demand (Fine T) q = by-plan T q (checking E N plan) refl
+        by-demand (Err g) q = it-is g (check-faulty E N d plan q) (faulty (faulty-fault E N d g q))
+        by-demand (Ok T) q = by-plan T q (checking E N plan) refl
 
   pub check-promise : (r : Outcome) → r ≡ check_plan E N d plan → Checks E N d plan r
   check-promise r e = record {
@@ -101,11 +100,11 @@ module _ (E : Edition) (bounds : Bounded E) (N : ℕ) (d plan : List ℕ) where
     refuses = λ f q. objects f (sym q ∙ e);
   }
     where
-      done : code_of r ≡ 0 → Done (counts_of r) ≡ check_plan E N d plan
+      done : code_of r ≡ 0 → Ok (counts_of r) ≡ check_plan E N d plan
       done z = sym (code-done r z) ∙ e
 
-      way : code_of r ≡ 0 → Reached E N d plan (Done (counts_of r))
-      way z = reached E N d plan (Done (counts_of r)) tt (done z)
+      way : code_of r ≡ 0 → Reached E N d plan (Ok (counts_of r))
+      way z = reached E N d plan (Ok (counts_of r)) tt (done z)
 
       passed : code_of r ≡ 0 → Passes E N d plan (counts_of r)
       passed z = passes E N d plan bounds (counts_of r) (done z)

@@ -1,4 +1,6 @@
 -- The demand's checks refuse nothing just where the demand is fair, and what they refuse has the first fault in their order.
+use Rattle.std.specs.Prelude.{Err, Ok}
+use Rattle.demand.specs.Checked.{Checked}
 use mathlib.Core.Path.{◌≡◌, sym, ◌∙◌, subst}
 use mathlib.Core.List.{List}
 use Prim.Native.Nat.{ℕ, ◌+◌, ◌*◌, ◌<◌, ◌≤◌}
@@ -11,7 +13,6 @@ use Rattle.switch.specs.declared.Refusal.TheVariants.{Line}
 use Rattle.switch.specs.Demand.{cell, line, longest}
 use Rattle.switch.proofs.Check.{no-ports, many-ports, some-ports}
 use Rattle.switch.proofs.Demand.{row-le-longest, col-le-longest, longest-le, longest-is}
-use Rattle.demand.specs.declared.Checked.TheVariants.{Fine, Faulty}
 use Rattle.demand.specs.Check.{check_demand}
 use Rattle.demand.specs.Lines.{over, line_side, line_over}
 use Rattle.demand.proofs.Lines.{FirstOver, over_first}
@@ -23,10 +24,10 @@ module _ (E : Edition) (N : ℕ) (d : List ℕ) where
   pub fair-longest : {most : ℕ} → Fair E most N d → longest N (cell N d) ≤ most
   fair-longest {most} f = longest-le N most (cell N d) f.rows f.columns
 
-  pub fair-fine : {most : ℕ} → most ≤ 65535 → Fair E most N d → Fine (longest N (cell N d)) ≡ check_demand E.ports N d
+  pub fair-fine : {most : ℕ} → most ≤ 65535 → Fair E most N d → Ok (longest N (cell N d)) ≡ check_demand E.ports N d
   fair-fine l f = demand.fine E.ports N d (some-ports E.ports N f.some f.few) f.cells (omega (arith, l, fair-longest f))
 
-  pub fine-fair : (T most : ℕ) → Fine T ≡ check_demand E.ports N d → T ≤ most → Fair E most N d
+  pub fine-fair : (T most : ℕ) → Ok T ≡ check_demand E.ports N d → T ≤ most → Fair E most N d
   fine-fair T most e l =
       let a = demand.fine-asked E.ports N T d (sym e) in record {
         some = a.some;
@@ -36,7 +37,7 @@ module _ (E : Edition) (N : ℕ) (d : List ℕ) where
         columns = λ j h. omega (arith, col-le-longest N (cell N d) j h, a.longest-is);
       }
 
-  pub not-fine : {f : Refusal} {T : ℕ} {A : Type 0} → Faulty f ≡ Fine T → A
+  pub not-fine : {f : Refusal} {T : ℕ} {A : Type 0} → Err f ≡ Ok T → A
   not-fine e = let z : ◌≡◌ {A = ℕ} 0 1 = cc in absurd (let g : ⊥ = omega arith in g)
 
   -- the first line that is over
@@ -45,13 +46,13 @@ module _ (E : Edition) (N : ℕ) (d : List ℕ) where
       let at = most-one (N + N) (line N d) (omega (arith, l, longest-is N d)) in
       over_first 65535 (line N d) (N + N) 0 at.0 (omega arith) (omega (arith, at.1)) (omega (arith, at.2, l, longest-is N d))
 
-  pub faulty-fault : (f : Refusal) → Faulty f ≡ check_demand E.ports N d → Fault E N d f
+  pub faulty-fault : (f : Refusal) → Err f ≡ check_demand E.ports N d → Fault E N d f
   faulty-fault f e = by-ports (dec_lt 0 N) (dec_lt E.ports N)
     where
-      same : {g h : Refusal} → Faulty g ≡ Faulty h → g ≡ h
+      same : {g h : Refusal} → ◌≡◌ {A = Checked} (Err g) (Err h) → g ≡ h
       same q = cc
 
-      it-is : (g : Refusal) → Faulty g ≡ check_demand E.ports N d → Fault E N d g → Fault E N d f
+      it-is : (g : Refusal) → Err g ≡ check_demand E.ports N d → Fault E N d g → Fault E N d f
       it-is g q = subst (Fault E N d) (same (q ∙ sym e))
 
       by_lines : (0 < N) → N ≤ E.ports → length d ≡ N * N → Dec (65535 < longest N (cell N d)) → Fault E N d f

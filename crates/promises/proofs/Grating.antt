@@ -1,5 +1,6 @@
 -- The plan covers within both doubled bounds by the one law of doubled plans, since the anti-rotations join every pair; its second part spreads
 -- the wavelengths; and what is written passes the checker and is reported so.
+use Rattle.std.specs.Prelude.{Err, Ok}
 use mathlib.Core.Path.{◌≡◌, refl, sym, ap, ap₂, ◌∙◌, subst}
 use mathlib.Core.Bool.{cond}
 use mathlib.Core.List.{List, [], ◌++◌, map, map-append}
@@ -12,8 +13,7 @@ use lib.Seq.{get_or-append-add}
 use lib.Dec.{eqb}
 use borrow.Author.Tests.{eq-eqb, ne_eqb}
 use Rattle.counting.proofs.Most.{most-le}
-use Rattle.switch.specs.declared.Outcome.{Outcome}
-use Rattle.switch.specs.declared.Outcome.TheVariants.{Done, Refused}
+use Rattle.switch.specs.Outcome.{Outcome}
 use Rattle.switch.specs.declared.Refusal.{Refusal}
 use Rattle.switch.specs.declared.Refusal.TheVariants.{Room}
 use Rattle.switch.specs.declared.Counts.{Counts}
@@ -23,8 +23,7 @@ use Rattle.switch.specs.Empty.{empty_slots}
 use Rattle.switch.specs.Demand.{cell, longest}
 use Rattle.switch.specs.Plan.{Record, total}
 use Rattle.demand.specs.Check.{check_demand, Asked}
-use Rattle.demand.specs.declared.Checked.{Checked}
-use Rattle.demand.specs.declared.Checked.TheVariants.{Fine, Faulty}
+use Rattle.demand.specs.Checked.{Checked}
 use Rattle.demand.proofs.Check.{fine-asked}
 use Rattle.rules.specs.Exact.{exact_plan}
 use Rattle.rules.specs.Doubled.{unit, divide, stretch, opposite, turns, tight, doubled_by, Doubled}
@@ -144,10 +143,10 @@ module _ (N : ℕ) (d buf : List ℕ) (r : Outcome) (after : List ℕ) (met : Gr
   abbrev T : ℕ
   T = longest N (cell N d)
 
-  refused : (x : Refusal) → Gives (grating_planned first_edition N d buf) (Refused x) buf → (Taken first_edition 65535 N d plan buf → ⊥)
+  refused : (x : Refusal) → Gives (grating_planned first_edition N d buf) (Err x) buf → (Taken first_edition 65535 N d plan buf → ⊥)
       → Why first_edition 65535 N d plan buf x → GratingGiven N d buf r after
   refused x e bad why =
-      let is : r ≡ Refused x = met.outcome ∙ sym e.outcome in
+      let is : r ≡ Err x = met.outcome ∙ sym e.outcome in
       record {
         taken = λ t. absurd (bad t);
         only_then = λ z. never (sym is ∙ code-done r z);
@@ -160,7 +159,7 @@ module _ (N : ℕ) (d buf : List ℕ) (r : Outcome) (after : List ℕ) (met : Gr
         unchanged = λ _. met.bytes ∙ sym e.bytes;
       }
 
-  module _ (asks : check_demand 64 N d ≡ Fine T) (room : length plan ≤ whole 64 buf) where
+  module _ (asks : check_demand 64 N d ≡ Ok T) (room : length plan ≤ whole 64 buf) where
     asked : Asked 64 N T d
     asked = fine-asked 64 N T d asks
 
@@ -179,7 +178,7 @@ module _ (N : ℕ) (d buf : List ℕ) (r : Outcome) (after : List ℕ) (met : Gr
     abbrev counts : Counts
     counts = plan_counts (length plan) 0 (total plan)
 
-    is : r ≡ Done counts
+    is : r ≡ Ok counts
     is = met.outcome ∙ ap (λ (x : Result). x.outcome) (sym (done first_edition N plan buf room ∙ fine-answer first_edition N d buf T asks))
 
     lays : after ≡ laid buf 0 (bytes 0 N plan)
@@ -189,7 +188,7 @@ module _ (N : ℕ) (d buf : List ℕ) (r : Outcome) (after : List ℕ) (met : Gr
     front = ap (take (length plan * 68)) lays ∙ plan-front 0 N 64 (each_width 64 N sound) buf
 
     passes : (o : Outcome) → CheckPlan N d (take (length plan * 68) after) o
-        → o ≡ Done (demand_counts (length plan) T (total plan) (empty_slots N (cell N d) plan))
+        → o ≡ Ok (demand_counts (length plan) T (total plan) (empty_slots N (cell N d) plan))
     passes o e = e ∙ ap (check_plan first_edition N d) front ∙ sound-passes first_edition first-bounded N T d (sym asks) few sound worth.covers
 
     -- what the report says of the second part
@@ -216,7 +215,7 @@ module _ (N : ℕ) (d buf : List ℕ) (r : Outcome) (after : List ℕ) (met : Gr
       later = λ z. told z (λ (x : Counts). drop (x.records * 68) after ≡ drop (x.records * 68) buf)
           (ap (drop (length plan * 68)) lays ∙ plan-behind 0 N 64 (each_width 64 N sound) buf);
       passes = λ z. told z (λ (x : Counts). (o : Outcome) → CheckPlan N d (take (x.records * 68) after) o
-          → o ≡ Done (demand_counts x.records T x.total (empty_slots N (cell N d) plan))) passes;
+          → o ≡ Ok (demand_counts x.records T x.total (empty_slots N (cell N d) plan))) passes;
       reported = λ z. told z (λ (x : Counts). (report : List ℕ) → x.records ≤ length report → (o : Outcome) (said : List ℕ)
           → GratingReport N (take (x.records * 68) after) report o said → (k : ℕ) → length (first_part 64 N d) ≤ k → k < x.records → get_or said k 0 ≤ allowed N)
           reported-less;
@@ -232,12 +231,12 @@ module _ (N : ℕ) (d buf : List ℕ) (r : Outcome) (after : List ℕ) (met : Gr
   grating-promise = by (check_demand 64 N d) refl (dec_lt (whole 64 buf) (length plan))
     where
       by : (x : Checked) → check_demand 64 N d ≡ x → Dec (whole 64 buf < length plan) → GratingGiven N d buf r after
-      by (Faulty x) e _ =
+      by (Err x) e _ =
           refused x (faulty-answer first_edition N d buf x e) (λ t. not-fine first_edition N d (sym e ∙ sym (fair-fine first_edition N d (omega arith) t.fair)))
           (faulty (faulty-fault first_edition N d x (sym e)))
-      by (Fine t) e (yes l) =
+      by (Ok t) e (yes l) =
           let s = short-answer first_edition N plan buf (length plan) refl l in
           let f = fine-answer first_edition N d buf t e in
           refused (Room (length plan)) (gives_as (sym f) s)
           (λ q. omega (arith, q.room)) (no_room (fine-fair first_edition N d t 65535 (sym e) (fine-asked 64 N t d e).small) l)
-      by (Fine t) e (no l) = given (e ∙ ap Fine (fine-asked 64 N t d e).longest-is) (omega (arith, l))
+      by (Ok t) e (no l) = given (e ∙ ap Ok (fine-asked 64 N t d e).longest-is) (omega (arith, l))

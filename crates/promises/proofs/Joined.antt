@@ -1,12 +1,12 @@
 -- The joined plan grants and totals what the plan did, in no more records; where nothing is refused it is what the second buffer starts with.
+use Rattle.std.specs.Prelude.{Err, Ok}
 use mathlib.Core.Path.{◌≡◌, refl, sym, ap, ◌∙◌, subst}
 use mathlib.Core.List.{List}
 use Prim.Native.Nat.{ℕ, ◌+◌, ◌*◌, ◌<◌, ◌≤◌}
 use native.Mathlib.Decide.{dec_lt}
 use native.Mathlib.Omega.{arith}
 use lib.ListN.{length, get_or, drop}
-use Rattle.switch.specs.declared.Outcome.{Outcome}
-use Rattle.switch.specs.declared.Outcome.TheVariants.{Done, Refused}
+use Rattle.switch.specs.Outcome.{Outcome}
 use Rattle.switch.specs.declared.Refusal.{Refusal}
 use Rattle.switch.specs.declared.Counts.{Counts}
 use Rattle.switch.specs.Answer.{code_of, counts_of, plan_counts}
@@ -44,7 +44,7 @@ module _ (E : Edition) (bounds : Bounded E) (N : ℕ) (plan : List ℕ) (byte : 
   refused : (x : Refusal) → refuses x buf ≡ joining E N plan buf → (GoodPlan E N plan → length (join_plan p) ≤ whole E.width buf → ⊥)
       → Unwritten E N plan (whole E.width buf) (length (join_plan p)) x → Joined E N plan buf r after
   refused x e bad why =
-      let is : r ≡ Refused x = met.outcome ∙ ap (λ (y : Result). y.outcome) (sym e) in
+      let is : r ≡ Err x = met.outcome ∙ ap (λ (y : Result). y.outcome) (sym e) in
       record {
         taken = λ g l. absurd (bad g l);
         only_then = λ z. never (sym is ∙ code-done r z);
@@ -55,11 +55,11 @@ module _ (E : Edition) (bounds : Bounded E) (N : ℕ) (plan : List ℕ) (byte : 
         unchanged = λ _. met.bytes ∙ ap (λ (y : Result). y.bytes) (sym e);
       }
 
-  module _ (o : Counts) (fine : checking E N plan ≡ Done o) (room : length (join_plan p) ≤ whole E.width buf) where
+  module _ (o : Counts) (fine : checking E N plan ≡ Ok o) (room : length (join_plan p) ≤ whole E.width buf) where
     abbrev counts : Counts
     counts = plan_counts (length (join_plan p)) 0 (total (join_plan p))
 
-    is : r ≡ Done counts
+    is : r ≡ Ok counts
     unfolding writes
     is = met.outcome ∙ ap (λ (y : Result). y.outcome) (sym (joining-done E N plan buf (sym fine) room))
 
@@ -87,7 +87,7 @@ module _ (E : Edition) (bounds : Bounded E) (N : ℕ) (plan : List ℕ) (byte : 
 
     done : Joined E N plan buf r after
     done = record {
-      taken = λ g l. is ∙ ap (λ (t : ℕ). Done (plan_counts (length (join_plan p)) 0 t)) (join-total p);
+      taken = λ g l. is ∙ ap (λ (t : ℕ). Ok (plan_counts (length (join_plan p)) 0 t)) (join-total p);
       only_then = λ z. (checks-good E N plan bounds o fine, room);
       joins = λ z. told z (λ (x : Counts). JoinOf p (plan_of E.width (part E x after))) (subst (JoinOf p) (sym reads) join-of);
       later = λ z. told z (λ (x : Counts). drop (x.records * (E.width + 4)) after ≡ drop (x.records * (E.width + 4)) buf)
@@ -102,11 +102,11 @@ module _ (E : Edition) (bounds : Bounded E) (N : ℕ) (plan : List ℕ) (byte : 
   joined = by (checking E N plan) refl (dec_lt (whole E.width buf) (length (join_plan p)))
     where
       by : (o : Outcome) → checking E N plan ≡ o → Dec (whole E.width buf < length (join_plan p)) → Joined E N plan buf r after
-      by (Refused x) e _ = refused x (joining-refused E N plan buf (sym e)) (λ g l. never (sym e ∙ good-checks E N plan bounds g))
+      by (Err x) e _ = refused x (joining-refused E N plan buf (sym e)) (λ g l. never (sym e ∙ good-checks E N plan bounds g))
           (unread (reading.unread E bounds N plan x e))
-      by (Done o) e (yes l) = refused _ (joining-short E N plan buf (sym e) l) (λ g h. omega arith)
+      by (Ok o) e (yes l) = refused _ (joining-short E N plan buf (sym e) l) (λ g h. omega arith)
           (no_room (checks-good E N plan bounds o e) l)
-      by (Done o) e (no l) = done o e (omega (arith, l))
+      by (Ok o) e (no l) = done o e (omega (arith, l))
 
 -- joining
 pub join-promise : (N : ℕ) (plan : List ℕ) → ((i : ℕ) → get_or plan i 0 < 256) → (buf : List ℕ) (r : Outcome) (after : List ℕ) → JoinPlan N plan buf r after

@@ -1,4 +1,5 @@
 -- A larger batch is checked as the batch was, its plan is the batch's with every hold multiplied, and so is every number beside it.
+use Rattle.std.specs.Prelude.{Err, Ok}
 use mathlib.Core.Path.{◌≡◌, refl, sym, ap, ap₂, ◌∙◌}
 use mathlib.Core.Logic.{dite}
 use mathlib.Core.List.{List, map}
@@ -17,7 +18,6 @@ use Rattle.switch.specs.Demand.{cell, longest}
 use Rattle.switch.specs.Plan.{Record, grant}
 use Rattle.switch.specs.Empty.{beyond, empty_slots}
 use Rattle.switch.proofs.Check.{no-ports, many-ports, some-ports}
-use Rattle.demand.specs.declared.Checked.TheVariants.{Fine, Faulty}
 use Rattle.demand.specs.Check.{check_demand}
 use Rattle.demand.proofs.Check.{bad-ports, bad-cells, fine}
 use Rattle.records.specs.Bytes.{whole}
@@ -62,7 +62,7 @@ module _ (E : Edition) (bounded : Bounded E) (N k : ℕ) (d buf : List ℕ) (som
   )
 
   -- both are refused, and for the same reason
-  refused : (r : Refusal) → Faulty r ≡ check_demand E.ports N d → Faulty r ≡ check_demand E.ports N (multiplied k d) → Scaled
+  refused : (r : Refusal) → Err r ≡ check_demand E.ports N d → Err r ≡ check_demand E.ports N (multiplied k d) → Scaled
   refused r a b =
       known (refuses r buf) (refuses r buf) (planned-faulty E N d (exact_plan E.width N d) buf r (sym a))
       (planned-faulty E N (multiplied k d) (exact_plan E.width N (multiplied k d)) buf r (sym b)) refl refl
@@ -74,13 +74,13 @@ module _ (E : Edition) (bounded : Bounded E) (N k : ℕ) (d buf : List ℕ) (som
     abbrev p : List Record
     p = exact_plan E.width N d
 
-    fine-once : check_demand E.ports N d ≡ Fine T
+    fine-once : check_demand E.ports N d ≡ Ok T
     fine-once = sym (fine E.ports N d (some-ports _ _ pos top) size (omega (arith, fits, mul-le-mul_left T some)))
 
-    fine-larger : check_demand E.ports N (multiplied k d) ≡ Fine (T * k)
+    fine-larger : check_demand E.ports N (multiplied k d) ≡ Ok (T * k)
     fine-larger =
         sym (fine E.ports N (multiplied k d) (some-ports _ _ pos top) (length-multiplied k d ∙ size) (rw (longest-multiplied N k d) fits))
-        ∙ ap Fine (longest-multiplied N k d)
+        ∙ ap Ok (longest-multiplied N k d)
 
     same : exact_plan E.width N (multiplied k d) ≡ map (stretch k) p
     same = exact-multiplied E.width N k pos (omega (arith, top, bounded.ports)) some d (omega (arith, size))

@@ -1,11 +1,11 @@
 -- The length is by definition the total hold and what the records are charged, and no record is charged more than d.
+use Rattle.std.specs.Prelude.{Err, Ok}
 use mathlib.Core.Path.{◌≡◌, refl, sym, ap, ◌∙◌, subst}
 use mathlib.Core.List.{List, [], ◌∷◌}
 use Prim.Native.Nat.{ℕ}
 use native.Mathlib.Omega.{arith}
 use lib.ListN.{length}
-use Rattle.switch.specs.declared.Outcome.{Outcome}
-use Rattle.switch.specs.declared.Outcome.TheVariants.{Done, Refused}
+use Rattle.switch.specs.Outcome.{Outcome}
 use Rattle.switch.specs.Answer.{code_of}
 use Rattle.switch.proofs.Answer.{code-done}
 use Rattle.switch.specs.Plan.{Record}
@@ -49,16 +49,16 @@ module _ (E : Edition) (bounds : Bounded E) (N : ℕ) (plan : List ℕ) (d : ℕ
   length-measured = by (checking E N plan) refl
     where
       by : (o : Outcome) → checking E N plan ≡ o → Measured E N plan d r
-      by (Done o) e =
-          let is : r ≡ Done (length_counts d p) = met ∙ ap (λ (x : Outcome). by_outcome x Refused (λ c. Done (length_counts d p))) e in
+      by (Ok o) e =
+          let is : r ≡ Ok (length_counts d p) = met ∙ ap (λ (x : Outcome). by_outcome x Err (λ c. Ok (length_counts d p))) e in
           record {
             taken = λ g. ap code_of is;
             only_then = λ z. checks-good E N plan bounds o e;
             refuses = λ f q. never (sym q ∙ is);
             lasts = λ z. subst (Lasts d p) (same-counts (sym is ∙ code-done r z)) (counted d p);
           }
-      by (Refused x) e =
-          let is : r ≡ Refused x = met ∙ ap (λ (y : Outcome). by_outcome y Refused (λ c. Done (length_counts d p))) e in
+      by (Err x) e =
+          let is : r ≡ Err x = met ∙ ap (λ (y : Outcome). by_outcome y Err (λ c. Ok (length_counts d p))) e in
           record {
             taken = λ g. never (sym e ∙ good-checks E N plan bounds g);
             only_then = λ z. never (sym is ∙ code-done r z);

@@ -1,11 +1,11 @@
 -- The text is by definition that of the first 4,096 bytes, and each of its cases is told by the test that leads to it.
+use Rattle.std.specs.Prelude.{Ok}
 use mathlib.Core.Path.{◌≡◌, sym, ap, ◌∙◌, subst}
 use mathlib.Core.List.{List}
 use Prim.Native.Nat.{ℕ, ◌*◌, ◌/◌, ◌≤◌}
 use lib.ListN.{length, take, drop}
 use Rattle.switch.proofs.Check.{some-ports, no-ports, many-ports}
 use Rattle.demand.proofs.Check.{fine}
-use Rattle.wishes.specs.declared.Fault.TheVariants.{Nothing}
 use Rattle.wishes.specs.Wishes.{Demanded, demand_of}
 use Rattle.wishes.proofs.Answers.{searched}
 use Rattle.wishes.proofs.Cells.{demanded, demanded-only}
@@ -33,7 +33,7 @@ module _ (w : List ℕ) where
     wished : wish_text N w ≡ demand_text N d
     unfolding wish_text
     wished =
-        ap (wished_text N w) (searched 16 N w (N * N) (some-ports 16 N good.some small) (λ _. N * N) good.even Nothing (good-list first_edition N w (N * N) good))
+        ap (wished_text N w) (searched 16 N w (N * N) (some-ports 16 N good.some small) (λ _. N * N) good.even (Ok tt) (good-list first_edition N w (N * N) good))
         ∙ ap (demand_text N) (sym is-demand)
 
   pub shows : Shows w N (wish_text N w)

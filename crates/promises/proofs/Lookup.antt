@@ -1,4 +1,5 @@
 -- A lookup finds what the definition finds, of which the crate lookup has shown that it is the record in force; each refusal is the first that holds.
+use Rattle.std.specs.Prelude.{Err, Ok}
 use mathlib.Core.Path.{◌≡◌, refl, sym, ◌∙◌, subst}
 use mathlib.Core.Logic.{dite}
 use mathlib.Core.List.{List, []}
@@ -10,8 +11,7 @@ use Rattle.switch.specs.declared.About.{About}
 use Rattle.switch.specs.declared.About.TheVariants as about
 use Rattle.switch.specs.declared.Counts.{Counts}
 use Rattle.switch.specs.declared.Edition.{Edition}
-use Rattle.switch.specs.declared.Outcome.{Outcome}
-use Rattle.switch.specs.declared.Outcome.TheVariants.{Done, Refused}
+use Rattle.switch.specs.Outcome.{Outcome}
 use Rattle.switch.specs.declared.Refusal.{Refusal}
 use Rattle.switch.specs.Editions.{first_edition, Bounded}
 use Rattle.switch.specs.Plan.{Record, total}
@@ -22,8 +22,7 @@ use Rattle.records.specs.Bytes.{whole, plan_of}
 use Rattle.plans.specs.Read.{checking}
 use Rattle.plans.proofs.Plans.{length-plan}
 use Rattle.lookup.specs.declared.Found.{Found}
-use Rattle.lookup.specs.declared.Spot.{Spot}
-use Rattle.lookup.specs.Lookup.{after_plan, spot_of, part_of, found_of}
+use Rattle.lookup.specs.Lookup.{Answered, after_plan, spot_of, part_of, found_of}
 use Rattle.lookup.proofs.Lookup.{spot-tonight, spot-nothing, spot-standby, plan-refused, plan-judged, of-ports, of-plans, within, after, judged}
 use Rattle.lookup.proofs.Meaning.{tonight-stands, standby-stands}
 use Rattle.promises.specs.Calls.{FindInForce, PartInForce}
@@ -41,13 +40,13 @@ module _ (E : Edition) (bounds : Bounded E) (N : ℕ) (tonight standby : List �
   s = plan_of E.width standby
 
   -- what is promised of a spot
-  abbrev Looked : Spot → Type 0
+  abbrev Looked : Answered → Type 0
   Looked x = LooksUp E N tonight standby t (found_of E x) (part_of E x tonight standby)
 
-  refused : (a : About) (f : Refusal) → Unfound E N tonight standby t a f → LooksUp E N tonight standby t (record { outcome = Refused f; about = a; plan = 0; start = 0; size = 0 }) []
-  refused a f u = record { stands = λ z. never (code-done (Refused f) z); refuses = λ x q. (subst (Unfound E N tonight standby t a) (same-refusal q) u, refl) }
+  refused : (a : About) (f : Refusal) → Unfound E N tonight standby t a f → LooksUp E N tonight standby t (record { outcome = Err f; about = a; plan = 0; start = 0; size = 0 }) []
+  refused a f u = record { stands = λ z. never (code-done (Err f) z); refuses = λ x q. (subst (Unfound E N tonight standby t a) (same-refusal q) u, refl) }
 
-  found : (x : Found) (part : List ℕ) {c : Counts} → x.outcome ≡ Done c → Stands E tonight standby t x part → LooksUp E N tonight standby t x part
+  found : (x : Found) (part : List ℕ) {c : Counts} → x.outcome ≡ Ok c → Stands E tonight standby t x part → LooksUp E N tonight standby t x part
   found x part e st = record { stands = λ z. st; refuses = λ f q. never (sym q ∙ e) }
 
   -- both plans are fine
@@ -67,8 +66,8 @@ module _ (E : Edition) (bounds : Bounded E) (N : ℕ) (tonight standby : List �
   looked-after g = by (checking E N standby) refl
     where
       by : (o : Outcome) → o ≡ checking E N standby → Looked (after E N tonight standby t)
-      by (Done c) e = subst Looked (plan-judged about.Standby _ e) (looked-in g (checks-good E N standby bounds c (sym e)) (judged E N standby bounds c e).held)
-      by (Refused f) e = subst Looked (plan-refused about.Standby _ e) (refused _ _ (is.Unfound.in-standby g (unread E bounds N standby f (sym e))))
+      by (Ok c) e = subst Looked (plan-judged about.Standby _ e) (looked-in g (checks-good E N standby bounds c (sym e)) (judged E N standby bounds c e).held)
+      by (Err f) e = subst Looked (plan-refused about.Standby _ e) (refused _ _ (is.Unfound.in-standby g (unread E bounds N standby f (sym e))))
 
   looked : Looked (spot_of E N tonight standby t)
   looked =
@@ -80,8 +79,8 @@ module _ (E : Edition) (bounds : Bounded E) (N : ℕ) (tonight standby : List �
       (λ none. subst Looked (of-ports E N tonight standby t (no-ports _ _ (omega (arith, none)))) (refused _ _ (is.Unfound.no-ports (λ some _. none some))))
     where
       by : 0 < N → N ≤ E.ports → (o : Outcome) → o ≡ checking E N tonight → Looked (after_plan about.Tonight (checking E N tonight) (after E N tonight standby t))
-      by some few (Done c) e = subst Looked (plan-judged about.Tonight _ e) (looked-after (checks-good E N tonight bounds c (sym e)))
-      by some few (Refused f) e = subst Looked (plan-refused about.Tonight _ e) (refused _ _ (is.Unfound.in-tonight some few (unread E bounds N tonight f (sym e))))
+      by some few (Ok c) e = subst Looked (plan-judged about.Tonight _ e) (looked-after (checks-good E N tonight bounds c (sym e)))
+      by some few (Err f) e = subst Looked (plan-refused about.Tonight _ e) (refused _ _ (is.Unfound.in-tonight some few (unread E bounds N tonight f (sym e))))
 
 -- the record in force, in numbers and as a part of one of the two plans
 pub lookup-promise : (N : ℕ) (tonight standby : List ℕ) (t : ℕ) (r : Found) (part : List ℕ) → FindInForce N tonight standby t r → PartInForce N tonight standby t part

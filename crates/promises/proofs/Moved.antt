@@ -1,4 +1,5 @@
 -- What is moved is the plan's own records in the other width, so it is read, checked and moved back as the plan itself.
+use Rattle.std.specs.Prelude.{Err, Ok}
 use mathlib.Core.Path.{◌≡◌, refl, sym, ap, ◌∙◌, subst}
 use mathlib.Core.List.{List}
 use Prim.Native.Nat.{ℕ, ◌+◌, ◌*◌, ◌<◌, ◌≤◌}
@@ -7,8 +8,7 @@ use native.Mathlib.Omega.{arith}
 use lib.ListN.{length, get_or, drop}
 use Rattle.switch.specs.declared.Counts.{Counts}
 use Rattle.switch.specs.declared.Edition.{Edition}
-use Rattle.switch.specs.declared.Outcome.{Outcome}
-use Rattle.switch.specs.declared.Outcome.TheVariants.{Done, Refused}
+use Rattle.switch.specs.Outcome.{Outcome}
 use Rattle.switch.specs.declared.Refusal.{Refusal}
 use Rattle.switch.specs.declared.Refusal.TheVariants.{Room}
 use Rattle.switch.specs.Answer.{code_of, counts_of, demand_counts}
@@ -43,7 +43,7 @@ use Rattle.promises.proofs.Reading as reading
 use Rattle.promises.proofs.Reading.{good-checks, checks-good}
 
 -- a plan of S that passes its checker, moved to T
-module _ (S T : Edition) (from : Bounded S) (to : Bounded T) (N : ℕ) (plan : List ℕ) (o : Counts) (reads : Done o ≡ checking S N plan)
+module _ (S T : Edition) (from : Bounded S) (to : Bounded T) (N : ℕ) (plan : List ℕ) (o : Counts) (reads : Ok o ≡ checking S N plan)
     (few : N ≤ T.ports) (most : o.records ≤ T.records) where
   abbrev p : List Record
   p = plan_of S.width plan
@@ -59,7 +59,7 @@ module _ (S T : Edition) (from : Bounded S) (to : Bounded T) (N : ℕ) (plan : L
   unfolding empty_slots
   same-empty M = ap (beyond N M) same-grants
 
-  pub moved_passes : (d : List ℕ) (c : Counts) → check_plan S N d plan ≡ Done c → check_plan T N d (bytes T.byte N q) ≡ Done c
+  pub moved_passes : (d : List ℕ) (c : Counts) → check_plan S N d plan ≡ Ok c → check_plan T N d (bytes T.byte N q) ≡ Ok c
   moved_passes d c e =
       let P = passes S N d plan from c (sym e) in
       let a = P.asked in
@@ -67,7 +67,7 @@ module _ (S T : Edition) (from : Bounded S) (to : Bounded T) (N : ℕ) (plan : L
       let records : length q ≡ whole S.width plan = m ∙ ap (λ (x : Counts). x.records) (known S T from to N plan o reads few most).counts in
       sound-passes T to N _ d (fine T.ports N d (some-ports T.ports N a.some few) a.size a.small) (omega (arith, m)) (sound S T from to N plan o reads few most)
       (λ i j li lj. subst (λ (g : ℕ → ℕ → ℕ). cell N d i j ≤ g i j) (sym same-grants) (P.covers i j li lj))
-      ∙ ap {B = Outcome} (λ (x : Counts). Done x)
+      ∙ ap {B = Outcome} (λ (x : Counts). Ok x)
       ((λ k. demand_counts (records k) (longest N (cell N d)) (total-moved T.width N p k) (same-empty (cell N d) k)) ∙ sym P.counts)
 
 module _ (S T : Edition) (from : Bounded S) (to : Bounded T) (ports : S.ports ≤ T.ports) (records : S.records ≤ T.records)
@@ -82,7 +82,7 @@ module _ (S T : Edition) (from : Bounded S) (to : Bounded T) (ports : S.ports �
   refused : (x : Refusal) → refuses x buf ≡ moving S T N plan buf → (GoodPlan S N plan → whole S.width plan ≤ whole T.width buf → ⊥)
       → Unwritten S N plan (whole T.width buf) (whole S.width plan) x → Moved S T N plan buf r after
   refused x e bad why =
-      let is : r ≡ Refused x = met.outcome ∙ ap (λ (y : Result). y.outcome) (sym e) in
+      let is : r ≡ Err x = met.outcome ∙ ap (λ (y : Result). y.outcome) (sym e) in
       let same : after ≡ buf = met.bytes ∙ ap (λ (y : Result). y.bytes) (sym e) in
       record {
         taken = λ g l. absurd (bad g l);
@@ -95,7 +95,7 @@ module _ (S T : Edition) (from : Bounded S) (to : Bounded T) (ports : S.ports �
         unchanged = λ _. same;
       }
 
-  module _ (o : Counts) (reads : checking S N plan ≡ Done o) where
+  module _ (o : Counts) (reads : checking S N plan ≡ Ok o) where
     good : GoodPlan S N plan
     good = checks-good S N plan from o reads
 
@@ -121,7 +121,7 @@ module _ (S T : Edition) (from : Bounded S) (to : Bounded T) (ports : S.ports �
       abbrev moved : List ℕ
       moved = bytes T.byte N (moved_plan T.width N (plan_of S.width plan))
 
-      is : r ≡ Done o
+      is : r ≡ Ok o
       is = met.outcome ∙ ap (λ (y : Result). y.outcome) (sym (moving-done S T N plan buf (sym reads) room))
 
       lays : after ≡ laid buf 0 moved
@@ -151,7 +151,7 @@ module _ (S T : Edition) (from : Bounded S) (to : Bounded T) (ports : S.ports �
             ∙ ap (λ (x : List Record). grant x i j) (moved-plan S T from to N plan o (sym reads) there fits)
             ∙ ap (λ (g : ℕ → ℕ → ℕ). g i j) (same-grants S T from to N plan o (sym reads) there fits));
         later = λ z. told z (λ (x : Counts). drop (x.records * (T.width + 4)) after ≡ drop (x.records * (T.width + 4)) buf) behind;
-        passes = λ z d c e. told z (λ (x : Counts). check_plan T N d (part T x after) ≡ Done c)
+        passes = λ z d c e. told z (λ (x : Counts). check_plan T N d (part T x after) ≡ Ok c)
             (ap (check_plan T N d) front ∙ moved_passes S T from to N plan o (sym reads) there fits d c e);
         back = λ z next l. told z (λ (x : Counts). x.records ≤ whole S.width next → moving R S N (part T x after) next ≡ record { outcome = r; bytes = laid next 0 plan })
             (λ h. ap (λ (b : List ℕ). moving R S N b next) front
@@ -165,9 +165,9 @@ module _ (S T : Edition) (from : Bounded S) (to : Bounded T) (ports : S.ports �
   moves = by (checking S N plan) refl
     where
       by : (o : Outcome) → checking S N plan ≡ o → Moved S T N plan buf r after
-      by (Refused x) e = refused x (moving-refused S T N plan buf (sym e)) (λ g l. never (sym e ∙ good-checks S N plan from g))
+      by (Err x) e = refused x (moving-refused S T N plan buf (sym e)) (λ g l. never (sym e ∙ good-checks S N plan from g))
           (unread (reading.unread S from N plan x e))
-      by (Done o) e = placed (dec_lt (whole T.width buf) o.records)
+      by (Ok o) e = placed (dec_lt (whole T.width buf) o.records)
         where
           placed : Dec (whole T.width buf < o.records) → Moved S T N plan buf r after
           placed (yes l) = refused _ (moving-short S T N plan buf (sym e) l) (λ g h. omega (arith, size o e))
@@ -185,16 +185,16 @@ pub to-first-promise : (N : ℕ) (plan : List ℕ) → ((i : ℕ) → get_or pla
 to-first-promise N plan byte buf r after met = moves movable first_edition movable-bounded first-bounded (omega arith) (omega arith) N plan byte buf r after met
 
 -- a plan that passes the second edition's checker passes within the limits of the first, where it keeps to them; so what is moved from it passes too
-pub narrowed : (N : ℕ) (d plan : List ℕ) → ((i : ℕ) → get_or plan i 0 < 256) → (c : Counts) → check_plan second_edition N d plan ≡ Done c
-    → N ≤ 64 → whole 128 plan ≤ 8192 → check_plan movable N d plan ≡ Done c
+pub narrowed : (N : ℕ) (d plan : List ℕ) → ((i : ℕ) → get_or plan i 0 < 256) → (c : Counts) → check_plan second_edition N d plan ≡ Ok c
+    → N ≤ 64 → whole 128 plan ≤ 8192 → check_plan movable N d plan ≡ Ok c
 narrowed N d plan byte c e few most =
     let P = passes second_edition N d plan second-bounded c (sym e) in
     let a = P.asked in
-    let R = reached second_edition N d plan (Done c) tt (sym e) in
+    let R = reached second_edition N d plan (Ok c) tt (sym e) in
     let size = length-plan 128 plan 0 (whole 128 plan) in
     ap (check_plan movable N d) (sym (bytes-plan second_edition second-bounded N plan R.counts (checked second_edition N plan second-bounded R.counts R.plan) byte))
     ∙ sound-passes movable movable-bounded N _ d (fine 64 N d (some-ports 64 N a.some few) a.size a.small) (omega (arith, size)) P.sound P.covers
-    ∙ ap {B = Outcome} (λ (x : Counts). Done x)
+    ∙ ap {B = Outcome} (λ (x : Counts). Ok x)
     ((λ k. demand_counts (size k) (longest N (cell N d)) (total (plan_of 128 plan)) (empty_slots N (cell N d) (plan_of 128 plan))) ∙ sym P.counts)
 
 -- what is written depends on the records of the target alone, so a plan moved to the first edition comes back by the move to the second

@@ -1,6 +1,5 @@
 -- Any two results that meet a call's contract are equal: each contract gives answer and lent memory by a definition, and what equals one thing is one thing.
-use Rattle.carry.specs.declared.Carried.{Carried}
-use Rattle.carry.specs.Carry.{new_cells, cells_after}
+use Rattle.carry.specs.Carry.{Carried, new_cells, cells_after}
 use Rattle.switch.specs.Editions.{first_edition}
 use mathlib.Core.Path.{◌≡◌, sym, ap, ◌∙◌}
 use mathlib.Core.List.{List}
@@ -12,7 +11,6 @@ use Rattle.switch.specs.Result.{Result, Gives}
 use Rattle.switch.proofs.Answer.{determined}
 use Rattle.switch.proofs.Result.{gives_one}
 use Rattle.plans.specs.declared.Stepped.{Stepped}
-use Rattle.plans.specs.Read.{of_second}
 use Rattle.reader.specs.declared.Reader.{Reader}
 use Rattle.reader.specs.Reader.{moved_to}
 use Rattle.room.specs.declared.Planner.{Planner}
@@ -86,9 +84,7 @@ pub step-one-answer : (E : Edition) (N : ℕ) (plan : List ℕ) (at : ℕ) → O
 step-one-answer E N plan at = one _
 
 pub step-second-one-answer : (N : ℕ) (plan : List ℕ) (at : ℕ) → OneAnswer (call.StepSecond N plan at)
-step-second-one-answer N plan at a b p q =
-    let e : of_second a ≡ of_second b = one _ (of_second a) (of_second b) p q in
-    λ i. record { step = (e i).step; hold = (e i).hold; outputs = (e i).outputs; next = (e i).next }
+step-second-one-answer N plan at = one _
 
 -- a reader and the step that it takes
 pub reader-one-answer : (N : ℕ) (plan : Bor (List ℕ)) → OneAnswer (call.OpenReader N plan)
@@ -97,7 +93,7 @@ reader-one-answer N plan a b p q = λ i. record { answer = one _ _ _ p.0 q.0 i; 
 pub reader-step-one-result : (r : Reader) → OneResult (call.ReaderStep r)
 reader-step-one-result r a b l m p q =
     let same : a ≡ b = one _ a b p.0 q.0 in
-    (same, p.1 ∙ ap (λ (s : Stepped). moved_to r s.next) same ∙ sym q.1)
+    (same, p.1 ∙ ap (λ (s : Stepped 64). moved_to r s.next) same ∙ sym q.1)
 
 pub check-one-answer : (N : ℕ) (d plan : List ℕ) → OneAnswer (call.CheckPlan N d plan)
 check-one-answer N d plan = one _

@@ -1,5 +1,6 @@
 -- A planner's contract is one of two results: a refusal, where the demand or the buffer is not taken, or the plan's bytes at the buffer's start,
 -- which every reader reads back as the plan.
+use Rattle.std.specs.Prelude.{Err, Ok}
 use mathlib.Core.Path.{◌≡◌, refl, sym, ap, ◌∙◌, subst}
 use mathlib.Core.List.{List}
 use Prim.Native.Nat.{ℕ, ◌+◌, ◌*◌, ◌<◌, ◌≤◌}
@@ -8,8 +9,7 @@ use native.Mathlib.Decide.{dec_lt}
 use native.Mathlib.Omega.{arith}
 use lib.ListN.{length, take, drop}
 use Rattle.switch.specs.declared.Counts.{Counts}
-use Rattle.switch.specs.declared.Outcome.{Outcome}
-use Rattle.switch.specs.declared.Outcome.TheVariants.{Done, Refused}
+use Rattle.switch.specs.Outcome.{Outcome}
 use Rattle.switch.specs.declared.Refusal.{Refusal}
 use Rattle.switch.specs.declared.Refusal.TheVariants.{Longest, Room}
 use Rattle.switch.specs.Answer.{code_of, counts_of, demand_counts}
@@ -19,8 +19,7 @@ use Rattle.switch.specs.Sound.{Each, Sound}
 use Rattle.switch.specs.Empty.{empty_slots}
 use Rattle.switch.proofs.Answer.{code-done}
 use Rattle.switch.proofs.Sound.{each_width}
-use Rattle.demand.specs.declared.Checked.{Checked}
-use Rattle.demand.specs.declared.Checked.TheVariants.{Fine, Faulty}
+use Rattle.demand.specs.Checked.{Checked}
 use Rattle.demand.specs.Check.{check_demand}
 use Rattle.demand.proofs.Check as demand
 use Rattle.records.specs.Bytes.{whole, bytes, laid, plan_of}
@@ -50,7 +49,7 @@ data Results (E : Edition) (most N : ℕ) (d : List ℕ) (p : List Record) (buf 
 
 module _ (E : Edition) (N : ℕ) (d : List ℕ) (p : List Record) (buf : List ℕ) where
   -- a demand that is checked
-  module _ (most : ℕ) (few : most ≤ 65535) (T : ℕ) (q : Fine T ≡ check_demand E.ports N d) where
+  module _ (most : ℕ) (few : most ≤ 65535) (T : ℕ) (q : Ok T ≡ check_demand E.ports N d) where
     longest-is : T ≡ longest N (cell N d)
     longest-is = (demand.fine-asked E.ports N T d (sym q)).longest-is
 
@@ -63,13 +62,13 @@ module _ (E : Edition) (N : ℕ) (d : List ℕ) (p : List Record) (buf : List �
     long : most < T → Taken E most N d p buf → ⊥
     long l t = omega (arith, l, fair-longest E N d t.fair, longest-is)
 
-  faulty-not : (most : ℕ) → most ≤ 65535 → (f : Refusal) → Faulty f ≡ check_demand E.ports N d → Taken E most N d p buf → ⊥
+  faulty-not : (most : ℕ) → most ≤ 65535 → (f : Refusal) → Err f ≡ check_demand E.ports N d → Taken E most N d p buf → ⊥
   faulty-not most few f q t = not-fine E N d (q ∙ sym (fair-fine E N d few t.fair))
 
   limited-results : (most : ℕ) → most ≤ 65535 → Results E most N d p buf (planned_up_to most E N d p buf)
   limited-results most few = by-demand (check_demand E.ports N d) refl
     where
-      by-room : (T : ℕ) → Fine T ≡ check_demand E.ports N d → Dec (most < T) → Dec (whole E.width buf < length p)
+      by-room : (T : ℕ) → Ok T ≡ check_demand E.ports N d → Dec (most < T) → Dec (whole E.width buf < length p)
           → Results E most N d p buf (planned_up_to most E N d p buf)
       by-room T q (yes h) x = rw (limited-long most E N d p buf T (sym q) h) (refused Longest (long most few T q h)
           (over-limit (fine-fair E N d T 65535 q (demand.fine-asked E.ports N T d (sym q)).small) (omega (arith, h, longest-is most few T q))))
@@ -82,15 +81,15 @@ module _ (E : Edition) (N : ℕ) (d : List ℕ) (p : List Record) (buf : List �
           fits most few T q a b (limited-done most E N d p buf T (sym q) a b)
 
       by-demand : (o : Checked) → o ≡ check_demand E.ports N d → Results E most N d p buf (planned_up_to most E N d p buf)
-      by-demand (Faulty f) q =
+      by-demand (Err f) q =
           rw (limited-faulty most E N d p buf f (sym q)) (refused f (faulty-not most few f q) (faulty (faulty-fault E N d f q)))
-      by-demand (Fine T) q = by-room T q (dec_lt most T) (dec_lt (whole E.width buf) (length p))
+      by-demand (Ok T) q = by-room T q (dec_lt most T) (dec_lt (whole E.width buf) (length p))
 
   -- a planner without a limit of its own: no line is over 65,535
   planned-results : Results E 65535 N d p buf (planned E N d p buf)
   planned-results = by-demand (check_demand E.ports N d) refl
     where
-      by-room : (T : ℕ) → Fine T ≡ check_demand E.ports N d → Dec (whole E.width buf < length p)
+      by-room : (T : ℕ) → Ok T ≡ check_demand E.ports N d → Dec (whole E.width buf < length p)
           → Results E 65535 N d p buf (planned E N d p buf)
       by-room T q (yes l) =
           rw (planned-short E N d p buf T (sym q) l)
@@ -101,9 +100,9 @@ module _ (E : Edition) (N : ℕ) (d : List ℕ) (p : List Record) (buf : List �
           fits 65535 (omega arith) T q (demand.fine-asked E.ports N T d (sym q)).small b (planned-done E N d p buf T (sym q) b)
 
       by-demand : (o : Checked) → o ≡ check_demand E.ports N d → Results E 65535 N d p buf (planned E N d p buf)
-      by-demand (Faulty f) q =
+      by-demand (Err f) q =
           rw (planned-faulty E N d p buf f (sym q)) (refused f (faulty-not 65535 (omega arith) f q) (faulty (faulty-fault E N d f q)))
-      by-demand (Fine T) q = by-room T q (dec_lt (whole E.width buf) (length p))
+      by-demand (Ok T) q = by-room T q (dec_lt (whole E.width buf) (length p))
 
 -- ---- what the written plan is worth
 
@@ -118,7 +117,7 @@ module _ (E : Edition) (serves : Serves E) (most : ℕ) (small : most ≤ 65535)
     (buf : List ℕ) (ready : Fair E most N d → Ready E N d p Worth) where
   -- the plan's bytes at the buffer's start
   module _ (t : Taken E most N d p buf) (r : Outcome) (after : List ℕ)
-      (outcome-is : r ≡ Done (demand_counts (length p) (longest N (cell N d)) (total p) (empty_slots N (cell N d) p)))
+      (outcome-is : r ≡ Ok (demand_counts (length p) (longest N (cell N d)) (total p) (empty_slots N (cell N d) p)))
       (bytes-are : after ≡ laid buf 0 (bytes E.byte N p)) where
     known : Ready E N d p Worth
     known = ready t.fair
@@ -170,11 +169,11 @@ module _ (E : Edition) (serves : Serves E) (most : ℕ) (small : most ≤ 65535)
     refuses = λ g e. (subst (Why E most N d p buf) (same-refusal (sym o ∙ e)) why, ap counts_of o, b);
   }
     where
-      same-refusal : {a c : Refusal} → Refused a ≡ Refused c → a ≡ c
+      same-refusal : {a c : Refusal} → ◌≡◌ {A = Outcome} (Err a) (Err c) → a ≡ c
       same-refusal q = cc
 
       not_done : code_of r ≡ 0 → ⊥
-      not_done e = let q : Refused f ≡ Done (counts_of r) = sym o ∙ code-done r e in let z : ◌≡◌ {A = ℕ} 0 1 = cc in omega arith
+      not_done e = let q : Err f ≡ Ok (counts_of r) = sym o ∙ code-done r e in let z : ◌≡◌ {A = ℕ} 0 1 = cc in omega arith
   promised (written t) r after o b = record {
     taken = λ _. t;
     takes = λ _. ap code_of outcome-is;
@@ -183,7 +182,7 @@ module _ (E : Edition) (serves : Serves E) (most : ℕ) (small : most ≤ 65535)
     refuses = λ f e. never (sym e ∙ outcome-is);
   }
     where
-      outcome-is : r ≡ Done (demand_counts (length p) (longest N (cell N d)) (total p) (empty_slots N (cell N d) p))
+      outcome-is : r ≡ Ok (demand_counts (length p) (longest N (cell N d)) (total p) (empty_slots N (cell N d) p))
       outcome-is = o ∙ (unfold writes in refl)
 
       bytes-are : after ≡ laid buf 0 (bytes E.byte N p)

@@ -3,7 +3,7 @@ use mathlib.Core.Path.{◌≡◌}
 use mathlib.Core.List.{List}
 use Prim.Native.Nat.{ℕ, ◌≤◌}
 use native.Mathlib.Omega.{arith}
-use Rattle.switch.specs.declared.Outcome.{Outcome}
+use Rattle.switch.specs.Outcome.{Outcome}
 use Rattle.rules.specs.Quick.{quick_plan, Quick}
 use Rattle.rules.proofs.Quick.{quick}
 use Rattle.rules.proofs.Sound.{quick-sound}

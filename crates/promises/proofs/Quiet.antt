@@ -1,4 +1,5 @@
 -- Within a limit of at least 1 the call is a planner whose plan is the rule's, and the rule's laws are its worth; a limit of 0 leaves no case but a refusal.
+use Rattle.std.specs.Prelude.{Err, Ok}
 use mathlib.Core.Path.{◌≡◌, refl, sym, ap, ◌∙◌, subst}
 use mathlib.Core.Bool.{Bool}
 use mathlib.Core.List.{List}
@@ -10,8 +11,7 @@ use lib.ListN.{length, get_or, take}
 use lib.Dec.{ltb}
 use borrow.Author.Tests.{lt-ltb, le-ltb}
 use Rattle.switch.specs.declared.Counts.{Counts}
-use Rattle.switch.specs.declared.Outcome.{Outcome}
-use Rattle.switch.specs.declared.Outcome.TheVariants.{Done, Refused}
+use Rattle.switch.specs.Outcome.{Outcome}
 use Rattle.switch.specs.declared.Refusal.{Refusal}
 use Rattle.switch.specs.declared.Refusal.TheVariants.{Limit}
 use Rattle.switch.specs.Answer.{code_of, counts_of, plan_counts, demand_counts}
@@ -21,8 +21,7 @@ use Rattle.switch.specs.Empty.{empty_slots}
 use Rattle.switch.specs.Plan.{total}
 use Rattle.switch.specs.Result.{Result, refuses, unless}
 use Rattle.switch.proofs.Answer.{code-done}
-use Rattle.demand.specs.declared.Checked.{Checked}
-use Rattle.demand.specs.declared.Checked.TheVariants.{Fine, Faulty}
+use Rattle.demand.specs.Checked.{Checked}
 use Rattle.demand.specs.Check.{check_demand}
 use Rattle.demand.proofs.Check.{fine-asked}
 use Rattle.records.specs.Bytes.{bytes, laid}
@@ -92,24 +91,24 @@ module _ (N : ℕ) (d : List ℕ) (L : ℕ) (buf : List ℕ) where
         (met.outcome ∙ ap (λ (x : Result). x.outcome) (as-planned l)) (met.bytes ∙ ap (λ (x : Result). x.bytes) (as-planned l))
 
     -- a limit of 0 is code 17, unless the demand has a fault
-    refused : L ≡ 0 → (f : Refusal) × (r ≡ Refused f) × Unlimited N d L f × (after ≡ buf)
+    refused : L ≡ 0 → (f : Refusal) × (r ≡ Err f) × Unlimited N d L f × (after ≡ buf)
     refused z = by (check_demand 64 N d) refl
       where
         is : (x : Checked) → check_demand 64 N d ≡ x → quiet_planned first_edition N d L buf ≡ after_check x (λ _. refuses Limit buf) buf
         is x e = not-planned z ∙ ap (λ (y : Checked). after_check y (λ _. refuses Limit buf) buf) e
 
-        by : (x : Checked) → check_demand 64 N d ≡ x → (f : Refusal) × (r ≡ Refused f) × Unlimited N d L f × (after ≡ buf)
-        by (Faulty f) e = (
+        by : (x : Checked) → check_demand 64 N d ≡ x → (f : Refusal) × (r ≡ Err f) × Unlimited N d L f × (after ≡ buf)
+        by (Err f) e = (
           f,
-          met.outcome ∙ ap (λ (x : Result). x.outcome) (is (Faulty f) e),
+          met.outcome ∙ ap (λ (x : Result). x.outcome) (is (Err f) e),
           faulty (faulty-fault first_edition N d f (sym e)),
-          met.bytes ∙ ap (λ (x : Result). x.bytes) (is (Faulty f) e),
+          met.bytes ∙ ap (λ (x : Result). x.bytes) (is (Err f) e),
         )
-        by (Fine T) e = (
+        by (Ok T) e = (
           Limit,
-          met.outcome ∙ ap (λ (x : Result). x.outcome) (is (Fine T) e),
+          met.outcome ∙ ap (λ (x : Result). x.outcome) (is (Ok T) e),
           no-limit (fine-fair first_edition N d T 65535 (sym e) (fine-asked 64 N T d e).small) z,
-          met.bytes ∙ ap (λ (x : Result). x.bytes) (is (Fine T) e),
+          met.bytes ∙ ap (λ (x : Result). x.bytes) (is (Ok T) e),
         )
 
     -- where it is written, the report is the plan's
@@ -117,7 +116,7 @@ module _ (N : ℕ) (d : List ℕ) (L : ℕ) (buf : List ℕ) where
       written : quiet_planned first_edition N d L buf ≡ writes first_edition N (longest N (cell N d)) (empty_slots N (cell N d) (quiet_plan 64 N L d)) (quiet_plan 64 N L d) buf
       written = as-planned l ∙ planned-done first_edition N d (quiet_plan 64 N L d) buf (longest N (cell N d)) (sym (fair-fine first_edition N d (omega arith) t.fair)) t.room
 
-      is : r ≡ Done (demand_counts (length (quiet_plan 64 N L d)) (longest N (cell N d)) (total (quiet_plan 64 N L d)) (empty_slots N (cell N d) (quiet_plan 64 N L d)))
+      is : r ≡ Ok (demand_counts (length (quiet_plan 64 N L d)) (longest N (cell N d)) (total (quiet_plan 64 N L d)) (empty_slots N (cell N d) (quiet_plan 64 N L d)))
       is = met.outcome ∙ ap (λ (x : Result). x.outcome) written ∙ (unfold writes in refl)
 
       lays : after ≡ laid buf 0 (bytes 0 N (quiet_plan 64 N L d))
@@ -151,19 +150,19 @@ module _ (N : ℕ) (d : List ℕ) (L : ℕ) (buf : List ℕ) where
 
 module _ (N : ℕ) (d : List ℕ) (L : ℕ) (r : Outcome) (met : LeastWithin N d L r) where
   abbrev tells : Outcome
-  tells = Done (plan_counts 0 (longest N (cell N d)) (least_within N L (cell N d)))
+  tells = Ok (plan_counts 0 (longest N (cell N d)) (least_within N L (cell N d)))
 
   by-case : (x : Checked) → check_demand 64 N d ≡ x → (b : Bool) → ltb 0 L ≡ b
-      → r ≡ answer_after x (λ T. unless b (Refused Limit) (Done (plan_counts 0 T (least_within N L (cell N d)))))
+      → r ≡ answer_after x (λ T. unless b (Err Limit) (Ok (plan_counts 0 T (least_within N L (cell N d)))))
   unfolding least_of
   by-case x e b q =
-      met ∙ ap (λ (y : Checked). answer_after y (λ T. unless (ltb 0 L) (Refused Limit) (Done (plan_counts 0 T (least_within N L (cell N d)))))) e
-      ∙ ap (λ (c : Bool). answer_after x (λ T. unless c (Refused Limit) (Done (plan_counts 0 T (least_within N L (cell N d)))))) q
+      met ∙ ap (λ (y : Checked). answer_after y (λ T. unless (ltb 0 L) (Err Limit) (Ok (plan_counts 0 T (least_within N L (cell N d)))))) e
+      ∙ ap (λ (c : Bool). answer_after x (λ T. unless c (Err Limit) (Ok (plan_counts 0 T (least_within N L (cell N d)))))) q
 
   told : Fair first_edition 65535 N d → 0 < L → r ≡ tells
-  told f l = by-case (Fine (longest N (cell N d))) (sym (fair-fine first_edition N d (omega arith) f)) _ (lt-ltb 0 L l)
+  told f l = by-case (Ok (longest N (cell N d))) (sym (fair-fine first_edition N d (omega arith) f)) _ (lt-ltb 0 L l)
 
-  untold : (f : Refusal) → r ≡ Refused f → Unlimited N d L f → TellsLeast N d L r
+  untold : (f : Refusal) → r ≡ Err f → Unlimited N d L f → TellsLeast N d L r
   untold f is why = record {
     taken = λ g l. never (sym is ∙ told g l);
     only_then = λ z. never (sym is ∙ code-done r z);
@@ -175,10 +174,10 @@ module _ (N : ℕ) (d : List ℕ) (L : ℕ) (r : Outcome) (met : LeastWithin N d
   least-promise = by (check_demand 64 N d) refl (dec_lt 0 L)
     where
       by : (x : Checked) → check_demand 64 N d ≡ x → Dec (0 < L) → TellsLeast N d L r
-      by (Faulty f) e l = untold f (by-case (Faulty f) e _ refl) (faulty (faulty-fault first_edition N d f (sym e)))
-      by (Fine T) e (no l) =
-          untold Limit (by-case (Fine T) e _ (le-ltb 0 L (omega arith))) (no-limit (fine-fair first_edition N d T 65535 (sym e) (fine-asked 64 N T d e).small) (omega arith))
-      by (Fine T) e (yes l) =
+      by (Err f) e l = untold f (by-case (Err f) e _ refl) (faulty (faulty-fault first_edition N d f (sym e)))
+      by (Ok T) e (no l) =
+          untold Limit (by-case (Ok T) e _ (le-ltb 0 L (omega arith))) (no-limit (fine-fair first_edition N d T 65535 (sym e) (fine-asked 64 N T d e).small) (omega arith))
+      by (Ok T) e (yes l) =
           let fair : Fair first_edition 65535 N d = fine-fair first_edition N d T 65535 (sym e) (fine-asked 64 N T d e).small in
           let is : r ≡ tells = told fair l in record {
             taken = λ _ _. is;

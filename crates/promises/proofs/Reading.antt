@@ -1,4 +1,5 @@
 -- A step gives the record at its place and goes on, up to the first that is damaged or the end, which it leaves no more.
+use Rattle.std.specs.Prelude.{Err, Ok}
 use mathlib.Core.Path.{◌≡◌, refl, sym, ap, ◌∙◌, subst}
 use mathlib.Core.Bool.{Bool, true, false, true≢false}
 use mathlib.Core.List.{List}
@@ -9,8 +10,7 @@ use native.Mathlib.Numerals.{add-one}
 use native.Mathlib.Omega.{arith}
 use lib.ListN.{length}
 use denote.Ref.{Bor}
-use Rattle.switch.specs.declared.Outcome.{Outcome}
-use Rattle.switch.specs.declared.Outcome.TheVariants.{Done, Refused}
+use Rattle.switch.specs.Outcome.{Outcome}
 use Rattle.switch.specs.declared.Refusal.{Refusal}
 use Rattle.switch.specs.declared.Refusal.TheVariants.{Ports, Malformed}
 use Rattle.switch.specs.declared.Counts.{Counts}
@@ -44,10 +44,10 @@ use Rattle.promises.proofs.Outcomes.{never, same-refusal, not-zero}
 -- ---- opening
 
 module _ (E : Edition) (N : ℕ) (plan : List ℕ) where
-  pub openable-opens : Openable E N plan → opening E N plan ≡ Done (plan_counts (whole E.width plan) 0 0)
+  pub openable-opens : Openable E N plan → opening E N plan ≡ Ok (plan_counts (whole E.width plan) 0 0)
   openable-opens o = sym (opening-done E N plan o.some o.few o.even o.most)
 
-  pub opens-openable : (c : Counts) → opening E N plan ≡ Done c → Openable E N plan
+  pub opens-openable : (c : Counts) → opening E N plan ≡ Ok c → Openable E N plan
   opens-openable c e = let o = opened E N plan c (sym e) in record { some = o.some; few = o.few; even = o.even; most = o.most }
 
   -- ---- records that are well formed, as a test and in plain statements
@@ -81,11 +81,11 @@ module _ (E : Edition) (N : ℕ) (plan : List ℕ) where
   -- ---- a whole plan
 
   module _ (bounds : Bounded E) where
-    pub good-checks : GoodPlan E N plan → checking E N plan ≡ Done (plan_counts (whole E.width plan) 0 (total (plan_of E.width plan)))
+    pub good-checks : GoodPlan E N plan → checking E N plan ≡ Ok (plan_counts (whole E.width plan) 0 (total (plan_of E.width plan)))
     good-checks g =
         sym (passes E N plan (sym (openable-opens g.opens)) (λ k l. means-fine bounds g.opens.few k l (g.each k l)))
 
-    pub checks-good : (c : Counts) → checking E N plan ≡ Done c → GoodPlan E N plan
+    pub checks-good : (c : Counts) → checking E N plan ≡ Ok c → GoodPlan E N plan
     checks-good c e =
         let h = checked E N plan bounds c (sym e) in record {
           opens = record { some = h.some; few = h.few; even = h.even; most = h.most };
@@ -93,8 +93,8 @@ module _ (E : Edition) (N : ℕ) (plan : List ℕ) where
         }
 
 -- why a plan is refused: the first test that fails
-module _ (E : Edition) (bounds : Bounded E) (N : ℕ) (plan : List ℕ) (f : Refusal) (e : checking E N plan ≡ Refused f) where
-  told : (g : Refusal) → Refused g ≡ checking E N plan → Unread E N plan g → Unread E N plan f
+module _ (E : Edition) (bounds : Bounded E) (N : ℕ) (plan : List ℕ) (f : Refusal) (e : checking E N plan ≡ Err f) where
+  told : (g : Refusal) → Err g ≡ checking E N plan → Unread E N plan g → Unread E N plan f
   told g q = subst (Unread E N plan) (same-refusal (q ∙ e))
 
   abbrev fault : ℕ
@@ -128,13 +128,13 @@ open-promise E bounds N plan r met = record {
   ends = λ n at. by (opening E N plan) refl (not-zero n) at;
 }
   where
-    by : (o : Outcome) → o ≡ opening E N plan → ((c : Counts) → r ≡ Done c → ⊥) → (at : ℕ) → step_at E N plan at ≡ nothing E step.End at
-    by (Done c) e n at = absurd (n c (met ∙ sym e))
-    by (Refused x) e n at = sym (step-refused E N plan at e)
+    by : (o : Outcome) → o ≡ opening E N plan → ((c : Counts) → r ≡ Ok c → ⊥) → (at : ℕ) → step_at E N plan at ≡ nothing E step.End at
+    by (Ok c) e n at = absurd (n c (met ∙ sym e))
+    by (Err x) e n at = sym (step-refused E N plan at e)
 
 -- ---- step by step
 
-module _ (E : Edition) (bounds : Bounded E) (N : ℕ) (plan : List ℕ) (c : Counts) (opens : opening E N plan ≡ Done c) where
+module _ (E : Edition) (bounds : Bounded E) (N : ℕ) (plan : List ℕ) (c : Counts) (opens : opening E N plan ≡ Ok c) where
   abbrev m : ℕ
   m = whole E.width plan
 
@@ -151,7 +151,7 @@ module _ (E : Edition) (bounds : Bounded E) (N : ℕ) (plan : List ℕ) (c : Cou
   count = opened-records E N plan c (sym opens)
 
   -- one step
-  pub step-promise : (at : ℕ) (s : Stepped) → StepAt E N plan at s → StepGives E N plan at s
+  pub step-promise : (at : ℕ) (s : Stepped E.width) → StepAt E N plan at s → StepGives E N plan at s
   step-promise at s met = record {
     gives = λ l w. met
         ∙ sym (step-record E c.records N plan at (omega (arith, count)) (means-fine E N plan bounds known.few at l w) ∙ there);
@@ -185,15 +185,15 @@ module _ (E : Edition) (bounds : Bounded E) (N : ℕ) (plan : List ℕ) (c : Cou
   goes_on : (k : ℕ) → (step_at E N plan (place k)).next ≡ place (k + 1)
   goes_on k = by (dec_lt k f) (dec_lt f m)
     where
-      from : (j : ℕ) → place k ≡ j → {s : Stepped} → step_at E N plan j ≡ s → (step_at E N plan (place k)).next ≡ s.next
-      from j e q = ap (λ (i : ℕ). (step_at E N plan i).next) e ∙ ap (λ (s : Stepped). s.next) q
+      from : (j : ℕ) → place k ≡ j → {s : Stepped E.width} → step_at E N plan j ≡ s → (step_at E N plan (place k)).next ≡ s.next
+      from j e q = ap (λ (i : ℕ). (step_at E N plan i).next) e ∙ ap (λ (s : Stepped E.width). s.next) q
 
       by : Dec (k < f) → Dec (f < m) → (step_at E N plan (place k)).next ≡ place (k + 1)
       by (yes l) _ = from k (omega arith) (at-record k l) ∙ omega arith
       by (no g) (yes l) = from f (omega (arith, g)) (at-damage l) ∙ omega (arith, g)
       by (no g) (no h) = from f (omega (arith, g)) (at-end (omega (arith, h, scanned.inside))) ∙ omega (arith, g)
 
-  read_step : (k : ℕ) (s : Stepped) → s ≡ step_at E N plan (place k) → ReadStep E N plan k s
+  read_step : (k : ℕ) (s : Stepped E.width) → s ≡ step_at E N plan (place k) → ReadStep E N plan k s
   read_step k s e = record {
     first = f;
     damaged = scanned;
@@ -203,16 +203,16 @@ module _ (E : Edition) (bounds : Bounded E) (N : ℕ) (plan : List ℕ) (c : Cou
   }
 
 -- a reader that was opened, and step k of it
-module _ (N : ℕ) (plan : Bor (List ℕ)) (o : Opened) (met : OpenReader N plan o) (c : Counts) (done : o.answer ≡ Done c) where
-  opens : opening first_edition N plan.now ≡ Done c
+module _ (N : ℕ) (plan : Bor (List ℕ)) (o : Opened) (met : OpenReader N plan o) (c : Counts) (done : o.answer ≡ Ok c) where
+  opens : opening first_edition N plan.now ≡ Ok c
   opens = sym met.0 ∙ done
 
   stands : {k : ℕ} {r : Reader} → Steps o.reader k r → r ≡ moved_to (starting N plan) (place first_edition first-bounded N plan.now c opens k)
   stands none = met.1 ∙ ap (moved_to (starting N plan)) (let e : 0 ≡ place first_edition first-bounded N plan.now c opens 0 = omega arith in e)
   stands (more {k} {r'} s t) =
-      t.1 ∙ ap (λ (x : Stepped). moved_to r' x.next) t.0
+      t.1 ∙ ap (λ (x : Stepped 64). moved_to r' x.next) t.0
       ∙ ap (λ (x : Reader). moved_to x (step_at first_edition x.n x.plan.now x.at).next) (stands s)
       ∙ ap (moved_to (starting N plan)) (goes_on first_edition first-bounded N plan.now c opens k ∙ ap (place first_edition first-bounded N plan.now c opens) (add-one k))
 
-  pub reader-promise : {k : ℕ} {r r' : Reader} {s : Stepped} → Steps o.reader k r → ReaderStep r s r' → ReadStep first_edition N plan.now k s
+  pub reader-promise : {k : ℕ} {r r' : Reader} {s : Stepped 64} → Steps o.reader k r → ReaderStep r s r' → ReadStep first_edition N plan.now k s
   reader-promise {k} {s = s} before t = read_step first_edition first-bounded N plan.now c opens k s (t.0 ∙ ap (λ (x : Reader). step_at first_edition x.n x.plan.now x.at) (stands before))

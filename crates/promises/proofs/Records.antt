@@ -1,4 +1,5 @@
 -- A record is written as its bytes, and read from them again; a record that was read is written as the bytes that it was read from.
+use Rattle.std.specs.Prelude.{Err, Ok}
 use mathlib.Core.Path.{◌≡◌, refl, sym, ap, ◌∙◌, subst}
 use mathlib.Core.Bool.{Bool, true, false, cond, true≢false}
 use mathlib.Core.List.{List}
@@ -10,8 +11,7 @@ use lib.Dec.{leb}
 use lib.ListN.{length, get_or, take, drop}
 use Rattle.switch.specs.declared.Edition.{Edition}
 use Rattle.switch.specs.Editions.{Bounded}
-use Rattle.switch.specs.declared.Outcome.{Outcome}
-use Rattle.switch.specs.declared.Outcome.TheVariants.{Done, Refused}
+use Rattle.switch.specs.Outcome.{Outcome}
 use Rattle.switch.specs.Check.{ports_fine}
 use Rattle.switch.proofs.Check.{many-ports}
 use Rattle.switch.proofs.Check as check
@@ -42,12 +42,12 @@ use Rattle.promises.specs.Records.{GoodRecord, Unwritable, no-ports, no_room, un
 -- ---- written, then read
 
 module _ (E : Edition) (bounds : Bounded E) (one : 0 < E.records) (hold N : ℕ) (outputs buf : List ℕ) (long : length outputs ≡ E.width) (r : Outcome) (after : List ℕ) (met : WriteRecord E hold N outputs buf r after) where
-  taken : GoodRecord E hold N outputs (length buf) → r ≡ Done (plan_counts 1 0 hold)
+  taken : GoodRecord E hold N outputs (length buf) → r ≡ Ok (plan_counts 1 0 hold)
   taken g =
       let fine = encode-sound E.width E.byte N _ (few-ports E bounds g.few).0 (few-ports E bounds g.few).1 g.sound in
       met.outcome ∙ sym (ap (λ (w : Result). w.outcome) (write_done E hold N outputs buf g.some g.few g.room fine))
 
-  module _ (c : Counts) (done : r ≡ Done c) where
+  module _ (c : Counts) (done : r ≡ Ok c) where
     good : GoodRecord E hold N outputs (length buf)
     good =
         let w = wrote E hold N outputs buf c (sym done ∙ met.outcome) in
@@ -60,7 +60,7 @@ module _ (E : Edition) (bounds : Bounded E) (one : 0 < E.records) (hold N : ℕ)
     later : drop (E.width + 4) after ≡ drop (E.width + 4) buf
     later = ap (drop (E.width + 4)) (met.bytes ∙ written-bytes E hold N outputs buf bounds one long c (sym done ∙ met.outcome)) ∙ laid-behind buf (encode E.byte hold N outputs) (E.width + 4) (encode-size E.byte hold N E.width outputs long)
 
-  unchanged : ((c : Counts) → r ≡ Done c → ⊥) → after ≡ buf
+  unchanged : ((c : Counts) → r ≡ Ok c → ⊥) → after ≡ buf
   unfolding written
   unchanged n = by (ports_fine E.ports N) (leb (E.width + 4) (length buf)) (well_formed E.width E.byte N (encode E.byte hold N outputs)) met
     where
@@ -73,7 +73,7 @@ module _ (E : Edition) (bounds : Bounded E) (one : 0 < E.records) (hold N : ℕ)
       by false q w m = m.bytes
 
   -- the first test that fails
-  module _ (f : Refusal) (e : r ≡ Refused f) where
+  module _ (f : Refusal) (e : r ≡ Err f) where
     told : (g : Refusal) → refuses g buf ≡ written E hold N outputs buf → Unwritable E hold N outputs (length buf) g → Unwritable E hold N outputs (length buf) f
     told g q = subst (Unwritable E hold N outputs (length buf)) (same-refusal (ap (λ (w : Result). w.outcome) q ∙ sym met.outcome ∙ e))
 
@@ -104,7 +104,7 @@ module _ (E : Edition) (bounds : Bounded E) (one : 0 < E.records) (hold N : ℕ)
 
 -- ---- read, then written
 
-pub read-write-promise : (E : Edition) → Bounded E → (N : ℕ) (plan : List ℕ) → ((i : ℕ) → get_or plan i 0 < 256) → (at : ℕ) (s : Stepped) → StepAt E N plan at s → s.step ≡ step.Record
+pub read-write-promise : (E : Edition) → Bounded E → (N : ℕ) (plan : List ℕ) → ((i : ℕ) → get_or plan i 0 < 256) → (at : ℕ) (s : Stepped E.width) → StepAt E N plan at s → s.step ≡ step.Record
     → (buf : List ℕ) → E.width + 4 ≤ length buf → (r : Outcome) (after : List ℕ) → WriteRecord E s.hold N s.outputs buf r after → WrittenAgain E plan at s buf r after
 read-write-promise E bounds N plan byte at s e found buf room r after met = record {
   taken = met.outcome ∙ ap (λ (w : Result). w.outcome) again;
@@ -113,15 +113,15 @@ read-write-promise E bounds N plan byte at s e found buf room r after met = reco
 }
   where
     gives : (step_at E N plan at).step ≡ step.Record
-    gives = ap (λ (x : Stepped). x.step) (sym e) ∙ found
+    gives = ap (λ (x : Stepped E.width). x.step) (sym e) ∙ found
 
     size : length (record_at E.width plan at) ≡ E.width + 4
     size = record-size E.width plan at (record-fits E.width plan at (whole E.width plan) (gave E N plan at gives).inside (whole-fits E.width plan))
 
-    again : written E s.hold N s.outputs buf ≡ record { outcome = Done (plan_counts 1 0 s.hold); bytes = laid buf 0 (record_at E.width plan at) }
+    again : written E s.hold N s.outputs buf ≡ record { outcome = Ok (plan_counts 1 0 s.hold); bytes = laid buf 0 (record_at E.width plan at) }
     again =
-        subst (λ (x : Stepped). written E x.hold N x.outputs buf
-        ≡ record { outcome = Done (plan_counts 1 0 x.hold); bytes = laid buf 0 (record_at E.width plan at) }) (sym e) (read-write E N plan at gives bounds byte buf room)
+        subst (λ (x : Stepped E.width). written E x.hold N x.outputs buf
+        ≡ record { outcome = Ok (plan_counts 1 0 x.hold); bytes = laid buf 0 (record_at E.width plan at) }) (sym e) (read-write E N plan at gives bounds byte buf room)
 
     bytes : after ≡ laid buf 0 (record_at E.width plan at)
     bytes = met.bytes ∙ ap (λ (w : Result). w.bytes) again

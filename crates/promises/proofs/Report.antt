@@ -1,12 +1,12 @@
 -- Each byte of a report is its record's number, which is the most inputs that share one wavelength; a rotation's is N.
+use Rattle.std.specs.Prelude.{Err, Ok}
 use mathlib.Core.Path.{◌≡◌, refl, sym, ap, ◌∙◌, subst}
 use mathlib.Core.List.{List}
 use Prim.Native.Nat.{ℕ, ◌<◌, ◌≤◌}
 use native.Mathlib.Decide.{dec_lt}
 use native.Mathlib.Omega.{arith}
 use lib.ListN.{length, get_or}
-use Rattle.switch.specs.declared.Outcome.{Outcome}
-use Rattle.switch.specs.declared.Outcome.TheVariants.{Done, Refused}
+use Rattle.switch.specs.Outcome.{Outcome}
 use Rattle.switch.specs.declared.Refusal.{Refusal}
 use Rattle.switch.specs.declared.Refusal.TheVariants.{Room}
 use Rattle.switch.specs.declared.Counts.{Counts}
@@ -41,7 +41,7 @@ module _ (E : Edition) (bounds : Bounded E) (N : ℕ) (plan buf : List ℕ) (r :
   refused : (x : Refusal) → refuses x buf ≡ reported E N plan buf → (GoodPlan E N plan → whole E.width plan ≤ length buf → ⊥)
       → Unwritten E N plan (length buf) (whole E.width plan) x → Reported E N plan buf r after
   refused x e bad why =
-      let is : r ≡ Refused x = met.outcome ∙ ap (λ (y : Result). y.outcome) (sym e) in
+      let is : r ≡ Err x = met.outcome ∙ ap (λ (y : Result). y.outcome) (sym e) in
       let same : after ≡ buf = met.bytes ∙ ap (λ (y : Result). y.bytes) (sym e) in
       record {
         taken = λ g l. absurd (bad g l);
@@ -53,12 +53,12 @@ module _ (E : Edition) (bounds : Bounded E) (N : ℕ) (plan buf : List ℕ) (r :
         unchanged = λ _. same;
       }
 
-  module _ (o : Counts) (fine : checking E N plan ≡ Done o) where
+  module _ (o : Counts) (fine : checking E N plan ≡ Ok o) where
     count : o.records ≡ whole E.width plan
     count = ap (λ (x : Counts). x.records) (checked E N plan bounds o (sym fine)).counts
 
     module _ (room : o.records ≤ length buf) where
-      is : r ≡ Done o
+      is : r ≡ Ok o
       is = met.outcome ∙ ap (λ (y : Result). y.outcome) (sym (report-done E N plan buf (sym fine) room))
 
       done : Reported E N plan buf r after
@@ -78,9 +78,9 @@ module _ (E : Edition) (bounds : Bounded E) (N : ℕ) (plan buf : List ℕ) (r :
   reports = by (checking E N plan) refl
     where
       by : (o : Outcome) → checking E N plan ≡ o → Reported E N plan buf r after
-      by (Refused x) e = refused x (report-refused E N plan buf (sym e)) (λ g l. never (sym e ∙ good-checks E N plan bounds g))
+      by (Err x) e = refused x (report-refused E N plan buf (sym e)) (λ g l. never (sym e ∙ good-checks E N plan bounds g))
           (unread (reading.unread E bounds N plan x e))
-      by (Done o) e = room (dec_lt (length buf) o.records)
+      by (Ok o) e = room (dec_lt (length buf) o.records)
         where
           room : Dec (length buf < o.records) → Reported E N plan buf r after
           room (yes l) = refused _ (report-short E N plan buf (sym e) l) (λ g h. omega (arith, count o e))

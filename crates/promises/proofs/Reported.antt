@@ -1,11 +1,11 @@
 -- The report of a plan that a planner wrote is the report of the plan, since what was written reads back.
+use Rattle.std.specs.Prelude.{Ok}
 use mathlib.Core.Path.{◌≡◌, sym, ap, ◌∙◌}
 use mathlib.Core.List.{List}
 use Prim.Native.Nat.{ℕ, ◌*◌, ◌<◌, ◌≤◌}
 use native.Mathlib.Omega.{arith}
 use lib.ListN.{length, get_or, take, length-map}
-use Rattle.switch.specs.declared.Outcome.{Outcome}
-use Rattle.switch.specs.declared.Outcome.TheVariants.{Done}
+use Rattle.switch.specs.Outcome.{Outcome}
 use Rattle.switch.specs.Answer.{plan_counts}
 use Rattle.switch.specs.Editions.{first_edition}
 use Rattle.switch.specs.Plan.{Record, total}
@@ -41,7 +41,7 @@ module _ (N : ℕ) (some : 0 < N) (top : N ≤ 64) {p : List Record} (few : leng
       ∙ laid-at report (grating_report N (plan_of 64 (bytes 0 N p))) k (omega (arith, ap length same, report-length N p))
       ∙ ap (λ (l : List ℕ). get_or l k 0) same
     where
-      passed : checking first_edition N (bytes 0 N p) ≡ Done (plan_counts (length p) 0 (total p))
+      passed : checking first_edition N (bytes 0 N p) ≡ Ok (plan_counts (length p) 0 (total p))
       passed = bytes-pass first_edition first-bounded N some top few sound
 
       same : grating_report N (plan_of 64 (bytes 0 N p)) ≡ grating_report N p

@@ -1,4 +1,5 @@
--- Done is answered only where every test passes; then what is written is the rescued plan on paper, whose laws stand in the crate rescue_rule.
+-- Ok is answered only where every test passes; then what is written is the rescued plan on paper, whose laws stand in the crate rescue_rule.
+use Rattle.std.specs.Prelude.{Err, Ok}
 use mathlib.Core.Path.{◌≡◌, refl, sym, ap, ◌∙◌, subst}
 use mathlib.Core.Bool.{true, false, not}
 use mathlib.Core.Logic.{⊎_elim, dite, ◌⊎◌, inl, inr}
@@ -10,8 +11,7 @@ use lib.ListN.{length, get_or, take, drop, length-append}
 use borrow.Author.Tests.{not-true}
 use Rattle.switch.specs.declared.Counts.{Counts}
 use Rattle.switch.specs.declared.Edition.{Edition}
-use Rattle.switch.specs.declared.Outcome.{Outcome}
-use Rattle.switch.specs.declared.Outcome.TheVariants.{Done, Refused}
+use Rattle.switch.specs.Outcome.{Outcome}
 use Rattle.switch.specs.declared.Refusal.{Refusal}
 use Rattle.switch.specs.declared.Refusal.TheVariants.{Records, Room, ListRoom}
 use Rattle.switch.specs.Answer.{demand_counts}
@@ -24,8 +24,7 @@ use Rattle.switch.specs.Empty.{empty_slots}
 use Rattle.switch.specs.Sound.{Each, Sound, OfWidth}
 use Rattle.switch.proofs.Check.{some-ports}
 use Rattle.switch.proofs.Sound.{each_width}
-use Rattle.demand.specs.declared.Checked.{Checked}
-use Rattle.demand.specs.declared.Checked.TheVariants.{Fine, Faulty}
+use Rattle.demand.specs.Checked.{Checked}
 use Rattle.demand.specs.Check.{check_demand}
 use Rattle.demand.proofs.Check.{fine}
 use Rattle.records.specs.Bytes.{record_at, whole, plan_of, bytes, laid}
@@ -51,7 +50,7 @@ use Rattle.promises.specs.Rescue.{Tells, Succeeds, Rescued}
 use Rattle.promises.proofs.Laid.{laid-front, laid-behind, plan-front, plan-behind}
 
 -- no answer is both
-both : {c : Counts} {f : Refusal} → Refused f ≡ Done c → ⊥
+both : {c : Counts} {f : Refusal} → Err f ≡ Ok c → ⊥
 both e = let z : ◌≡◌ {A = ℕ} 0 1 = cc in omega arith
 
 module _ (E : Edition) (N : ℕ) (d damaged : List ℕ) where
@@ -68,7 +67,7 @@ module _ (E : Edition) (N : ℕ) (d damaged : List ℕ) where
   empty = empty_slots N (cell N d) (rescued E.width E.byte N d damaged)
 
   module _ (plan list : List ℕ) where
-    rescuing-fine : {T : ℕ} → Fine T ≡ check_in E N d damaged → rescuing E N d damaged plan list ≡ fitting E N T empty K A D plan list
+    rescuing-fine : {T : ℕ} → Ok T ≡ check_in E N d damaged → rescuing E N d damaged plan list ≡ fitting E N T empty K A D plan list
     unfolding rescuing
     rescuing-fine e = rw (sym e)
 
@@ -83,7 +82,7 @@ module _ (E : Edition) (N : ℕ) (d damaged : List ℕ) where
     decided : ((r : Refusal) × (rescuing E N d damaged plan list ≡ refuses r plan list)) ⊎ Through
     decided = go (check_in E N d damaged) refl
       where
-        fits : {T : ℕ} → check_in E N d damaged ≡ Fine T → ((r : Refusal) × (rescuing E N d damaged plan list ≡ refuses r plan list)) ⊎ Through
+        fits : {T : ℕ} → check_in E N d damaged ≡ Ok T → ((r : Refusal) × (rescuing E N d damaged plan list ≡ refuses r plan list)) ⊎ Through
         fits {T} e =
             let s = rescuing-fine (sym e) in
             dite (dec_lt E.records (length (K ++ A))) (λ l. inl (Records E.records, s ∙ fitting-many E N T empty K A D plan list l))
@@ -99,20 +98,20 @@ module _ (E : Edition) (N : ℕ) (d damaged : List ℕ) where
             }))))
 
         go : (o : Checked) → check_in E N d damaged ≡ o → ((r : Refusal) × (rescuing E N d damaged plan list ≡ refuses r plan list)) ⊎ Through
-        go (Fine T) e = fits e
-        go (Faulty r) e = inl (r, rescuing-faulty E N d damaged plan list (sym e))
+        go (Ok T) e = fits e
+        go (Err r) e = inl (r, rescuing-faulty E N d damaged plan list (sym e))
 
     -- done is answered where all pass
-    through : (c : Counts) → (rescuing E N d damaged plan list).answer.outcome ≡ Done c → Through
+    through : (c : Counts) → (rescuing E N d damaged plan list).answer.outcome ≡ Ok c → Through
     through c f = ⊎_elim (λ x. absurd (both (sym (ap (λ (y : Saved). y.answer.outcome) x.1) ∙ f))) (λ t. t) decided
 
   -- ---- a demand that enters
 
   module _ (bounds : Bounded E) {T : ℕ} (enters : Entering E N T d damaged) where
-    asks : Fine T ≡ check_demand E.ports N d
+    asks : Ok T ≡ check_demand E.ports N d
     asks =
         let a = enters.asked in
-        ap {B = Checked} (λ (t : ℕ). Fine t) a.longest-is ∙ fine E.ports N d (some-ports E.ports N a.some a.few) a.size (omega (arith, a.longest-is, a.small))
+        ap {B = Checked} (λ (t : ℕ). Ok t) a.longest-is ∙ fine E.ports N d (some-ports E.ports N a.some a.few) a.size (omega (arith, a.longest-is, a.small))
 
     wide : N ≤ E.width
     wide = omega (arith, enters.asked.few, bounds.ports)
@@ -157,7 +156,7 @@ module _ (E : Edition) (N : ℕ) (d damaged : List ℕ) where
     widths = each_width E.width N sound
 
     written : (plan list : List ℕ) → writes E N T empty K A D plan list ≡ record {
-      answer = record { outcome = Done counts; added = length A; dropped = length D };
+      answer = record { outcome = Ok counts; added = length A; dropped = length D };
       plan = laid plan 0 (bytes E.byte N p);
       list = laid list 0 (entry_bytes D);
     }
@@ -194,7 +193,7 @@ module _ (E : Edition) (N : ℕ) (d damaged : List ℕ) (bounds : Bounded E) {T 
   same-plan : rescued E.width E.byte N d b ≡ q
   same-plan = rescued-twice E.width E.byte N enters.asked.some (wide E N d damaged bounds enters) (small E N d damaged bounds enters) d damaged
 
-  enters-again : Fine T ≡ check_in E N d b
+  enters-again : Ok T ≡ check_in E N d b
   enters-again = in-fine E N d b (asks E N d damaged bounds enters) (omega (arith, few, whole-bytes E.byte N E.width (widths E N d damaged bounds enters), torn-none E.width b undamaged.even))
 
   module _ (buf list' : List ℕ) (room : length (rescued E.width E.byte N d damaged) ≤ whole E.width buf) where
@@ -203,15 +202,15 @@ module _ (E : Edition) (N : ℕ) (d damaged : List ℕ) (bounds : Bounded E) {T 
         let l = ap length (append-nil q) in
         fitting-done E N T (empty_slots N (cell N d) q) q [] [] buf list' (omega (arith, few, l)) (omega (arith, room, l)) (omega arith)
 
-    ends : writes E N T (empty_slots N (cell N d) q) q [] [] buf list' ≡ record { answer = record { outcome = Done (counts E N d damaged bounds enters); added = 0; dropped = 0 }; plan = laid buf 0 b; list = list' }
+    ends : writes E N T (empty_slots N (cell N d) q) q [] [] buf list' ≡ record { answer = record { outcome = Ok (counts E N d damaged bounds enters); added = 0; dropped = 0 }; plan = laid buf 0 b; list = list' }
     unfolding writes entry_bytes
     ends = λ i. record {
-      answer = record { outcome = Done (demand_counts (length (append-nil q i)) T (total (append-nil q i)) (empty_slots N (cell N d) q)); added = 0; dropped = 0 };
+      answer = record { outcome = Ok (demand_counts (length (append-nil q i)) T (total (append-nil q i)) (empty_slots N (cell N d) q)); added = 0; dropped = 0 };
       plan = laid buf 0 (bytes E.byte N (append-nil q i));
       list = laid_none list' 0 i;
     }
 
-    twice : rescuing E N d b buf list' ≡ record { answer = record { outcome = Done (counts E N d damaged bounds enters); added = 0; dropped = 0 }; plan = laid buf 0 b; list = list' }
+    twice : rescuing E N d b buf list' ≡ record { answer = record { outcome = Ok (counts E N d damaged bounds enters); added = 0; dropped = 0 }; plan = laid buf 0 b; list = list' }
     twice =
         rescuing-fine E N d b buf list' enters-again
         ∙ (λ i. fitting E N T (empty_slots N (cell N d) (same-plan i)) (kept_back i) (nothing-added i) (nothing-dropped i) buf list')
@@ -221,25 +220,25 @@ module _ (E : Edition) (N : ℕ) (d damaged : List ℕ) (bounds : Bounded E) {T 
 -- ---- what is promised
 
 module _ (E : Edition) (bounds : Bounded E) (N : ℕ) (d damaged plan list : List ℕ) (r : Answer) (after listed : List ℕ) (met : Saves (rescuing E N d damaged plan list) r after listed) where
-  passed : (c : Counts) → r.outcome ≡ Done c → Through E N d damaged plan list
+  passed : (c : Counts) → r.outcome ≡ Ok c → Through E N d damaged plan list
   passed c q = through E N d damaged plan list c (sym (ap (λ (x : Answer). x.outcome) met.answer) ∙ q)
 
-  module _ (c : Counts) (q : r.outcome ≡ Done c) where
+  module _ (c : Counts) (q : r.outcome ≡ Ok c) where
     t : Through E N d damaged plan list
     t = passed c q
 
     gives : rescuing E N d damaged plan list ≡ record {
-      answer = record { outcome = Done (counts E N d damaged bounds t.enters); added = length (A E N d damaged); dropped = length (D E N d damaged) };
+      answer = record { outcome = Ok (counts E N d damaged bounds t.enters); added = length (A E N d damaged); dropped = length (D E N d damaged) };
       plan = laid plan 0 (bytes E.byte N (p E N d damaged bounds t.enters));
       list = laid list 0 (entry_bytes (D E N d damaged));
     }
     gives = t.gives ∙ written E N d damaged bounds t.enters plan list
 
-    answer-is : r ≡ record { outcome = Done (counts E N d damaged bounds t.enters); added = length (A E N d damaged); dropped = length (D E N d damaged) }
+    answer-is : r ≡ record { outcome = Ok (counts E N d damaged bounds t.enters); added = length (A E N d damaged); dropped = length (D E N d damaged) }
     answer-is = met.answer ∙ ap (λ (x : Saved). x.answer) gives
 
     counts-are : c ≡ counts E N d damaged bounds t.enters
-    counts-are = let e : Done c ≡ Done (counts E N d damaged bounds t.enters) = sym q ∙ ap (λ (x : Answer). x.outcome) answer-is in cc
+    counts-are = let e : Ok c ≡ Ok (counts E N d damaged bounds t.enters) = sym q ∙ ap (λ (x : Answer). x.outcome) answer-is in cc
 
     dropped-is : r.dropped ≡ length (D E N d damaged)
     dropped-is = ap (λ (x : Answer). x.dropped) answer-is
@@ -276,7 +275,7 @@ module _ (E : Edition) (bounds : Bounded E) (N : ℕ) (d damaged plan list : Lis
         let some = s.asked.some in
         let broad = wide E N d damaged bounds s in
         let thin = small E N d damaged bounds s in record {
-          passes = sound-passes E bounds N t.T d (asks E N d damaged bounds s) few-out (sound E N d damaged bounds s) (covers E N d damaged bounds s) ∙ ap {B = Outcome} (λ (x : Counts). Done x) (sym counts-are);
+          passes = sound-passes E bounds N t.T d (asks E N d damaged bounds s) few-out (sound E N d damaged bounds s) (covers E N d damaged bounds s) ∙ ap {B = Outcome} (λ (x : Counts). Ok x) (sym counts-are);
           demanded = ap (λ (x : Counts). x.longest) counts-are ∙ s.asked.longest-is;
           keeps = λ octets. both-parts ∙ ap (λ (x : List ℕ). x ++ bytes E.byte N (A E N d damaged)) (kept-bytes E.width E.byte N damaged broad thin octets (whole E.width damaged) (omega arith));
           rest = rest-cell N d (kept E.width E.byte N damaged);
@@ -298,15 +297,15 @@ module _ (E : Edition) (bounds : Bounded E) (N : ℕ) (d damaged plan list : Lis
         both-parts = unfold rescued in bytes-append E.byte N (K E N d damaged) (A E N d damaged)
 
         again : (buf list' : List ℕ) → c.records ≤ whole E.width buf → (s : Answer) (after' listed' : List ℕ) → Saves (rescuing E N d (b E N d damaged bounds t.enters few-out) buf list') s after' listed'
-            → (s ≡ record { outcome = Done c; added = 0; dropped = 0 }) × (take (length (b E N d damaged bounds t.enters few-out)) after' ≡ b E N d damaged bounds t.enters few-out) × (listed' ≡ list')
+            → (s ≡ record { outcome = Ok c; added = 0; dropped = 0 }) × (take (length (b E N d damaged bounds t.enters few-out)) after' ≡ b E N d damaged bounds t.enters few-out) × (listed' ≡ list')
         again buf list' room s after' listed' met' =
             let e = twice E N d damaged bounds t.enters few-out buf list' (omega (arith, room, ap (λ (x : Counts). x.records) counts-are)) in (
-              met'.answer ∙ ap (λ (x : Saved). x.answer) e ∙ ap {B = Answer} (λ (x : Counts). record { outcome = Done x; added = 0; dropped = 0 }) (sym counts-are),
+              met'.answer ∙ ap (λ (x : Saved). x.answer) e ∙ ap {B = Answer} (λ (x : Counts). record { outcome = Ok x; added = 0; dropped = 0 }) (sym counts-are),
               ap (take (length (b E N d damaged bounds t.enters few-out))) (met'.plan ∙ ap (λ (x : Saved). x.plan) e) ∙ laid-front buf (b E N d damaged bounds t.enters few-out) (length (b E N d damaged bounds t.enters few-out)) refl,
               met'.list ∙ ap (λ (x : Saved). x.list) e,
             )
 
-  refused : (f : Refusal) → r.outcome ≡ Refused f → (after ≡ plan) × (listed ≡ list) × (r.added ≡ 0) × (r.dropped ≡ 0)
+  refused : (f : Refusal) → r.outcome ≡ Err f → (after ≡ plan) × (listed ≡ list) × (r.added ≡ 0) × (r.dropped ≡ 0)
   refused f q = ⊎_elim
       (λ x. (
         met.plan ∙ ap (λ (y : Saved). y.plan) x.1,

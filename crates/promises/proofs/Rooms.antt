@@ -1,4 +1,5 @@
 -- Code 5 says that a plan has more records than the buffer holds, and no plan has more than the number promised.
+use Rattle.std.specs.Prelude.{Err, Ok}
 use mathlib.Core.Path.{◌≡◌, refl, sym, ap, ◌∙◌}
 use mathlib.Core.List.{List, [], ◌∷◌}
 use Prim.Native.Nat.{ℕ, ◌<◌, ◌≤◌}
@@ -11,8 +12,7 @@ use Rattle.counting.specs.Count.{ind, δ}
 use Rattle.counting.specs.Matrix.{row, col}
 use Rattle.switch.specs.declared.Counts.{Counts}
 use Rattle.switch.specs.declared.Edition.{Edition}
-use Rattle.switch.specs.declared.Outcome.{Outcome}
-use Rattle.switch.specs.declared.Outcome.TheVariants.{Done, Refused}
+use Rattle.switch.specs.Outcome.{Outcome}
 use Rattle.switch.specs.declared.Refusal.{Refusal}
 use Rattle.switch.specs.declared.Refusal.TheVariants.{Longest}
 use Rattle.switch.specs.Answer.{code_of, refusal_code}
@@ -45,12 +45,12 @@ use Rattle.promises.proofs.Quick.{quick-promise}
 
 -- where the call is done, it gives the planner's number
 module _ (E : Edition) (p : Planner) (N T : ℕ) (c : Counts) (some : 0 < N) (few : N ≤ E.ports) where
-  by-planner : (q : Planner) → room_of q N T ≡ Done c → c.records ≡ number_of q N T
+  by-planner : (q : Planner) → room_of q N T ≡ Ok c → c.records ≡ number_of q N T
   by-planner Exact e = ap (λ (x : Counts). x.records) (sym (same-counts e))
   by-planner Doubled e = ap (λ (x : Counts). x.records) (sym (same-counts e))
   by-planner Quick e = by-limit (dec_lt 1024 T)
     where
-      long : 1024 < T → Refused Longest ≡ room_of Quick N T
+      long : 1024 < T → Err Longest ≡ room_of Quick N T
       long l = rw (lt-leb T 1024 l)
 
       short : T ≤ 1024 → sufficing (quick_room T) ≡ room_of Quick N T
@@ -60,7 +60,7 @@ module _ (E : Edition) (p : Planner) (N T : ℕ) (c : Counts) (some : 0 < N) (fe
       by-limit (yes l) = never (long l ∙ e)
       by-limit (no l) = ap (λ (x : Counts). x.records) (sym (same-counts (short (omega (arith, l)) ∙ e)))
 
-  number_is : roomed E p N T ≡ Done c → c.records ≡ number_of p N T
+  number_is : roomed E p N T ≡ Ok c → c.records ≡ number_of p N T
   number_is e = by-longest (dec_lt 65535 T)
     where
       by-longest : Dec (65535 < T) → c.records ≡ number_of p N T
@@ -81,8 +81,8 @@ short-of (no_room fair l) e = (fair, l)
 -- an outcome of code 5 is a refusal, and so has that reason
 module _ {E : Edition} {most N : ℕ} {d : List ℕ} {p : List Record} {Worth : List Record → Type 0} {buf after : List ℕ} where
   five-short : (r : Outcome) → Plans E most N d p Worth buf r after → code_of r ≡ 5 → Fair E most N d × (whole E.width buf < length p)
-  five-short (Done x) plans e = absurd (let z : ⊥ = omega (arith, e) in z)
-  five-short (Refused f) plans e = short-of (plans.refuses f refl).0 e
+  five-short (Ok x) plans e = absurd (let z : ⊥ = omega (arith, e) in z)
+  five-short (Err f) plans e = short-of (plans.refuses f refl).0 e
 
 module _ (E : Edition) (serves : Serves E) where
   -- with that many whole records of room no planner of an edition gives code 5

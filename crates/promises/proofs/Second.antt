@@ -1,7 +1,7 @@
 -- The second edition serves, so its planners promise what the first edition's do, by the same theorems.
 use mathlib.Core.List.{List}
 use Prim.Native.Nat.{ℕ}
-use Rattle.switch.specs.declared.Outcome.{Outcome}
+use Rattle.switch.specs.Outcome.{Outcome}
 use Rattle.switch.specs.Editions.{second_edition}
 use Rattle.promises.specs.Calls.{ExactPlanSecond, DoubledPlanSecond, EveryRotationSecond, QuickPlanSecond}
 use Rattle.promises.specs.Exact.{PlansExactly}

@@ -2,7 +2,7 @@
 use Prim.Native.Nat.{ℕ, ◌<◌}
 use mathlib.Core.List.{List}
 use lib.ListN.{get_or}
-use Rattle.switch.specs.declared.Outcome.{Outcome}
+use Rattle.switch.specs.Outcome.{Outcome}
 use Rattle.switch.specs.Editions.{second_edition}
 use Rattle.switch.proofs.Editions.{second-bounded}
 use Rattle.promises.specs.Checked.{Checks}

@@ -1,5 +1,6 @@
 -- The open shop's contract is a refusal, where the demand or the buffer is not taken, or the plan's records at the buffer's start, which read back as
 -- the plan on paper; and the reader's is what its tests came to.
+use Rattle.std.specs.Prelude.{Err, Ok}
 use mathlib.Core.Path.{◌≡◌, refl, sym, ap, ◌∙◌, subst}
 use mathlib.Core.Bool.{Bool, true, false, cond}
 use mathlib.Core.List.{List}
@@ -10,8 +11,7 @@ use native.Mathlib.Omega.{arith}
 use lib.ListN.{length, take, drop}
 use lib.Dec.{leb, eqb}
 use borrow.Author.Tests.{lt-leb, le-leb, leb-false, eq-eqb}
-use Rattle.switch.specs.declared.Outcome.{Outcome}
-use Rattle.switch.specs.declared.Outcome.TheVariants.{Done, Refused}
+use Rattle.switch.specs.Outcome.{Outcome}
 use Rattle.switch.specs.declared.Refusal.{Refusal}
 use Rattle.switch.specs.declared.Refusal.TheVariants.{Room, Torn, Malformed}
 use Rattle.switch.specs.Answer.{code_of, counts_of, plan_counts}
@@ -19,8 +19,7 @@ use Rattle.switch.specs.Check.{ports_fine}
 use Rattle.switch.specs.Editions.{first_edition}
 use Rattle.switch.proofs.Answer.{code-done}
 use Rattle.switch.proofs.Check.{some-ports}
-use Rattle.demand.specs.declared.Checked.{Checked}
-use Rattle.demand.specs.declared.Checked.TheVariants.{Fine, Faulty}
+use Rattle.demand.specs.Checked.{Checked}
 use Rattle.demand.specs.Check.{check_demand}
 use Rattle.demand.proofs.Check.{fine-asked}
 use Rattle.records.specs.Bytes.{laid}
@@ -50,7 +49,7 @@ module _ (N s : ℕ) (switching : s ≤ 65535) (d buf : List ℕ) (r : Outcome) 
   p = shop_plan N s d
 
   -- a refusal with its reason, where something is not taken
-  refused : (f : Refusal) → (shop.Taken N d buf → ⊥) → shop.Why N d buf f → r ≡ Refused f → after ≡ buf → shop.PlansTasks N s d buf r after
+  refused : (f : Refusal) → (shop.Taken N d buf → ⊥) → shop.Why N d buf f → r ≡ Err f → after ≡ buf → shop.PlansTasks N s d buf r after
   refused f not_taken why e b = record {
     taken = λ z. never (sym e ∙ code-done r z);
     takes = λ t. absurd (not_taken t);
@@ -58,7 +57,7 @@ module _ (N s : ℕ) (switching : s ≤ 65535) (d buf : List ℕ) (r : Outcome) 
     refuses = λ g q. (subst (shop.Why N d buf) (same-refusal (sym e ∙ q)) why, ap counts_of e, b);
   }
 
-  module _ (t : shop.Taken N d buf) (e : r ≡ Done (plan_counts (length p) 0 (latest p))) (b : after ≡ laid buf 0 (bytes p)) where
+  module _ (t : shop.Taken N d buf) (e : r ≡ Ok (plan_counts (length p) 0 (latest p))) (b : after ≡ laid buf 0 (bytes p)) where
     top : N ≤ 255
     top = omega (arith, t.fair.few)
 
@@ -107,10 +106,10 @@ module _ (N s : ℕ) (switching : s ≤ 65535) (d buf : List ℕ) (r : Outcome) 
 
   checked : (o : Checked) → check_demand 64 N d ≡ o → r ≡ (shopped N s d buf).outcome → after ≡ (shopped N s d buf).bytes → shop.PlansTasks N s d buf r after
   unfolding shopped room_for writes
-  checked (Faulty f) q e b = refused f
+  checked (Err f) q e b = refused f
       (λ t. not-fine first_edition N d (sym q ∙ sym (fair-fine first_edition N d (omega arith) t.fair)))
       (shop.faulty (faulty-fault first_edition N d f (sym q))) (rw q at e) (rw q at b)
-  checked (Fine T) q e b = go (dec_lt (length buf / 12) (length p))
+  checked (Ok T) q e b = go (dec_lt (length buf / 12) (length p))
     where
       asked : (0 < N) × (N ≤ 64) × (T ≤ 65535)
       asked = let a = fine-asked 64 N T d q in (a.some, a.few, a.small)
@@ -123,7 +122,7 @@ module _ (N s : ℕ) (switching : s ≤ 65535) (d buf : List ℕ) (r : Outcome) 
 
       go : Dec (length buf / 12 < length p) → shop.PlansTasks N s d buf r after
       go (yes l) = refused (Room (shop.asking N d)) (λ t. omega (arith, t.room, many)) (shop.no_room fair (omega (arith, many)))
-          (rw (q, lt-leb (length p) (length buf / 12) l) at e ∙ ap (λ (k : ℕ). Refused (Room k)) many) (rw (q, lt-leb (length p) (length buf / 12) l) at b)
+          (rw (q, lt-leb (length p) (length buf / 12) l) at e ∙ ap (λ (k : ℕ). Err (Room k)) many) (rw (q, lt-leb (length p) (length buf / 12) l) at b)
       go (no l) =
           let h : length p ≤ length buf / 12 = omega arith in
           written (record { fair = fair; room = omega (arith, many) }) (rw (q, le-leb (length p) (length buf / 12) h) at e) (rw (q, le-leb (length p) (length buf / 12) h) at b)
@@ -158,21 +157,21 @@ module _ (N : ℕ) (tasks : List ℕ) where
   not-both : true ≡ false → ⊥
   not-both q = let z : ◌≡◌ {A = ℕ} 0 1 = cc in omega arith
 
-  why : (f : Refusal) → reading N tasks ≡ Refused f → shop.WhyUnread N tasks f
+  why : (f : Refusal) → reading N tasks ≡ Err f → shop.WhyUnread N tasks f
   unfolding reading reading_in
   why f e = by-ports (ports_fine 64 N) refl
     where
       m : ℕ
       m = length tasks / 12
 
-      by-records : (b : Bool) → leb m (faulty N tasks m 0) ≡ b → cond b (Done (plan_counts m 0 (latest (tasks_from tasks 0 m)))) (Refused (Malformed (faulty N tasks m 0))) ≡ Refused f → shop.WhyUnread N tasks f
+      by-records : (b : Bool) → leb m (faulty N tasks m 0) ≡ b → cond b (Ok (plan_counts m 0 (latest (tasks_from tasks 0 m)))) (Err (Malformed (faulty N tasks m 0))) ≡ Err f → shop.WhyUnread N tasks f
       by-records true q g = never (sym g)
       by-records false q g =
           let l : faulty N tasks m 0 < m = leb-false m (faulty N tasks m 0) q in
           let w = first m 0 (omega arith) in
           subst (shop.WhyUnread N tasks) (same-refusal g) (shop.bad-record (faulty N tasks m 0) l (λ j u. w.0 j (omega arith) u) w.1)
 
-      by_size : (b : Bool) → eqb (length tasks % 12) 0 ≡ b → cond b (reading_in m N tasks) (Refused (Torn m)) ≡ Refused f → shop.WhyUnread N tasks f
+      by_size : (b : Bool) → eqb (length tasks % 12) 0 ≡ b → cond b (reading_in m N tasks) (Err (Torn m)) ≡ Err f → shop.WhyUnread N tasks f
       by_size true q g = by-records (leb m (faulty N tasks m 0)) refl g
       by_size false q g = subst (shop.WhyUnread N tasks) (same-refusal g) (shop.torn (λ z. not-both (sym (eq-eqb (length tasks % 12) 0 z) ∙ q)))
 

@@ -1,4 +1,5 @@
 -- A wish's answer is the one that its rules ask for; a wish list is refused by the first test that fails, so code 0 says that none does.
+use Rattle.std.specs.Prelude.{Err, Ok}
 use mathlib.Core.Path.{◌≡◌, refl, sym, ap, ◌∙◌, subst}
 use mathlib.Core.Bool.{Bool, true, false, true≢false}
 use mathlib.Core.List.{List}
@@ -10,15 +11,13 @@ use native.Mathlib.Omega.{arith}
 use lib.Dec.{ltb, eqb}
 use lib.ListN.{length}
 use lib.Ieee.{Float, down, of_bits, binary32}
-use Rattle.wish.specs.declared.Wish.{Wish}
-use Rattle.wish.specs.declared.Wish.TheVariants.{Slots, NotFinite, BelowZero, AboveMost}
-use Rattle.wish.specs.Wish.{worth, wish_bits, code_of, slots_of, InRange}
+use Rattle.wish.specs.declared.Unfit.TheVariants.{NotFinite, BelowZero, AboveMost}
+use Rattle.wish.specs.Wish.{Wish, worth, wish_bits, code_of, slots_of, InRange}
 use Rattle.wish.specs.Meaning.{Answers, a-nan, an-infinity, below-zero, above_most, its-slots}
 use Rattle.wish.proofs.Answer.{said}
 use Rattle.wish.proofs.Above.{above-two}
 use Rattle.switch.specs.declared.Edition.{Edition}
-use Rattle.switch.specs.declared.Outcome.{Outcome}
-use Rattle.switch.specs.declared.Outcome.TheVariants.{Done, Refused}
+use Rattle.switch.specs.Outcome.{Outcome}
 use Rattle.switch.specs.declared.Refusal.{Refusal}
 use Rattle.switch.specs.declared.Refusal.TheVariants.{Ports}
 use Rattle.switch.specs.declared.Counts.{Counts}
@@ -26,8 +25,7 @@ use Rattle.switch.specs.Answer.{counts_of, plan_counts}
 use Rattle.switch.proofs.Answer.{code-done}
 use Rattle.switch.proofs.Check.{some-ports, no-ports, many-ports}
 use Rattle.wishes.specs.declared.WishRecord.{WishRecord}
-use Rattle.wishes.specs.declared.Fault.{Fault}
-use Rattle.wishes.specs.declared.Fault.TheVariants.{At, Nothing}
+use Rattle.wishes.specs.Fault.{Fault}
 use Rattle.wishes.specs.Record.{record_at, well_formed}
 use Rattle.wishes.specs.Fault.{named, wish_fault, fault_at, first_fault}
 use Rattle.wishes.specs.Wishes.{Demanded, cells_of, cells_after, outcome}
@@ -68,11 +66,11 @@ few-slots (below-zero h) = omega arith
 few-slots (above_most h) = omega arith
 few-slots (its-slots {k} z l h) = worth-le k h
 
-slots-are : (w : Wish) → code_of w ≡ 0 → w ≡ Slots (slots_of w)
-slots-are (Slots k) z = refl
-slots-are NotFinite z = absurd (omega (arith, z))
-slots-are BelowZero z = absurd (omega (arith, z))
-slots-are AboveMost z = absurd (omega (arith, z))
+slots-are : (w : Wish) → code_of w ≡ 0 → w ≡ Ok (slots_of w)
+slots-are (Ok k) z = refl
+slots-are (Err NotFinite) z = absurd (omega (arith, z))
+slots-are (Err BelowZero) z = absurd (omega (arith, z))
+slots-are (Err AboveMost) z = absurd (omega (arith, z))
 
 -- one wish
 pub wish-promise : (bits : ℕ) (w : Wish) → OfBits bits w → Wished bits w
@@ -108,11 +106,11 @@ module _ (N : ℕ) (list : List ℕ) (k : ℕ) where
       by true e = absurd (g.fresh (named_by list k _ _ e))
       by false e = e
 
-  good-nothing : GoodWish N list k → fault_at N list k ≡ Nothing
+  good-nothing : GoodWish N list k → fault_at N list k ≡ Ok tt
   unfolding fault_at
   good-nothing g = its-wish N k _ r (formed g) (fresh g) ∙ ap (wish_fault k) (slots-are w g.wish)
 
-  nothing-good : fault_at N list k ≡ Nothing → GoodWish N list k
+  nothing-good : fault_at N list k ≡ Ok tt → GoodWish N list k
   unfolding fault_at well_formed
   nothing-good e =
       let s = sound N k _ r e in
@@ -127,19 +125,19 @@ module _ (N : ℕ) (list : List ℕ) (k : ℕ) where
         wish = taken w (sym (its-wish N k _ r s.formed s.fresh) ∙ e);
       }
     where
-      taken : (w : Wish) → wish_fault k w ≡ Nothing → code_of w ≡ 0
-      taken (Slots n) q = refl
-      taken NotFinite q = absurd (let z : ◌≡◌ {A = ℕ} 0 1 = cc in omega arith)
-      taken BelowZero q = absurd (let z : ◌≡◌ {A = ℕ} 0 1 = cc in omega arith)
-      taken AboveMost q = absurd (let z : ◌≡◌ {A = ℕ} 0 1 = cc in omega arith)
+      taken : (w : Wish) → wish_fault k w ≡ Ok tt → code_of w ≡ 0
+      taken (Ok n) q = refl
+      taken (Err NotFinite) q = absurd (let z : ◌≡◌ {A = ℕ} 0 1 = cc in omega arith)
+      taken (Err BelowZero) q = absurd (let z : ◌≡◌ {A = ℕ} 0 1 = cc in omega arith)
+      taken (Err AboveMost) q = absurd (let z : ◌≡◌ {A = ℕ} 0 1 = cc in omega arith)
 
-none_first : (N : ℕ) (list : List ℕ) (m : ℕ) → ((k : ℕ) → k < m → fault_at N list k ≡ Nothing) → first_fault N list m ≡ Nothing
+none_first : (N : ℕ) (list : List ℕ) (m : ℕ) → ((k : ℕ) → k < m → fault_at N list k ≡ Ok tt) → first_fault N list m ≡ Ok tt
 unfolding first_fault
 none_first N list zero h = refl
 none_first N list (suc m) h = rw (none_first N list m (λ k l. h k (omega arith)), h m (omega arith))
 
 -- a list with nothing wrong has no fault
-pub good-list : (E : Edition) (N : ℕ) (list : List ℕ) (cells : ℕ) → GoodList E N list cells → first_fault N list (length list / 8) ≡ Nothing
+pub good-list : (E : Edition) (N : ℕ) (list : List ℕ) (cells : ℕ) → GoodList E N list cells → first_fault N list (length list / 8) ≡ Ok tt
 good-list E N list cells g = none_first N list (length list / 8) (λ k l. good-nothing N list k (g.each k l))
 
 -- ---- the list
@@ -148,20 +146,20 @@ module _ (E : Edition) (N : ℕ) (list cells : List ℕ) (r : Outcome) (after : 
   abbrev count : ℕ
   count = length list / 8
 
-  list-taken : GoodList E N list (length cells) → r ≡ Done (plan_counts count 0 0)
-  list-taken g = met.outcome ∙ searched E.ports N list (length cells) (some-ports E.ports N g.some g.few) g.square g.even Nothing
+  list-taken : GoodList E N list (length cells) → r ≡ Ok (plan_counts count 0 0)
+  list-taken g = met.outcome ∙ searched E.ports N list (length cells) (some-ports E.ports N g.some g.few) g.square g.even (Ok tt)
       (good-list E N list (length cells) g)
 
-  module _ (c : Counts) (done : r ≡ Done c) where
-    refused : {x : Refusal} {A : Type 0} → outcome E.ports N list (length cells) ≡ Refused x → A
+  module _ (c : Counts) (done : r ≡ Ok c) where
+    refused : {x : Refusal} {A : Type 0} → outcome E.ports N list (length cells) ≡ Err x → A
     refused e = never (sym e ∙ sym met.outcome ∙ done)
 
-    no-fault-first : length cells ≡ N * N → 0 < N → N ≤ E.ports → length list % 8 ≡ 0 → first_fault N list count ≡ Nothing
+    no-fault-first : length cells ≡ N * N → 0 < N → N ≤ E.ports → length list % 8 ≡ 0 → first_fault N list count ≡ Ok tt
     no-fault-first square some few even = by (first_fault N list count) refl
       where
-        by : (f : Fault) → first_fault N list count ≡ f → first_fault N list count ≡ Nothing
-        by (At x) e = refused (searched E.ports N list (length cells) (some-ports E.ports N some few) square even (At x) e)
-        by Nothing e = e
+        by : (f : Fault) → first_fault N list count ≡ f → first_fault N list count ≡ Ok tt
+        by (Err x) e = refused (searched E.ports N list (length cells) (some-ports E.ports N some few) square even (Err x) e)
+        by (Ok u) e = e
 
     list-good : GoodList E N list (length cells)
     list-good =
@@ -186,17 +184,17 @@ module _ (E : Edition) (N : ℕ) (list cells : List ℕ) (r : Outcome) (after : 
         subst (Demanded N list count) (sym (met.bytes ∙ ap (cells_of N list cells) (sym met.outcome ∙ done)))
         (demanded N list count (no-fault-first g.square g.some g.few g.even))
 
-  list-unchanged : ((c : Counts) → r ≡ Done c → ⊥) → after ≡ cells
+  list-unchanged : ((c : Counts) → r ≡ Ok c → ⊥) → after ≡ cells
   unfolding cells_after
   list-unchanged n = by (outcome E.ports N list (length cells)) refl
     where
       by : (o : Outcome) → outcome E.ports N list (length cells) ≡ o → after ≡ cells
-      by (Done c) e = absurd (n c (met.outcome ∙ e))
-      by (Refused x) e = met.bytes ∙ ap (cells_of N list cells) e
+      by (Ok c) e = absurd (n c (met.outcome ∙ e))
+      by (Err x) e = met.bytes ∙ ap (cells_of N list cells) e
 
   -- the first test that fails
-  module _ (f : Refusal) (e : r ≡ Refused f) where
-    told : (g : Refusal) → outcome E.ports N list (length cells) ≡ Refused g → Untaken E N list (length cells) g → Untaken E N list (length cells) f
+  module _ (f : Refusal) (e : r ≡ Err f) where
+    told : (g : Refusal) → outcome E.ports N list (length cells) ≡ Err g → Untaken E N list (length cells) g → Untaken E N list (length cells) f
     told g q = subst (Untaken E N list (length cells)) (same-refusal (sym q ∙ sym met.outcome ∙ e))
 
     why : Untaken E N list (length cells) f
@@ -210,10 +208,10 @@ module _ (E : Edition) (N : ℕ) (list cells : List ℕ) (r : Outcome) (after : 
         (λ z. told Ports (bad-ports E.ports N list (length cells) (no-ports E.ports N (omega (arith, z)))) (untaken.no-ports (λ s _. z s)))
       where
         by : 0 < N → N ≤ E.ports → length cells ≡ N * N → length list % 8 ≡ 0 → (x : Fault) → first_fault N list count ≡ x → Untaken E N list (length cells) f
-        by some few square even (At x) q =
-            told x (searched E.ports N list (length cells) (some-ports E.ports N some few) square even (At x) q)
+        by some few square even (Err x) q =
+            told x (searched E.ports N list (length cells) (some-ports E.ports N some few) square even (Err x) q)
             (untaken.faulty some few square even (first-at N list count x q))
-        by some few square even Nothing q = never (sym e ∙ met.outcome ∙ searched E.ports N list (length cells) (some-ports E.ports N some few) square even Nothing q)
+        by some few square even (Ok u) q = never (sym e ∙ met.outcome ∙ searched E.ports N list (length cells) (some-ports E.ports N some few) square even (Ok u) q)
 
   -- a list of wishes
   pub wishes-promise : WishedAll E N list cells r after

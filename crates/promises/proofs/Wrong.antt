@@ -1,4 +1,5 @@
 -- The easy wrong planners are shut out: a plan that covers a demand of something is held at least T, and no longer than twice that.
+use Rattle.std.specs.Prelude.{Err, Ok}
 use mathlib.Core.Path.{◌≡◌, refl, sym, ap, ◌∙◌, subst}
 use mathlib.Core.Logic.{dite}
 use mathlib.Core.List.{List, ◌∷◌}
@@ -13,8 +14,7 @@ use Rattle.counting.specs.Matrix.{row, col}
 use Rattle.counting.proofs.Sum.{sum-at}
 use Rattle.counting.proofs.Count.{δ-other}
 use Rattle.switch.specs.declared.Counts.{Counts}
-use Rattle.switch.specs.declared.Outcome.{Outcome}
-use Rattle.switch.specs.declared.Outcome.TheVariants.{Done, Refused}
+use Rattle.switch.specs.Outcome.{Outcome}
 use Rattle.switch.specs.declared.Refusal.{Refusal}
 use Rattle.switch.specs.Answer.{code_of, counts_of}
 use Rattle.switch.specs.Check.{ports_fine}
@@ -25,7 +25,6 @@ use Rattle.switch.proofs.Answer.{code-done}
 use Rattle.switch.proofs.Append.{total-append}
 use Rattle.switch.proofs.Demand.{row-le-longest, blank-zeros}
 use Rattle.switch.proofs.Plan.{least-total}
-use Rattle.demand.specs.declared.Checked.TheVariants.{Fine}
 use Rattle.demand.specs.Check.{check_demand}
 use Rattle.demand.proofs.Check.{fine-asked}
 use Rattle.rules.specs.Exact.{exact_plan, Exact}
@@ -123,8 +122,8 @@ module _ (E : Edition) (most N : ℕ) (d : List ℕ) (p : List Record) (Worth : 
   long : longest N (cell N d) ≤ total plan
   long = least-total N (cell N d) plan worth.plan worth.covers
 
-  refused : (f : Refusal) → r ≡ Refused f → ⊥
-  refused f e = let q : Refused f ≡ Done (counts_of r) = sym e ∙ code-done r done in let z : ◌≡◌ {A = ℕ} 0 1 = cc in omega arith
+  refused : (f : Refusal) → r ≡ Err f → ⊥
+  refused f e = let q : Err f ≡ Ok (counts_of r) = sym e ∙ code-done r done in let z : ◌≡◌ {A = ℕ} 0 1 = cc in omega arith
 
   same : (e : List ℕ) → longest N (cell N e) ≡ 0 → Modest N e plan → ⊥
   same e z m = omega (arith, m.short, z, some, long)
@@ -167,7 +166,7 @@ module _ (E : Edition) (most N : ℕ) (d : List ℕ) (p : List Record) (Worth : 
 abbrev pub blank : List ℕ
 blank = replicate 340 0
 
-p1-fine : Fine 3 ≡ check_demand 64 2 d1
+p1-fine : Ok 3 ≡ check_demand 64 2 d1
 unfolding check_demand ports_fine longest most row col cell sum
 p1-fine = refl
 

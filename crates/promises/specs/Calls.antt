@@ -1,10 +1,9 @@
 -- The contract of each public call, as a statement about its answer and about what it leaves in lent memory. Definitions only.
 use Rattle.std.specs.Prelude.{◌≡◌, List, ℕ, length, take, Float}
 use Rattle.std.specs.Borrow.{Bor}
-use Rattle.switch.specs.declared.Outcome.{Outcome}
+use Rattle.switch.specs.Outcome.{Outcome}
 use Rattle.switch.specs.Result.{Gives}
-use Rattle.wish.specs.declared.Wish.{Wish}
-use Rattle.wish.specs.Wish.{wish_of, wish_bits}
+use Rattle.wish.specs.Wish.{Wish, wish_of, wish_bits}
 use Rattle.wishes.specs.Wishes.{wishing}
 use Rattle.rules.specs.Exact.{exact_plan}
 use Rattle.rules.specs.Doubled.{every_rotation_plan, doubled_plan}
@@ -13,17 +12,15 @@ use Rattle.planner.specs.Planned.{planned, planned_up_to}
 use Rattle.records.specs.Bytes.{laid}
 use Rattle.records.specs.Write.{written}
 use Rattle.plans.specs.declared.Stepped.{Stepped}
-use Rattle.plans.specs.declared.SteppedSecond.{SteppedSecond}
 use Rattle.switch.specs.declared.Edition.{Edition}
 use Rattle.switch.specs.Editions.{first_edition, second_edition}
-use Rattle.plans.specs.Read.{opening, step_at, of_second}
+use Rattle.plans.specs.Read.{opening, step_at}
 use Rattle.reader.specs.declared.Reader.{Reader}
 use Rattle.reader.specs.declared.Opened.{Opened}
 use Rattle.reader.specs.Reader.{starting, moved_to}
 use Rattle.room.specs.declared.Planner.{Planner}
 use Rattle.room.specs.Room.{roomed}
-use Rattle.carry.specs.declared.Carried.{Carried}
-use Rattle.carry.specs.Carry.{Carries}
+use Rattle.carry.specs.Carry.{Carried, Carries}
 use Rattle.rescue.specs.declared.Answer.{Answer}
 use Rattle.rescue.specs.Rescue.{rescuing, Saves}
 use Rattle.lookup.specs.declared.Found.{Found}
@@ -114,19 +111,19 @@ abbrev pub OpenPlan : (E : Edition) (N : ℕ) (plan : List ℕ) (r : Outcome) �
 OpenPlan E N plan r = r ≡ opening E N plan
 
 -- plans::step_at(n, plan, at), and reader::step_from(n, plan, at)
-abbrev pub StepAt : (E : Edition) (N : ℕ) (plan : List ℕ) (at : ℕ) (s : Stepped) → Type 0
+abbrev pub StepAt : (E : Edition) (N : ℕ) (plan : List ℕ) (at : ℕ) (s : Stepped E.width) → Type 0
 StepAt E N plan at s = s ≡ step_at E N plan at
 
--- plans::step_second(n, plan, at): the same but for the number of outputs
-abbrev pub StepSecond : (N : ℕ) (plan : List ℕ) (at : ℕ) (s : SteppedSecond) → Type 0
-StepSecond N plan at s = StepAt second_edition N plan at (of_second s)
+-- plans::step_second(n, plan, at): the same in the second edition, whose records have 128 outputs
+abbrev pub StepSecond : (N : ℕ) (plan : List ℕ) (at : ℕ) (s : Stepped 128) → Type 0
+StepSecond N plan at s = StepAt second_edition N plan at s
 
 -- reader::open(n, plan)
 abbrev pub OpenReader : (N : ℕ) (plan : Bor (List ℕ)) (o : Opened) → Type 0
 OpenReader N plan o = (o.answer ≡ opening first_edition N plan.now) × (o.reader ≡ starting N plan)
 
 -- Reader::step(&mut self), of a reader r that is r' afterwards
-abbrev pub ReaderStep : (r : Reader) (s : Stepped) (r' : Reader) → Type 0
+abbrev pub ReaderStep : (r : Reader) (s : Stepped 64) (r' : Reader) → Type 0
 ReaderStep r s r' = (s ≡ step_at first_edition r.n r.plan.now r.at) × (r' ≡ moved_to r s.next)
 
 -- checker::check_plan(n, cells, plan)

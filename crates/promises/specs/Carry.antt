@@ -10,9 +10,7 @@ use Rattle.switch.specs.Demand.{cell, longest}
 use Rattle.switch.specs.Plan.{Record, grant, Covers}
 use Rattle.switch.specs.Empty.{all_slots}
 use Rattle.records.specs.Bytes.{whole, plan_from, plan_of}
-use Rattle.carry.specs.declared.Carried.{Carried}
-use Rattle.carry.specs.declared.Carried.TheVariants.{Done, Refused}
-use Rattle.carry.specs.Carry.{new_cells}
+use Rattle.carry.specs.Carry.{Carried, done, refused, new_cells}
 use Rattle.promises.specs.Planner.{Fair, Fault}
 use Rattle.promises.specs.Reading.{GoodPlan, Unread}
 
@@ -64,11 +62,11 @@ pub data Uncarried (E : Edition) (N : ℕ) (asked plan : List ℕ) (first : ℕ)
 pub record CarriesOn (E : Edition) (N : ℕ) (asked plan : List ℕ) (first : ℕ) (wished before : List ℕ) (r : Carried) (after : List ℕ) : Type 0 where
   -- done exactly when nothing is wrong with what is lent, and no line of the demand, of the wishes or of the new demand is over 65,535
   pub taken : Stopped E N asked plan first wished (length before) → Fair E 65535 N asked → Fair E 65535 N wished
-      → Fair E 65535 N (new_cells E N asked plan first wished) → r ≡ Done
-  pub only_then : r ≡ Done → Stopped E N asked plan first wished (length before)
-  pub renews : r ≡ Done → Renews N asked wished (plan_from E.width plan 0 first) after
+      → Fair E 65535 N (new_cells E N asked plan first wished) → r ≡ done
+  pub only_then : r ≡ done → Stopped E N asked plan first wished (length before)
+  pub renews : r ≡ done → Renews N asked wished (plan_from E.width plan 0 first) after
   -- a plan that covers and was run to its end leaves the new wishes
-  pub at-the-end : r ≡ Done → first ≡ whole E.width plan → Covers N (cell N asked) (plan_of E.width plan) → after ≡ wished
+  pub at-the-end : r ≡ done → first ≡ whole E.width plan → Covers N (cell N asked) (plan_of E.width plan) → after ≡ wished
   -- and else it has its reason, and no cell is changed
-  pub refuses : (a : About) (f : Refusal) → r ≡ Refused a f → Uncarried E N asked plan first wished (length before) a f
-  pub unchanged : (a : About) (f : Refusal) → r ≡ Refused a f → after ≡ before
+  pub refuses : (a : About) (f : Refusal) → r ≡ refused a f → Uncarried E N asked plan first wished (length before) a f
+  pub unchanged : (a : About) (f : Refusal) → r ≡ refused a f → after ≡ before

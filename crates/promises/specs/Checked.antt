@@ -1,7 +1,7 @@
 -- What a caller of the checker gets. Definitions only.
+use Rattle.std.specs.Prelude.{Err}
 use Rattle.std.specs.Prelude.{◌≡◌, List, ℕ, ◌≤◌}
-use Rattle.switch.specs.declared.Outcome.{Outcome}
-use Rattle.switch.specs.declared.Outcome.TheVariants.{Refused}
+use Rattle.switch.specs.Outcome.{Outcome}
 use Rattle.switch.specs.declared.Refusal.{Refusal}
 use Rattle.switch.specs.declared.Refusal.TheVariants.{Uncovered}
 use Rattle.switch.specs.Answer.{code_of, counts_of, demand_counts}
@@ -37,4 +37,4 @@ pub record Checks (E : Edition) (N : ℕ) (d plan : List ℕ) (r : Outcome) : Ty
   pub counts : code_of r ≡ 0 → counts_of r
       ≡ demand_counts (whole E.width plan) (longest N (cell N d)) (total (plan_of E.width plan)) (empty_slots N (cell N d) (plan_of E.width plan))
   pub long : code_of r ≡ 0 → longest N (cell N d) ≤ total (plan_of E.width plan)
-  pub refuses : (f : Refusal) → r ≡ Refused f → Objects E N d plan f
+  pub refuses : (f : Refusal) → r ≡ Err f → Objects E N d plan f

@@ -1,6 +1,6 @@
 -- What a caller of the doubled plan gets, by either rule. Definitions only.
 use Rattle.std.specs.Prelude.{List, ℕ}
-use Rattle.switch.specs.declared.Outcome.{Outcome}
+use Rattle.switch.specs.Outcome.{Outcome}
 use Rattle.switch.specs.Plan.{Record}
 use Rattle.rules.specs.Doubled.{every_rotation_plan, doubled_plan, Doubled}
 use Rattle.switch.specs.declared.Edition.{Edition}

@@ -1,7 +1,7 @@
 -- What the doubled plan for the grating fabric comes to. Definitions only.
+use Rattle.std.specs.Prelude.{Err, Ok}
 use Rattle.std.specs.Prelude.{◌≡◌, List, ◌++◌, ℕ, ◌*◌, ◌<◌, ◌≤◌, length, get_or, take, drop}
-use Rattle.switch.specs.declared.Outcome.{Outcome}
-use Rattle.switch.specs.declared.Outcome.TheVariants.{Done, Refused}
+use Rattle.switch.specs.Outcome.{Outcome}
 use Rattle.switch.specs.declared.Refusal.{Refusal}
 use Rattle.switch.specs.Editions.{first_edition}
 use Rattle.switch.specs.Answer.{code_of, counts_of, plan_counts, demand_counts}
@@ -28,7 +28,7 @@ pub record Spreads (N : ℕ) (d : List ℕ) (p : List Record) : Type 0 where
 pub record GratingGiven (N : ℕ) (d buf : List ℕ) (r : Outcome) (after : List ℕ) : Type 0 where
   -- code 0 exactly when the demand is fine and there is room for the plan, with its records and its total
   pub taken : Taken first_edition 65535 N d (grating_plan 64 N d) buf
-      → r ≡ Done (plan_counts (length (grating_plan 64 N d)) 0 (total (grating_plan 64 N d)))
+      → r ≡ Ok (plan_counts (length (grating_plan 64 N d)) 0 (total (grating_plan 64 N d)))
   pub only_then : code_of r ≡ 0 → Taken first_edition 65535 N d (grating_plan 64 N d) buf
   -- then the records written read back as the plan, which is worth all that, and no byte behind them is touched
   pub reads-back : code_of r ≡ 0 → plan_of 64 (take ((counts_of r).records * 68) after) ≡ grating_plan 64 N d
@@ -36,11 +36,11 @@ pub record GratingGiven (N : ℕ) (d buf : List ℕ) (r : Outcome) (after : List
   pub later : code_of r ≡ 0 → drop ((counts_of r).records * 68) after ≡ drop ((counts_of r).records * 68) buf
   -- the checker passes them, with the demand's T and the plan's empty slots
   pub passes : code_of r ≡ 0 → (o : Outcome) → CheckPlan N d (take ((counts_of r).records * 68) after) o
-      → o ≡ Done (demand_counts (counts_of r).records (longest N (cell N d)) (counts_of r).total (empty_slots N (cell N d) (grating_plan 64 N d)))
+      → o ≡ Ok (demand_counts (counts_of r).records (longest N (cell N d)) (counts_of r).total (empty_slots N (cell N d) (grating_plan 64 N d)))
   -- and a report of them says no more than 1, or 2, of each record of the second part
   pub reported : code_of r ≡ 0 → (report : List ℕ) → (counts_of r).records ≤ length report → (o : Outcome) (said : List ℕ)
       → GratingReport N (take ((counts_of r).records * 68) after) report o said
       → (k : ℕ) → length (first_part 64 N d) ≤ k → k < (counts_of r).records → get_or said k 0 ≤ allowed N
   -- and else it has its reason, and no byte is touched
-  pub refuses : (f : Refusal) → r ≡ Refused f → Why first_edition 65535 N d (grating_plan 64 N d) buf f
+  pub refuses : (f : Refusal) → r ≡ Err f → Why first_edition 65535 N d (grating_plan 64 N d) buf f
   pub unchanged : (code_of r ≡ 0 → ⊥) → after ≡ buf

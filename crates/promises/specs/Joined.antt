@@ -1,7 +1,7 @@
 -- What joining equal settings comes to. Definitions only.
+use Rattle.std.specs.Prelude.{Err, Ok}
 use Rattle.std.specs.Prelude.{◌≡◌, List, ℕ, ◌+◌, ◌*◌, ◌≤◌, length, take, drop}
-use Rattle.switch.specs.declared.Outcome.{Outcome}
-use Rattle.switch.specs.declared.Outcome.TheVariants.{Done, Refused}
+use Rattle.switch.specs.Outcome.{Outcome}
 use Rattle.switch.specs.declared.Refusal.{Refusal}
 use Rattle.switch.specs.declared.Counts.{Counts}
 use Rattle.switch.specs.Answer.{code_of, counts_of, plan_counts}
@@ -32,7 +32,7 @@ part E c b = take (c.records * (E.width + 4)) b
 pub record Joined (E : Edition) (N : ℕ) (plan buf : List ℕ) (r : Outcome) (after : List ℕ) : Type 0 where
   -- code 0 exactly when nothing is wrong with the plan and there is room for the joined one, with the joined one's records and the plan's total
   pub taken : GoodPlan E N plan → length (joined_of E plan) ≤ whole E.width buf
-      → r ≡ Done (plan_counts (length (joined_of E plan)) 0 (total (plan_of E.width plan)))
+      → r ≡ Ok (plan_counts (length (joined_of E plan)) 0 (total (plan_of E.width plan)))
   pub only_then : code_of r ≡ 0 → GoodPlan E N plan × (length (joined_of E plan) ≤ whole E.width buf)
   -- then the records written are the join, and no byte behind them is touched
   pub joins : code_of r ≡ 0 → JoinOf (plan_of E.width plan) (plan_of E.width (part E (counts_of r) after))
@@ -40,5 +40,5 @@ pub record Joined (E : Edition) (N : ℕ) (plan buf : List ℕ) (r : Outcome) (a
   -- joined once more, into any buffer, they give there what the plan itself gives
   pub twice : code_of r ≡ 0 → (next : List ℕ) → joining E N (part E (counts_of r) after) next ≡ joining E N plan next
   -- and else it has its reason, and no byte is touched
-  pub refuses : (f : Refusal) → r ≡ Refused f → Unwritten E N plan (whole E.width buf) (length (joined_of E plan)) f
+  pub refuses : (f : Refusal) → r ≡ Err f → Unwritten E N plan (whole E.width buf) (length (joined_of E plan)) f
   pub unchanged : (code_of r ≡ 0 → ⊥) → after ≡ buf

@@ -1,8 +1,8 @@
 -- A larger batch: what the exact call gives where every cell is multiplied by k. Definitions only.
+use Rattle.std.specs.Prelude.{Err, Ok}
 use Rattle.std.specs.Prelude.{◌≡◌, List, map, ℕ, ◌*◌, ◌≤◌}
 use Rattle.switch.specs.declared.Counts.{Counts}
-use Rattle.switch.specs.declared.Outcome.{Outcome}
-use Rattle.switch.specs.declared.Outcome.TheVariants.{Done, Refused}
+use Rattle.switch.specs.Outcome.{Outcome}
 use Rattle.switch.specs.declared.Edition.{Edition}
 use Rattle.switch.specs.Answer.{demand_counts}
 use Rattle.switch.specs.Demand.{cell, longest}
@@ -23,13 +23,13 @@ larger_counts k c = demand_counts c.records (c.longest * k) (c.total * k) (c.emp
 
 -- an outcome is done where it was done, and refused as it was refused: code 5 at the same place
 abbrev pub larger : ℕ → Outcome → Outcome
-larger k (Done c) = Done (larger_counts k c)
-larger k (Refused r) = Refused r
+larger k (Ok c) = Ok (larger_counts k c)
+larger k (Err r) = Err r
 
 -- what is left in the buffer: the same records with every hold multiplied by k, or the buffer as it was
 abbrev pub larger_bytes : Outcome → Edition → (N k : ℕ) (d buf : List ℕ) → List ℕ
-larger_bytes (Done c) E N k d buf = laid buf 0 (bytes E.byte N (map (stretch k) (exact_plan E.width N d)))
-larger_bytes (Refused r) E N k d buf = buf
+larger_bytes (Ok c) E N k d buf = laid buf 0 (bytes E.byte N (map (stretch k) (exact_plan E.width N d)))
+larger_bytes (Err r) E N k d buf = buf
 
 -- k is 1 or more, and T times k no more than a line may be: outcome and bytes for the multiplied demand, from those for the demand
 pub record LargerCall (E : Edition) : Type 0 where

@@ -1,8 +1,8 @@
 -- What the length of a plan comes to. Definitions only.
+use Rattle.std.specs.Prelude.{Err}
 use Rattle.std.specs.Prelude.{◌≡◌, List, ℕ, suc, ◌+◌, ◌*◌, ◌≤◌, length}
 use Rattle.counting.specs.Sum.{sum}
-use Rattle.switch.specs.declared.Outcome.{Outcome}
-use Rattle.switch.specs.declared.Outcome.TheVariants.{Refused}
+use Rattle.switch.specs.Outcome.{Outcome}
 use Rattle.switch.specs.declared.Refusal.{Refusal}
 use Rattle.switch.specs.declared.Counts.{Counts}
 use Rattle.switch.specs.Answer.{code_of, counts_of}
@@ -35,5 +35,5 @@ pub record Measured (E : Edition) (N : ℕ) (plan : List ℕ) (d : ℕ) (r : Out
   -- code 0 exactly when nothing is wrong with the plan, and any other for its reason
   pub taken : GoodPlan E N plan → code_of r ≡ 0
   pub only_then : code_of r ≡ 0 → GoodPlan E N plan
-  pub refuses : (f : Refusal) → r ≡ Refused f → Unread E N plan f
+  pub refuses : (f : Refusal) → r ≡ Err f → Unread E N plan f
   pub lasts : code_of r ≡ 0 → Lasts d (plan_of E.width plan) (counts_of r)

@@ -1,10 +1,9 @@
 -- What the lister's text comes to. Definitions only.
+use Rattle.std.specs.Prelude.{Err}
 use Rattle.std.specs.Prelude.{◌≡◌, List, ℕ, ◌*◌, ◌/◌, ◌<◌, ◌≤◌, length, take, drop}
 use Rattle.switch.specs.declared.Refusal.{Refusal}
 use Rattle.switch.specs.declared.Refusal.TheVariants.{Ports}
-use Rattle.switch.specs.declared.Outcome.TheVariants.{Refused}
 use Rattle.switch.specs.Demand.{cell, longest}
-use Rattle.demand.specs.declared.Checked.TheVariants.{Faulty}
 use Rattle.demand.specs.Check.{check_demand}
 use Rattle.rules.specs.Exact.{exact_plan}
 use Rattle.wishes.specs.Wishes.{Demanded, outcome}
@@ -23,8 +22,8 @@ pub record Shows (w : List ℕ) (N : ℕ) (t : List ℕ) : Type 0 where
   pub plan : (d : List ℕ) → N ≤ 16 → GoodList first_edition N w (N * N) → Demanded N w (length w / 8) d → longest N (cell N d) ≤ 65535
       → t ≡ counted_text N (longest N (cell N d)) d (exact_plan 64 N d)
   -- and else what is refused
-  pub wish : (x : Refusal) → outcome 16 N w (N * N) ≡ Refused x → t ≡ refused_line x
-  pub line : (d : List ℕ) (x : Refusal) → N ≤ 16 → GoodList first_edition N w (N * N) → Demanded N w (length w / 8) d → check_demand 64 N d ≡ Faulty x → t ≡ refused_line x
+  pub wish : (x : Refusal) → outcome 16 N w (N * N) ≡ Err x → t ≡ refused_line x
+  pub line : (d : List ℕ) (x : Refusal) → N ≤ 16 → GoodList first_edition N w (N * N) → Demanded N w (length w / 8) d → check_demand 64 N d ≡ Err x → t ≡ refused_line x
 
 -- the answer r, and the text's bytes afterwards
 pub record Listed (input text : List ℕ) (r : ℕ) (after : List ℕ) : Type 0 where

@@ -1,9 +1,9 @@
 -- What a lookup comes to: the one record in force at the slot, or why there is none. Definitions only.
+use Rattle.std.specs.Prelude.{Err}
 use Rattle.std.specs.Prelude.{◌≡◌, List, [], ℕ, ◌+◌, ◌-◌, ◌%◌, ◌<◌, ◌≤◌}
 use Rattle.switch.specs.declared.About.{About}
 use Rattle.switch.specs.declared.About.TheVariants as about
 use Rattle.switch.specs.declared.Edition.{Edition}
-use Rattle.switch.specs.declared.Outcome.TheVariants.{Refused}
 use Rattle.switch.specs.declared.Refusal.{Refusal}
 use Rattle.switch.specs.declared.Refusal.TheVariants.{Ports, NotInForce}
 use Rattle.switch.specs.Answer.{code_of}
@@ -37,4 +37,4 @@ pub data Unfound (E : Edition) (N : ℕ) (tonight standby : List ℕ) (t : ℕ) 
 -- what is answered, r, and the part that is given back
 pub record LooksUp (E : Edition) (N : ℕ) (tonight standby : List ℕ) (t : ℕ) (r : Found) (part : List ℕ) : Type 0 where
   pub stands : code_of r.outcome ≡ 0 → Stands E tonight standby t r part
-  pub refuses : (f : Refusal) → r.outcome ≡ Refused f → Unfound E N tonight standby t r.about f × (part ≡ [])
+  pub refuses : (f : Refusal) → r.outcome ≡ Err f → Unfound E N tonight standby t r.about f × (part ≡ [])

@@ -1,8 +1,8 @@
 -- What a caller of a planner gets, whichever rule makes the plan. Definitions only.
+use Rattle.std.specs.Prelude.{Err}
 use Rattle.std.specs.Prelude.{◌≡◌, List, ℕ, ◌+◌, ◌*◌, ◌<◌, ◌≤◌, length, take, drop}
 use Rattle.counting.specs.Matrix.{row, col}
-use Rattle.switch.specs.declared.Outcome.{Outcome}
-use Rattle.switch.specs.declared.Outcome.TheVariants.{Refused}
+use Rattle.switch.specs.Outcome.{Outcome}
 use Rattle.switch.specs.declared.Refusal.{Refusal}
 use Rattle.switch.specs.declared.Refusal.TheVariants.{Ports, Cells, Line, Longest, Room}
 use Rattle.switch.specs.Answer.{code_of, counts_of, no_counts, demand_counts}
@@ -82,4 +82,4 @@ pub record Plans (E : Edition) (most N : ℕ) (d : List ℕ) (p : List Record) (
   pub takes : Taken E most N d p buf → code_of r ≡ 0
   pub delivers : code_of r ≡ 0 → Delivers E N d buf Worth r after
   pub reads-back : code_of r ≡ 0 → plan_in E r after ≡ p
-  pub refuses : (f : Refusal) → r ≡ Refused f → Why E most N d p buf f × (counts_of r ≡ no_counts) × (after ≡ buf)
+  pub refuses : (f : Refusal) → r ≡ Err f → Why E most N d p buf f × (counts_of r ≡ no_counts) × (after ≡ buf)

@@ -1,6 +1,6 @@
 -- What a caller of the quick cover gets. Definitions only.
 use Rattle.std.specs.Prelude.{List, ℕ}
-use Rattle.switch.specs.declared.Outcome.{Outcome}
+use Rattle.switch.specs.Outcome.{Outcome}
 use Rattle.rules.specs.Quick.{quick_plan, Quick}
 use Rattle.switch.specs.declared.Edition.{Edition}
 use Rattle.promises.specs.Planner.{Plans}

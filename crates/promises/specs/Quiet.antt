@@ -1,7 +1,7 @@
 -- What a caller of the quiet plan gets, and of the least total within a wavelength limit. Definitions only.
+use Rattle.std.specs.Prelude.{Err, Ok}
 use Rattle.std.specs.Prelude.{◌≡◌, List, [], ℕ, ◌+◌, ◌*◌, ◌-◌, ◌/◌, ◌<◌, ◌≤◌, length, get_or}
-use Rattle.switch.specs.declared.Outcome.{Outcome}
-use Rattle.switch.specs.declared.Outcome.TheVariants.{Done, Refused}
+use Rattle.switch.specs.Outcome.{Outcome}
 use Rattle.switch.specs.declared.Refusal.{Refusal}
 use Rattle.switch.specs.declared.Refusal.TheVariants.{Limit}
 use Rattle.switch.specs.Answer.{code_of, counts_of, plan_counts}
@@ -43,14 +43,14 @@ pub record PlansQuietly (N : ℕ) (d : List ℕ) (L : ℕ) (buf : List ℕ) (r :
   pub reported : code_of r ≡ 0 → (report : List ℕ) → (counts_of r).records ≤ length report → (o : Outcome) (said : List ℕ)
       → GratingReport N (part_of first_edition r after) report o said → (k : ℕ) → k < (counts_of r).records → get_or said k 0 ≤ L
   -- a limit of 0 is refused, and no byte is touched
-  pub refuses : L ≡ 0 → (f : Refusal) × (r ≡ Refused f) × Unlimited N d L f × (after ≡ buf)
+  pub refuses : L ≡ 0 → (f : Refusal) × (r ≡ Err f) × Unlimited N d L f × (after ≡ buf)
 
 -- the answer r of the call that tells the least total
 pub record TellsLeast (N : ℕ) (d : List ℕ) (L : ℕ) (r : Outcome) : Type 0 where
   -- code 0 exactly when the demand is fine and the limit at least 1, with T and the least total
-  pub taken : Fair first_edition 65535 N d → 0 < L → r ≡ Done (plan_counts 0 (longest N (cell N d)) (least_within N L (cell N d)))
+  pub taken : Fair first_edition 65535 N d → 0 < L → r ≡ Ok (plan_counts 0 (longest N (cell N d)) (least_within N L (cell N d)))
   pub only_then : code_of r ≡ 0 → Fair first_edition 65535 N d × (0 < L)
   -- then no plan that covers the demand within the limit, of any length, full or part-filled, has a smaller total
   pub least : code_of r ≡ 0 → (q : List Record) → Plan N q → Keeps N L q → Covers N (cell N d) q → (counts_of r).total ≤ total q
   -- and else it has its reason
-  pub refuses : (f : Refusal) → r ≡ Refused f → Unlimited N d L f
+  pub refuses : (f : Refusal) → r ≡ Err f → Unlimited N d L f

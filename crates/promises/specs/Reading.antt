@@ -1,7 +1,7 @@
 -- What opening a plan and reading it step by step come to. Definitions only.
+use Rattle.std.specs.Prelude.{Err, Ok}
 use Rattle.std.specs.Prelude.{◌≡◌, List, ℕ, zero, suc, ◌+◌, ◌%◌, ◌<◌, ◌≤◌, length}
-use Rattle.switch.specs.declared.Outcome.{Outcome}
-use Rattle.switch.specs.declared.Outcome.TheVariants.{Done, Refused}
+use Rattle.switch.specs.Outcome.{Outcome}
 use Rattle.switch.specs.declared.Refusal.{Refusal}
 use Rattle.switch.specs.declared.Refusal.TheVariants.{Ports, Room, Torn, Records, Malformed}
 use Rattle.switch.specs.Answer.{code_of, plan_counts}
@@ -52,20 +52,20 @@ pub data Unwritten (E : Edition) (N : ℕ) (plan : List ℕ) (room need : ℕ) :
 -- what opening answers
 pub record Opens (E : Edition) (N : ℕ) (plan : List ℕ) (r : Outcome) : Type 0 where
   -- code 0 exactly when the plan can be opened, with its records alone
-  pub taken : Openable E N plan → r ≡ Done (plan_counts (whole E.width plan) 0 0)
+  pub taken : Openable E N plan → r ≡ Ok (plan_counts (whole E.width plan) 0 0)
   pub only_then : code_of r ≡ 0 → Openable E N plan
   -- and else it has its reason, and every step is the end
-  pub refuses : (f : Refusal) → r ≡ Refused f → Unread E N plan f
+  pub refuses : (f : Refusal) → r ≡ Err f → Unread E N plan f
   pub ends : (code_of r ≡ 0 → ⊥) → (at : ℕ) → step_at E N plan at ≡ nothing E step.End at
 
 -- the step at a record of a plan that can be opened: the record, or its damage, or the end; the last two leave the place, and so come again
-pub record StepGives (E : Edition) (N : ℕ) (plan : List ℕ) (at : ℕ) (s : Stepped) : Type 0 where
+pub record StepGives (E : Edition) (N : ℕ) (plan : List ℕ) (at : ℕ) (s : Stepped E.width) : Type 0 where
   pub gives : at < whole E.width plan → WellFormed E.width E.byte N (record_at E.width plan at) → s ≡ given (record_at E.width plan at) (at + 1)
   pub damage : at < whole E.width plan → (WellFormed E.width E.byte N (record_at E.width plan at) → ⊥) → s ≡ nothing E (step.Malformed at) at
   pub end : whole E.width plan ≤ at → s ≡ nothing E step.End at
 
 -- step k of a plan that is read from its start
-pub record ReadStep (E : Edition) (N : ℕ) (plan : List ℕ) (k : ℕ) (s : Stepped) : Type 0 where
+pub record ReadStep (E : Edition) (N : ℕ) (plan : List ℕ) (k : ℕ) (s : Stepped E.width) : Type 0 where
   pub first : ℕ
   pub damaged : FirstDamaged E N plan first
   -- the records in order
@@ -77,4 +77,4 @@ pub record ReadStep (E : Edition) (N : ℕ) (plan : List ℕ) (k : ℕ) (s : Ste
 -- k steps of a reader r, one after the other, lead to another
 pub data Steps (r : Reader) : ℕ → Reader → Type 0 where
   none : Steps r zero r
-  more : {k : ℕ} {r' r'' : Reader} {s : Stepped} → Steps r k r' → ReaderStep r' s r'' → Steps r (suc k) r''
+  more : {k : ℕ} {r' r'' : Reader} {s : Stepped 64} → Steps r k r' → ReaderStep r' s r'' → Steps r (suc k) r''

@@ -1,8 +1,8 @@
 -- What writing one record comes to, and writing one that was read. Definitions only.
+use Rattle.std.specs.Prelude.{Err, Ok}
 use Rattle.std.specs.Prelude.{◌≡◌, List, ℕ, ◌+◌, ◌<◌, ◌≤◌, length, take, drop}
 use Rattle.switch.specs.declared.Edition.{Edition}
-use Rattle.switch.specs.declared.Outcome.{Outcome}
-use Rattle.switch.specs.declared.Outcome.TheVariants.{Done, Refused}
+use Rattle.switch.specs.Outcome.{Outcome}
 use Rattle.switch.specs.declared.Refusal.{Refusal}
 use Rattle.switch.specs.declared.Refusal.TheVariants.{Ports, Room, Malformed}
 use Rattle.switch.specs.Answer.{code_of, plan_counts}
@@ -31,17 +31,17 @@ pub data Unwritable (E : Edition) (hold N : ℕ) (outputs : List ℕ) (size : �
 -- the answer r, and the buffer afterwards
 pub record RecordWritten (E : Edition) (hold N : ℕ) (outputs buf : List ℕ) (r : Outcome) (after : List ℕ) : Type 0 where
   -- code 0 exactly when nothing is wrong, with 1 record and its hold as total
-  pub taken : GoodRecord E hold N outputs (length buf) → r ≡ Done (plan_counts 1 0 hold)
+  pub taken : GoodRecord E hold N outputs (length buf) → r ≡ Ok (plan_counts 1 0 hold)
   pub only_then : code_of r ≡ 0 → GoodRecord E hold N outputs (length buf)
   -- then a step over the start gives this hold and these outputs, and no byte behind the record is touched
   pub reads-back : code_of r ≡ 0 → step_at E N (take (E.width + 4) after) 0 ≡ record { step = step.Record; hold = hold; outputs = outputs; next = 1 }
   pub later : code_of r ≡ 0 → drop (E.width + 4) after ≡ drop (E.width + 4) buf
   -- and else it has its reason, and no byte is
-  pub refuses : (f : Refusal) → r ≡ Refused f → Unwritable E hold N outputs (length buf) f
+  pub refuses : (f : Refusal) → r ≡ Err f → Unwritable E hold N outputs (length buf) f
   pub unchanged : (code_of r ≡ 0 → ⊥) → after ≡ buf
 
 -- record `at` of a plan, read as s and written again
-pub record WrittenAgain (E : Edition) (plan : List ℕ) (at : ℕ) (s : Stepped) (buf : List ℕ) (r : Outcome) (after : List ℕ) : Type 0 where
-  pub taken : r ≡ Done (plan_counts 1 0 s.hold)
+pub record WrittenAgain (E : Edition) (plan : List ℕ) (at : ℕ) (s : Stepped E.width) (buf : List ℕ) (r : Outcome) (after : List ℕ) : Type 0 where
+  pub taken : r ≡ Ok (plan_counts 1 0 s.hold)
   pub same : take (E.width + 4) after ≡ record_at E.width plan at
   pub later : drop (E.width + 4) after ≡ drop (E.width + 4) buf

@@ -1,8 +1,8 @@
 -- What a rescue comes to: what stands in the two buffers afterwards, and what it is worth. Definitions only.
+use Rattle.std.specs.Prelude.{Err, Ok}
 use Rattle.std.specs.Prelude.{◌≡◌, false, List, ◌++◌, ℕ, ◌+◌, ◌*◌, ◌-◌, ◌%◌, ◌<◌, ◌≤◌, length, get_or, take, drop}
 use Rattle.switch.specs.declared.Counts.{Counts}
 use Rattle.switch.specs.declared.Edition.{Edition}
-use Rattle.switch.specs.declared.Outcome.TheVariants.{Done, Refused}
 use Rattle.switch.specs.declared.Refusal.{Refusal}
 use Rattle.switch.specs.Demand.{cell, longest}
 use Rattle.switch.specs.Plan.{grant, Covers}
@@ -36,7 +36,7 @@ pub record Tells (E : Edition) (N : ℕ) (plan : List ℕ) (all : List Entry) : 
 -- where nothing is refused
 pub record Succeeds (E : Edition) (N : ℕ) (d damaged list : List ℕ) (r : Answer) (c : Counts) (plan listed : List ℕ) : Type 0 where
   -- the checker takes the plan, with the same counts
-  pub passes : check_plan E N d plan ≡ Done c
+  pub passes : check_plan E N d plan ≡ Ok c
   pub demanded : c.longest ≡ longest N (cell N d)
   -- every kept record's bytes stand as they stood, and behind them is the exact plan of what those leave uncovered
   pub keeps : Octets damaged → plan ≡ kept_bytes E.width E.byte N damaged (whole E.width damaged) ++ bytes E.byte N (exact_plan E.width N (rest_of N d (kept E.width E.byte N damaged)))
@@ -52,10 +52,10 @@ pub record Succeeds (E : Edition) (N : ℕ) (d damaged list : List ℕ) (r : Ans
   pub identical : Octets damaged → Undamaged E.width E.byte N damaged → Covers N (cell N d) (plan_of E.width damaged) → (plan ≡ damaged) × (r.added ≡ 0) × (r.dropped ≡ 0)
   -- rescuing what was rescued changes nothing
   pub again : (buf list' : List ℕ) → c.records ≤ whole E.width buf → (s : Answer) (after' listed' : List ℕ) → Saves (rescuing E N d plan buf list') s after' listed'
-      → (s ≡ record { outcome = Done c; added = 0; dropped = 0 }) × (take (length plan) after' ≡ plan) × (listed' ≡ list')
+      → (s ≡ record { outcome = Ok c; added = 0; dropped = 0 }) × (take (length plan) after' ≡ plan) × (listed' ≡ list')
 
 -- the answer r, and both lent buffers before and after
 pub record Rescued (E : Edition) (N : ℕ) (d damaged plan list : List ℕ) (r : Answer) (after listed : List ℕ) : Type 0 where
-  pub succeeds : (c : Counts) → r.outcome ≡ Done c → Succeeds E N d damaged list r c (take (c.records * (E.width + 4)) after) listed
-  pub behind : (c : Counts) → r.outcome ≡ Done c → drop (c.records * (E.width + 4)) after ≡ drop (c.records * (E.width + 4)) plan
-  pub refuses : (f : Refusal) → r.outcome ≡ Refused f → (after ≡ plan) × (listed ≡ list) × (r.added ≡ 0) × (r.dropped ≡ 0)
+  pub succeeds : (c : Counts) → r.outcome ≡ Ok c → Succeeds E N d damaged list r c (take (c.records * (E.width + 4)) after) listed
+  pub behind : (c : Counts) → r.outcome ≡ Ok c → drop (c.records * (E.width + 4)) after ≡ drop (c.records * (E.width + 4)) plan
+  pub refuses : (f : Refusal) → r.outcome ≡ Err f → (after ≡ plan) × (listed ≡ list) × (r.added ≡ 0) × (r.dropped ≡ 0)

@@ -1,8 +1,8 @@
 -- What the room promised beforehand is worth to a caller of any planner, in any edition. Definitions only.
+use Rattle.std.specs.Prelude.{Ok}
 use Rattle.std.specs.Prelude.{◌≡◌, List, [], ◌∷◌, ℕ, ◌≤◌}
 use Rattle.switch.specs.declared.Counts.{Counts}
 use Rattle.switch.specs.declared.Edition.{Edition}
-use Rattle.switch.specs.declared.Outcome.TheVariants.{Done}
 use Rattle.switch.specs.Answer.{code_of}
 use Rattle.switch.specs.Demand.{cell, longest}
 use Rattle.switch.specs.Result.{Result}
@@ -40,7 +40,7 @@ number_of Quick N T = quick_room T
 
 -- once a call says for N and T how many records suffice, a buffer of so many whole records is never too small for a demand whose lines sum to T at most
 abbrev pub Suffices : (m : Method) (E : Edition) → Type 0
-Suffices m E = (N T : ℕ) (c : Counts) → roomed E (planner_of m) N T ≡ Done c → (d buf : List ℕ) → longest N (cell N d) ≤ T
+Suffices m E = (N T : ℕ) (c : Counts) → roomed E (planner_of m) N T ≡ Ok c → (d buf : List ℕ) → longest N (cell N d) ≤ T
     → c.records ≤ whole E.width buf → code_of (result_of m E N d buf).outcome ≡ 5 → ⊥
 
 -- a demand of three ports whose exact plan has as many records as one of three ports may have, 5

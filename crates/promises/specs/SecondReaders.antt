@@ -1,6 +1,6 @@
 -- The contracts of the second edition's calls that are no planners, and of the move between the editions. Definitions only.
 use Rattle.std.specs.Prelude.{◌≡◌, List, ℕ}
-use Rattle.switch.specs.declared.Outcome.{Outcome}
+use Rattle.switch.specs.Outcome.{Outcome}
 use Rattle.switch.specs.Editions.{first_edition, second_edition}
 use Rattle.switch.specs.Result.{Gives}
 use Rattle.wishes.specs.Wishes.{wishing}

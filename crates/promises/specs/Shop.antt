@@ -1,10 +1,10 @@
 -- What a caller of the open shop, and of the reader of tasks, gets. Definitions only.
+use Rattle.std.specs.Prelude.{Err, Ok}
 use Rattle.std.specs.Prelude.{◌≡◌, true, false, List, ℕ, ◌*◌, ◌-◌, ◌/◌, ◌%◌, ◌<◌, ◌≤◌, length, take, drop}
 use Rattle.counting.specs.Sum.{sum}
 use Rattle.counting.specs.Matrix.{row}
 use Rattle.switch.specs.declared.Counts.{Counts}
-use Rattle.switch.specs.declared.Outcome.{Outcome}
-use Rattle.switch.specs.declared.Outcome.TheVariants.{Done, Refused}
+use Rattle.switch.specs.Outcome.{Outcome}
 use Rattle.switch.specs.declared.Refusal.{Refusal}
 use Rattle.switch.specs.declared.Refusal.TheVariants.{Ports, Room, Torn, Malformed}
 use Rattle.switch.specs.Answer.{code_of, counts_of, no_counts, plan_counts}
@@ -61,7 +61,7 @@ pub record PlansTasks (N s : ℕ) (d buf : List ℕ) (r : Outcome) (after : List
   pub taken : code_of r ≡ 0 → Taken N d buf
   pub takes : Taken N d buf → code_of r ≡ 0
   pub delivers : code_of r ≡ 0 → DeliversTasks N s d buf r after
-  pub refuses : (f : Refusal) → r ≡ Refused f → Why N d buf f × (counts_of r ≡ no_counts) × (after ≡ buf)
+  pub refuses : (f : Refusal) → r ≡ Err f → Why N d buf f × (counts_of r ≡ no_counts) × (after ≡ buf)
 
 -- why the reader refuses
 pub data WhyUnread (N : ℕ) (tasks : List ℕ) : Refusal → Type 0 where
@@ -74,5 +74,5 @@ pub data WhyUnread (N : ℕ) (tasks : List ℕ) : Refusal → Type 0 where
 
 -- what the reader promises: what it accepts is a schedule, in order and apart; and a refusal has its reason
 pub record ReadsTasks (N : ℕ) (tasks : List ℕ) (r : Outcome) : Type 0 where
-  pub accepts : (c : Counts) → r ≡ Done c → Accepts N tasks c
-  pub refuses : (f : Refusal) → r ≡ Refused f → WhyUnread N tasks f
+  pub accepts : (c : Counts) → r ≡ Ok c → Accepts N tasks c
+  pub refuses : (f : Refusal) → r ≡ Err f → WhyUnread N tasks f

@@ -1,16 +1,15 @@
 -- What a wish, and a list of wishes, comes to. Definitions only.
+use Rattle.std.specs.Prelude.{Err, Ok}
 use Rattle.std.specs.Prelude.{◌≡◌, List, ℕ, ◌*◌, ◌/◌, ◌%◌, ◌<◌, ◌≤◌, length}
 use Rattle.std.specs.Float.Ieee.{of_bits}
 use Rattle.std.specs.Float.{binary32}
 use Rattle.switch.specs.declared.Edition.{Edition}
-use Rattle.switch.specs.declared.Outcome.{Outcome}
-use Rattle.switch.specs.declared.Outcome.TheVariants.{Done, Refused}
+use Rattle.switch.specs.Outcome.{Outcome}
 use Rattle.switch.specs.declared.Refusal.{Refusal}
 use Rattle.switch.specs.declared.Refusal.TheVariants.{Ports, Cells, Torn}
 use Rattle.switch.specs.Answer.{plan_counts}
 use Rattle.switch.specs.Answer as answer
-use Rattle.wish.specs.declared.Wish.{Wish}
-use Rattle.wish.specs.Wish.{wish_bits, code_of, slots_of, InRange}
+use Rattle.wish.specs.Wish.{Wish, wish_bits, code_of, slots_of, InRange}
 use Rattle.wish.specs.Meaning.{Answers, AboveZero}
 use Rattle.wishes.specs.Record.{record_at}
 use Rattle.wishes.specs.Fault.{NamedBy, FirstAt}
@@ -58,10 +57,10 @@ pub data Untaken (E : Edition) (N : ℕ) (list : List ℕ) (cells : ℕ) : Refus
 -- the answer r, and the cells afterwards
 pub record WishedAll (E : Edition) (N : ℕ) (list cells : List ℕ) (r : Outcome) (after : List ℕ) : Type 0 where
   -- code 0 exactly when nothing is wrong, with the number of wish records
-  pub taken : GoodList E N list (length cells) → r ≡ Done (plan_counts (length list / 8) 0 0)
+  pub taken : GoodList E N list (length cells) → r ≡ Ok (plan_counts (length list / 8) 0 0)
   pub only_then : answer.code_of r ≡ 0 → GoodList E N list (length cells)
   -- then each named pair has its wish's slots, and every other pair 0
   pub demand : answer.code_of r ≡ 0 → Demanded N list (length list / 8) after
   -- and else it has its reason, and no cell is changed
-  pub refuses : (f : Refusal) → r ≡ Refused f → Untaken E N list (length cells) f
+  pub refuses : (f : Refusal) → r ≡ Err f → Untaken E N list (length cells) f
   pub unchanged : (answer.code_of r ≡ 0 → ⊥) → after ≡ cells

@@ -1,7 +1,7 @@
 -- Planners that are wrong in an easy way, each told by what it answers and leaves: what no planner's promise lets through. Definitions only.
+use Rattle.std.specs.Prelude.{Err}
 use Rattle.std.specs.Prelude.{◌≡◌, List, ◌∷◌, ℕ, ◌*◌, ◌-◌, ◌<◌, ◌≤◌, length, get_or}
-use Rattle.switch.specs.declared.Outcome.{Outcome}
-use Rattle.switch.specs.declared.Outcome.TheVariants.{Refused}
+use Rattle.switch.specs.Outcome.{Outcome}
 use Rattle.switch.specs.declared.Refusal.{Refusal}
 use Rattle.switch.specs.Answer.{counts_of}
 use Rattle.switch.specs.Demand.{cell, longest}
@@ -43,7 +43,7 @@ pub record Telling (N : ℕ) (d buf : List ℕ) : Type 0 where
 -- not write all rotations at hold T; it does not leave the buffer as it was; its first setting does not carry all; and its records and total are
 -- those of the plan that it wrote
 pub record Right (E : Edition) (N : ℕ) (d buf : List ℕ) (r : Outcome) (after : List ℕ) : Type 0 where
-  pub not-refused : (f : Refusal) → r ≡ Refused f → ⊥
+  pub not-refused : (f : Refusal) → r ≡ Err f → ⊥
   pub not-the-same : (e : List ℕ) → longest N (cell N e) ≡ 0 → Modest N e (plan_in E r after) → ⊥
   pub not-all-rotations : plan_in E r after ≡ all_rotations E.width N (longest N (cell N d)) → ⊥
   pub not-nothing : after ≡ buf → ⊥

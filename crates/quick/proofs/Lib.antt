@@ -1,4 +1,3 @@
 pub mod Standing
-pub mod Filling
 pub mod Loading
 pub mod Planning

@@ -1,4 +1,6 @@
 -- The room decides the rest: too few records are code 5 with those needed, and else the plan is written, each of its records W outputs wide.
+use Rattle.labels.specs.Ports.{Outputs}
+use Rattle.std.specs.Prelude.{Err, Ok}
 use mathlib.Core.Path.{◌≡◌, refl, sym, ap, ◌∙◌}
 use mathlib.Core.Bool.{Bool, true, false, cond}
 use mathlib.Core.List.{List, [], ◌∷◌}
@@ -12,15 +14,13 @@ use Rattle.counting.specs.Sum.{sum}
 use Rattle.counting.specs.Matrix.{row}
 use Rattle.switch.specs.declared.Refusal.{Refusal}
 use Rattle.switch.specs.declared.Refusal.TheVariants.{Longest, Room}
-use Rattle.switch.specs.declared.Outcome.{Outcome}
-use Rattle.switch.specs.declared.Outcome.TheVariants.{Done, Refused}
+use Rattle.switch.specs.Outcome.{Outcome}
 use Rattle.switch.specs.declared.Edition.{Edition}
 use Rattle.switch.specs.Editions.{Bounded}
 use Rattle.switch.specs.Answer.{plan_counts}
 use Rattle.switch.specs.Demand.{cell}
 use Rattle.switch.specs.Plan.{Record}
 use Rattle.switch.specs.Empty.{empty_slots}
-use Rattle.demand.specs.declared.Checked.TheVariants.{Fine, Faulty}
 use Rattle.demand.specs.Check.{check_demand, Asked}
 use Rattle.demand.proofs.Check.{fine-asked}
 use Rattle.switch.specs.Sound.{Each, none, more, OfWidth}
@@ -75,23 +75,23 @@ module _ (E : Edition) (N : ℕ) (d buf : List ℕ) where
   answer = planned_up_to 1024 E N d plan buf
 
   -- codes 1, 2 and 3
-  pub gives-fault : (r : Refusal) → check_demand E.ports N d ≡ Faulty r → Gives answer (Refused r) buf
+  pub gives-fault : (r : Refusal) → check_demand E.ports N d ≡ Err r → Gives answer (Err r) buf
   gives-fault r c = gives (limited-faulty 1024 E N d plan buf r c) refl refl
 
-  module _ (T : ℕ) (fine : check_demand E.ports N d ≡ Fine T) where
+  module _ (T : ℕ) (fine : check_demand E.ports N d ≡ Ok T) where
     -- code 4
-    pub gives-longest : 1024 < T → Gives answer (Refused Longest) buf
+    pub gives-longest : 1024 < T → Gives answer (Err Longest) buf
     gives-longest l = gives (limited-long 1024 E N d plan buf T fine l) refl refl
 
     module _ (small : T ≤ 1024) (r : ℕ) (count : r ≡ length plan) where
       -- code 5
-      pub gives-room : whole E.width buf < r → Gives answer (Refused (Room r)) buf
+      pub gives-room : whole E.width buf < r → Gives answer (Err (Room r)) buf
       gives-room h =
-          gives (limited-short 1024 E N d plan buf T fine small (omega (arith, count))) (ap {B = Outcome} (λ (k : ℕ). Refused (Room k)) count) refl
+          gives (limited-short 1024 E N d plan buf T fine small (omega (arith, count))) (ap {B = Outcome} (λ (k : ℕ). Err (Room k)) count) refl
 
       -- as many records as the plan has, each held for one slot, and no slot empty
       pub gives-plan : Bounded E → length plan ≤ whole E.width buf → (after : List ℕ) → after ≡ laid buf 0 (bytes E.byte N plan)
-          → Gives answer (Done (plan_counts r T r)) after
+          → Gives answer (Ok (plan_counts r T r)) after
       gives-plan w fits after b =
           let k = fine-asked E.ports N T d fine in
           let f : N ≤ E.width = omega (arith, k.few, w.ports) in
@@ -108,21 +108,18 @@ one-result E N d buf r s after later = gives_one
 
 -- ---- what is lent
 
--- as many labels as ports are lent of those that there are
-pub lends : (E : Edition) (N T : ℕ) (d w lows highs out : List ℕ) → Lent E w lows highs out → check_demand E.ports N d ≡ Fine T
-    → (N ≤ length lows) × (N ≤ length highs) × Space N w (take N lows) (take N highs) out
-lends E N T d w lows highs out l f =
+-- of an edition's largest switch there is room for any demand that is not refused by itself
+pub lends : (E : Edition) (N T ports cells : ℕ) (d w : List ℕ) (rows : List Outputs) (out : List ℕ) → Lent E ports cells → check_demand E.ports N d ≡ Ok T
+    → length w ≡ cells → length rows ≡ ports → length out ≡ ports → (N ≤ length rows) × Space N w (take N rows) out
+lends E N T ports cells d w rows out l f hw hr ho =
     let k : Asked E.ports N T d = fine-asked E.ports N T d f in
-    let a : N ≤ length lows = omega (arith, k.few, l.low) in
-    let b : N ≤ length highs = omega (arith, k.few, l.high) in
+    let a : N ≤ length rows = omega (arith, k.few, l.each, hr) in
     let s : N ≤ E.width = omega (arith, k.few, l.bounded.ports) in (
       a,
-      b,
       record {
-        sized = record { some = k.some; few = omega (arith, s, l.bounded.width); room = omega (arith, mul-le-mul k.few k.few, l.cells) };
-        low = length-take-le N lows a;
-        high = length-take-le N highs b;
-        wide = omega (arith, l.wide, l.bounded.width);
-        seats = omega (arith, l.wide, s);
+        sized = record { some = k.some; few = omega (arith, s, l.bounded.width); room = omega (arith, mul-le-mul k.few k.few, l.squared, hw) };
+        each = length-take-le N rows a;
+        wide = omega (arith, l.wide, ho, l.bounded.width);
+        seats = omega (arith, l.wide, ho, s);
       },
     )

@@ -1,5 +1,7 @@
 -- The demand and the limit decide first, and then the room: too few records are code 5 with those needed, and else the plan is written, each of its
 -- records 64 outputs wide.
+use Rattle.labels.specs.Ports.{Outputs}
+use Rattle.std.specs.Prelude.{Err, Ok}
 use mathlib.Core.Path.{◌≡◌, refl, sym, ap, ◌∙◌, subst}
 use mathlib.Core.List.{List, ◌++◌}
 use Prim.Native.Nat.{ℕ, ◌+◌, ◌*◌, ◌-◌, ◌/◌, ◌%◌, ◌≤◌, ◌<◌}
@@ -13,8 +15,7 @@ use Rattle.counting.proofs.Sum.{sum_mono, sum-const, sum-at}
 use Rattle.counting.proofs.Most.{most-le}
 use Rattle.switch.specs.declared.Refusal.{Refusal}
 use Rattle.switch.specs.declared.Refusal.TheVariants.{Room, Limit}
-use Rattle.switch.specs.declared.Outcome.{Outcome}
-use Rattle.switch.specs.declared.Outcome.TheVariants.{Done, Refused}
+use Rattle.switch.specs.Outcome.{Outcome}
 use Rattle.switch.specs.Answer.{plan_counts}
 use Rattle.switch.specs.Demand.{cell}
 use Rattle.switch.specs.Editions.{first_edition}
@@ -24,7 +25,6 @@ use Rattle.switch.specs.Result.{Result, refuses, Gives}
 use Rattle.switch.proofs.Demand.{cell-append, row-le-longest}
 use Rattle.switch.proofs.Result.{gives}
 use Rattle.switch.proofs.Sound.{each_width}
-use Rattle.demand.specs.declared.Checked.TheVariants.{Fine, Faulty}
 use Rattle.demand.specs.Check.{check_demand, Asked}
 use Rattle.demand.proofs.Check.{fine-asked}
 use Rattle.records.specs.Bytes.{whole, bytes, laid}
@@ -48,13 +48,13 @@ plan-size N L d few limit = bytes-size 0 N 64 (each_width 64 N (quiet-sound 64 N
 
 -- ---- the working copy
 
-pub copied : (N : ℕ) (d w : List ℕ) → Small N d → (w' lows' highs' : List ℕ) → w' ≡ d ++ w → Sized N w' → Labelled N w' lows' highs' → Copied N d w' lows' highs'
-copied N d w m w' lows' highs' e s l = record {
+pub copied : (N : ℕ) (d w : List ℕ) → Small N d → (w' : List ℕ) (rows' : List Outputs) → w' ≡ d ++ w → Sized N w' → Labelled N w' rows' → Copied N d w' rows'
+copied N d w m w' rows' e s l = record {
   copy = record { sized = s; labels = l };
   same = subst (λ (x : List ℕ). (i j : ℕ) → i < N → j < N → cell N x i j ≡ cell N d i j) (sym e) (cell-append N d w m.size);
 }
 
-module _ (N L : ℕ) (d w lows highs : List ℕ) (c : Copied N d w lows highs) where
+module _ (N L : ℕ) (d w : List ℕ) (rows : List Outputs) (c : Copied N d w rows) where
   -- what is still to come of it is the demand's plan
   pub copied-plan : leftover N L w ≡ quiet_plan 64 N L d
   unfolding quiet_plan
@@ -99,10 +99,10 @@ module _ (N : ℕ) (d : List ℕ) (m : Small N d) where
         mul-le-mul_left ((busiest N (cell N d) - 1) / L) one,
       )
 
-  pub copied-short : (L : ℕ) → 0 < L → (w lows highs : List ℕ) → Copied N d w lows highs → Short N w (leftover N L w)
-  copied-short L limit w lows highs c = record {
+  pub copied-short : (L : ℕ) → 0 < L → (w : List ℕ) (rows : List Outputs) → Copied N d w rows → Short N w (leftover N L w)
+  copied-short L limit w rows c = record {
     cells = λ i j li lj. omega (arith, c.same i j li lj, cell-small i j li lj);
-    holds = omega (arith, ap total (copied-plan N L d w lows highs c), total-small L limit);
+    holds = omega (arith, ap total (copied-plan N L d w rows c), total-small L limit);
   }
 
 -- ---- the answer
@@ -112,15 +112,15 @@ module _ (N : ℕ) (d : List ℕ) (L : ℕ) (buf : List ℕ) where
   answer = quiet_planned first_edition N d L buf
 
   -- codes 1, 2 and 3
-  pub gives-fault : (r : Refusal) → check_demand 64 N d ≡ Faulty r → Gives answer (Refused r) buf
+  pub gives-fault : (r : Refusal) → check_demand 64 N d ≡ Err r → Gives answer (Err r) buf
   gives-fault r c = gives is refl refl
     where
       is : answer ≡ refuses r buf
       is = unfold quiet_planned in rw c
 
-  module _ (T : ℕ) (fine : check_demand 64 N d ≡ Fine T) where
+  module _ (T : ℕ) (fine : check_demand 64 N d ≡ Ok T) where
     -- code 17
-    pub gives-limit : L ≡ 0 → Gives answer (Refused Limit) buf
+    pub gives-limit : L ≡ 0 → Gives answer (Err Limit) buf
     gives-limit z = gives is refl refl
       where
         is : answer ≡ refuses Limit buf
@@ -131,14 +131,14 @@ module _ (N : ℕ) (d : List ℕ) (L : ℕ) (buf : List ℕ) where
       decided = unfold quiet_planned in rw (fine, lt-ltb 0 L limit)
 
       -- code 5
-      pub gives-room : (r : ℕ) → r ≡ length (quiet_plan 64 N L d) → whole 64 buf < r → Gives answer (Refused (Room r)) buf
+      pub gives-room : (r : ℕ) → r ≡ length (quiet_plan 64 N L d) → whole 64 buf < r → Gives answer (Err (Room r)) buf
       gives-room r count h =
           gives (decided ∙ no_room first_edition N T (empty_slots N (cell N d) (quiet_plan 64 N L d)) (quiet_plan 64 N L d) buf (omega (arith, count)))
-          (ap {B = Outcome} (λ (k : ℕ). Refused (Room k)) count) refl
+          (ap {B = Outcome} (λ (k : ℕ). Err (Room k)) count) refl
 
       -- the plan, and no slot empty
       pub gives-plan : (r t : ℕ) → length (quiet_plan 64 N L d) ≤ whole 64 buf → r ≡ length (quiet_plan 64 N L d) → t ≡ total (quiet_plan 64 N L d)
-          → (after : List ℕ) → after ≡ laid buf 0 (bytes 0 N (quiet_plan 64 N L d)) → Gives answer (Done (plan_counts r T t)) after
+          → (after : List ℕ) → after ≡ laid buf 0 (bytes 0 N (quiet_plan 64 N L d)) → Gives answer (Ok (plan_counts r T t)) after
       gives-plan r t fits count held after b =
           let k = fine-asked 64 N T d fine in
           gives (decided ∙ room first_edition N T (empty_slots N (cell N d) (quiet_plan 64 N L d)) (quiet_plan 64 N L d) buf fits)
@@ -147,16 +147,15 @@ module _ (N : ℕ) (d : List ℕ) (L : ℕ) (buf : List ℕ) where
 
 -- ---- what is lent
 
-module _ (N T : ℕ) (d : List ℕ) (fine : check_demand 64 N d ≡ Fine T) where
+module _ (N T : ℕ) (d : List ℕ) (fine : check_demand 64 N d ≡ Ok T) where
   -- as many labels as ports are lent of those that there are
-  pub lends : (w lows highs : List ℕ) → length w ≡ 4096 → length lows ≡ 64 → length highs ≡ 64 → (N ≤ 64) × Space N w (take N lows) (take N highs)
-  lends w lows highs a b e =
+  pub lends : (w : List ℕ) (rows : List Outputs) → length w ≡ 4096 → length rows ≡ 64 → (N ≤ 64) × Space N w (take N rows)
+  lends w rows a b =
       let k : Asked 64 N T d = fine-asked 64 N T d fine in (
         k.few,
         record {
           sized = record { some = k.some; few = omega (arith, k.few); room = omega (arith, mul-le-mul k.few k.few, a) };
-          low = length-take-le N lows (omega (arith, k.few, b));
-          high = length-take-le N highs (omega (arith, k.few, e));
+          each = length-take-le N rows (omega (arith, k.few, b));
         },
       )
 

@@ -1,9 +1,10 @@
 -- What the joined inputs give up is what the rule subtracts; so a step takes the rule's record off and leaves what the rule leaves. Where no cell is left,
 -- nobody is joined and the hold is 0.
+use Rattle.labels.specs.Ports.{Outputs}
 use mathlib.Core.Path.{◌≡◌, refl, sym, ap, ◌∙◌, subst, fun_ext}
 use mathlib.Core.Logic.{◌≢◌}
-use mathlib.Core.List.{List, ◌∷◌}
-use Prim.Native.Nat.{ℕ, ◌+◌, ◌*◌, ◌-◌, ◌^◌, ◌≤◌, ◌<◌}
+use mathlib.Core.List.{List, [], ◌∷◌}
+use Prim.Native.Nat.{ℕ, ◌+◌, ◌*◌, ◌-◌, ◌≤◌, ◌<◌}
 use native.Mathlib.Decide.{ℕ_discrete, dec_lt}
 use native.Mathlib.Nat.{zero-add}
 use native.Mathlib.Omega.{arith}
@@ -12,9 +13,8 @@ use lib.Seq.{ext_get_or}
 use lib.Dec.{ltb}
 use borrow.Author.Tests.{lt-ltb, le-ltb}
 use Rattle.switch.specs.Demand.{cell}
-use Rattle.sets.specs.Label.{digit, In}
-use Rattle.sets.proofs.Digits.{digit_lt, digit-in}
-use Rattle.sets.proofs.Words.{low}
+use Rattle.sets.specs.Label.{digit}
+use Rattle.sets.proofs.Digits.{digit_lt}
 use Rattle.rules.specs.Peel.{peel, peel_to}
 use Rattle.rules.specs.Exact.{tab}
 use Rattle.rules.proofs.Peel.{length-peel_to, peel_to-joined, peel_to-idle, peel_to-after, peel_to-done}
@@ -27,7 +27,7 @@ use Rattle.quiet_rule.proofs.Hold.{Smallest, joined-cell, idle-cell, pairs-none,
 use Rattle.quiet_rule.proofs.Quiet.{setting-hold}
 use Rattle.quiet_rule.proofs.QuietFrom.{setting_same, quiet-end, quiet_step, quiet-cong}
 use Rattle.quiet_setting.specs.Choosing.{asks, Rows}
-use Rattle.quiet.specs.Taking.{Giving, Given, Subtracted, Ready, Stepped}
+use Rattle.quiet.specs.Taking.{Giving, Given, Subtracted, Ready, Took, leftover}
 
 -- ---- the cell of an input
 
@@ -41,8 +41,8 @@ module _ (N : ℕ) (w out : List ℕ) (i j : ℕ) (e : j ≡ out_of out i) where
 
 -- ---- one input gives up the hold
 
-module _ (N : ℕ) (w lows highs out : List ℕ) (i hold : ℕ) (g : Giving N w lows highs out i hold) (j : ℕ) (e : j ≡ out_of out i) where
-  pub give-pre : j < N → TakePre N w lows highs i j hold
+module _ (N : ℕ) (w : List ℕ) (rows : List Outputs) (out : List ℕ) (i hold : ℕ) (g : Giving N w rows out i hold) (j : ℕ) (e : j ≡ out_of out i) where
+  pub give-pre : j < N → TakePre N w rows i j hold
   give-pre l = record {
     sized = g.copy.sized;
     labels = g.copy.labels;
@@ -51,8 +51,8 @@ module _ (N : ℕ) (w lows highs out : List ℕ) (i hold : ℕ) (g : Giving N w 
     enough = subst (λ (x : ℕ). hold ≤ cell N w i x) (sym e) (g.enough (rw e at l));
   }
 
-  pub given-joined : j < N → (w' lows' highs' : List ℕ) → TakePost N w i j hold w' lows' highs' → Given N w out i hold w' lows' highs'
-  given-joined l w' lows' highs' t = record {
+  pub given-joined : j < N → (w' : List ℕ) (rows' : List Outputs) → TakePost N w i j hold w' rows' → Given N w out i hold w' rows'
+  given-joined l w' rows' t = record {
     copy = record {
       sized = record { some = g.copy.sized.some; few = g.copy.sized.few; room = omega (arith, g.copy.sized.room, ap length t.taken, length-set w (i * N + j) (cell N w i j - hold)) };
       labels = t.labels;
@@ -61,7 +61,7 @@ module _ (N : ℕ) (w lows highs out : List ℕ) (i hold : ℕ) (g : Giving N w 
     idle = λ q. absurd (omega (arith, e));
   }
 
-  pub given-idle : N ≤ j → Given N w out i hold w lows highs
+  pub given-idle : N ≤ j → Given N w out i hold w rows
   given-idle l = record { copy = g.copy; joined = λ q. absurd (omega (arith, e)); idle = λ _. refl }
 
 -- ---- one input after the other
@@ -73,8 +73,8 @@ module _ (N hold : ℕ) (w₀ out : List ℕ) (room : N * N ≤ length w₀) (w 
   pub peeled-length : length w ≡ length w₀
   peeled-length = ap length q ∙ length-peel_to N hold (out_of out) w₀ k
 
-  pub peeled-next : (w' lows' highs' : List ℕ) → Given N w out k hold w' lows' highs' → w' ≡ peel_to N hold (out_of out) w₀ (k + 1)
-  peeled-next w' lows' highs' g = go (dec_lt (out_of out k) N)
+  pub peeled-next : (w' : List ℕ) (rows' : List Outputs) → Given N w out k hold w' rows' → w' ≡ peel_to N hold (out_of out) w₀ (k + 1)
+  peeled-next w' rows' g = go (dec_lt (out_of out k) N)
     where
       go : Dec (out_of out k < N) → w' ≡ peel_to N hold (out_of out) w₀ (k + 1)
       go (yes l) = g.joined l ∙ ap (λ (v : List ℕ). set v (k * N + out_of out k) (cell N v k (out_of out k) - hold)) q ∙ peel_to-joined N hold (out_of out) w₀ k l
@@ -82,24 +82,18 @@ module _ (N hold : ℕ) (w₀ out : List ℕ) (room : N * N ≤ length w₀) (w 
 
 -- ---- a step
 
-module _ (N L : ℕ) (w lows highs : List ℕ) (r : Ready N L w lows highs) (words : (i : ℕ) → get_or lows i 0 < 2 ^ 64) where
-  -- a label's outputs are in its low word
-  pub rows : Rows N lows
-  rows = record { some = r.copy.sized.some; few = r.few; size = omega (arith, r.copy.labels.low); inside = inside }
-    where
-      inside : (i j : ℕ) → i < N → In (get_or lows i 0) j → j < N
-      inside i j li h = ((r.copy.labels.row i li).only j (low (get_or highs i 0) (get_or lows i 0) j (digit-in 64 (get_or lows i 0) j (words i) h) ∙ h)).0
+module _ (N L : ℕ) (w : List ℕ) (rows : List Outputs) (r : Ready N L w rows) where
+  -- the labels have outputs of the switch alone
+  pub labels-ask : Rows N rows
+  labels-ask = record { some = r.copy.sized.some; few = r.few; size = omega (arith, r.copy.labels.each); inside = λ i j li h. ((r.copy.labels.row i li).only j h).0 }
 
-  same-pairs : (i j : ℕ) → i < N → j < N → ltb 0 (asks lows i j) ≡ ltb 0 (cell N w i j)
+  same-pairs : (i j : ℕ) → i < N → j < N → ltb 0 (asks rows i j) ≡ ltb 0 (cell N w i j)
   unfolding asks
-  same-pairs i j li lj = go (ℕ_discrete (digit (get_or lows i 0) j) 1)
+  same-pairs i j li lj = go (ℕ_discrete (digit (row_of rows i) j) 1)
     where
-      word : digit (row_of lows highs i) j ≡ digit (get_or lows i 0) j
-      word = low (get_or highs i 0) (get_or lows i 0) j (omega (arith, r.few))
-
-      go : Dec (digit (get_or lows i 0) j ≡ 1) → ltb 0 (digit (get_or lows i 0) j) ≡ ltb 0 (cell N w i j)
-      go (yes e) = lt-ltb 0 (digit (get_or lows i 0) j) (omega arith) ∙ sym (lt-ltb 0 (cell N w i j) ((r.copy.labels.row i li).only j (word ∙ e)).1)
-      go (no e) = le-ltb 0 (digit (get_or lows i 0) j) (omega (arith, digit_lt (get_or lows i 0) j)) ∙ sym (le-ltb 0 (cell N w i j) (none (cell N w i j) (λ p. e (sym word ∙ (r.copy.labels.row i li).all j lj p))))
+      go : Dec (digit (row_of rows i) j ≡ 1) → ltb 0 (digit (row_of rows i) j) ≡ ltb 0 (cell N w i j)
+      go (yes e) = lt-ltb 0 (digit (row_of rows i) j) (omega arith) ∙ sym (lt-ltb 0 (cell N w i j) ((r.copy.labels.row i li).only j e).1)
+      go (no e) = le-ltb 0 (digit (row_of rows i) j) (omega (arith, digit_lt (row_of rows i) j)) ∙ sym (le-ltb 0 (cell N w i j) (none (cell N w i j) (λ p. e ((r.copy.labels.row i li).all j lj p))))
         where
           none : (x : ℕ) → (0 < x → ⊥) → x ≤ 0
           none x f = omega (arith, f)
@@ -107,9 +101,9 @@ module _ (N L : ℕ) (w lows highs : List ℕ) (r : Ready N L w lows highs) (wor
   small : N ≤ 255
   small = omega (arith, r.few)
 
-  module _ (out' : List ℕ) (long : length out' ≡ 64) (chosen : (i : ℕ) → get_or out' i 255 ≡ quiet_setting N L (asks lows) i) where
+  module _ (out' : List ℕ) (long : length out' ≡ 64) (chosen : (i : ℕ) → get_or out' i 255 ≡ quiet_setting N L (asks rows) i) where
     setting : out_of out' ≡ quiet_setting N L (cell N w)
-    setting = fun_ext chosen ∙ setting_same N L (asks lows) (cell N w) same-pairs
+    setting = fun_ext chosen ∙ setting_same N L (asks rows) (cell N w) same-pairs
 
     module _ (hold : ℕ) (h : hold ≡ smallest N (joined_cell N (cell N w) (out_of out'))) where
       hold-is : hold ≡ quiet_hold N L (cell N w)
@@ -144,18 +138,21 @@ module _ (N L : ℕ) (w lows highs : List ℕ) (r : Ready N L w lows highs) (wor
           go (yes z) = omega (arith, hold-none z)
           go (no p) = let s = hold-small p in omega (arith, s.met, f s.place (out_of out' s.place) s.inside s.joined)
 
-      pub stepped : (w' lows' highs' : List ℕ) → Subtracted N hold w out' w' lows' highs' → Stepped N L w w' lows' highs' out' hold
-      stepped w' lows' highs' s = record {
+      -- without a hold there was nothing to take
+      pub none_left : hold ≡ 0 → leftover N L w ≡ []
+      none_left z = quiet-end 64 N r.few small L r.limit (cell N w) (ended (ℕ_discrete (pairs N (cell N w)) 0))
+        where
+          ended : Dec (pairs N (cell N w) ≡ 0) → pairs N (cell N w) ≡ 0
+          ended (yes e) = e
+          ended (no p) = absurd (omega (arith, (hold-small p).up))
+
+      pub took : 0 < hold → (w' : List ℕ) (rows' : List Outputs) → Subtracted N hold w out' w' rows' → Took N L w w' rows' out' hold
+      took p w' rows' s = record {
         copy = s.copy;
-        none = λ z. quiet-end 64 N r.few small L r.limit (cell N w) (ended z (ℕ_discrete (pairs N (cell N w)) 0));
-        more = λ p. quiet_step 64 N r.few small L r.limit (cell N w) (λ z. omega (arith, hold-none z)) ∙ λ x. head x ∷ tail x;
+        more = quiet_step 64 N r.few small L r.limit (cell N w) (λ z. omega (arith, hold-none z)) ∙ λ x. head x ∷ tail x;
         fits = λ most f. (fits most f, λ i j li lj. omega (arith, f i j li lj, less i j li lj));
       }
         where
-          ended : hold ≡ 0 → Dec (pairs N (cell N w) ≡ 0) → pairs N (cell N w) ≡ 0
-          ended z (yes e) = e
-          ended z (no p) = absurd (omega (arith, (hold-small p).up))
-
           outputs : tab 64 0 (quiet_setting N L (cell N w)) ≡ out'
           outputs = ext_get_or 255 _ _ (length-tab 64 0 (quiet_setting N L (cell N w)) ∙ sym long)
               (λ i l. get_or-tab 64 0 (quiet_setting N L (cell N w)) i 255 (rw (length-tab 64 0 (quiet_setting N L (cell N w))) at l)

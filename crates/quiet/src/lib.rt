@@ -4,23 +4,23 @@
 // How a setting is chosen is left to the crate below, and what the plan is worth, and how near it is to the shortest, to the rule's laws.
 #![tactic(auto)]
 
-ghost use Rattle.std.specs.Prelude.{◌≡◌, ℕ, ◌<◌, ◌≤◌, length, ltb};
-ghost use Rattle.counting.specs.Count.{ind, count};
+ghost use Rattle.std.specs.Prelude.{◌≡◌, ℕ, ◌<◌, ◌≤◌, length, ltb, Ok};
+ghost use Rattle.counting.specs.Count.{count};
 ghost use Rattle.switch.specs.Demand.{cell};
 ghost use Rattle.switch.specs.Plan.{total};
 ghost use Rattle.switch.specs.Editions.{first_edition};
 ghost use Rattle.switch.specs.Result.{Gives};
 ghost use Rattle.demand.specs.Check.{check_demand};
-ghost use Rattle.demand.specs.declared.Checked.TheVariants.{Fine};
 ghost use Rattle.records.specs.Bytes.{bytes, laid};
 ghost use Rattle.board.specs.Level.{Sized, out_of};
 ghost use Rattle.quiet_rule.specs.Quiet.{lesser, smallest, joined_cell, pairs};
 ghost use Rattle.quiet.specs.Planned.{quiet_planned};
-ghost use Rattle.quiet.specs.Taking.{Giving, Given, Loaded, Subtracted, Ready, Stepped, leftover, Short};
-ghost use Rattle.quiet.specs.Lent.{Space, Small, Copied, ShortOf};
+ghost use Rattle.quiet.specs.Taking.{HoldIs, Giving, Given, Loaded, Subtracted, Ready, Stepped, leftover, Short};
+ghost use Rattle.quiet.specs.Lent.{Space, Small, Copied, RoomChecked};
 
 use board::{copy, label_rows, take};
-use demand::{Checked, cell_at, check_demand};
+use demand::{cell_at, check_demand};
+use labels::Outputs;
 use quiet_setting::choose;
 use records::{EDITION, IDLE, RECORD, put_record};
 use switch::{Counts, InputPort, Outcome, OutputPort, PORTS, Refusal};
@@ -39,27 +39,13 @@ const CELLS: usize = 4096;
 pub fn quiet_plan(n: usize, cells: &[u32], limit: u64, plan: &mut [u8]) -> Outcome
     ensures { Gives (quiet_planned first_edition n cells.now limit plan.old) result plan.new }
 {
-    match check_demand(n, PORTS, cells) {
-        Checked::Faulty(r) => Outcome::Refused(r),
-        Checked::Fine(longest) => {
-            if limit == 0 {
-                return Outcome::Refused(Refusal::Limit);
-            }
-            let mut work = [0u32; CELLS];
-            let mut lows = [0u64; PORTS];
-            let mut highs = [0u64; PORTS];
-            plan_fine(
-                n,
-                cells,
-                limit,
-                longest,
-                plan,
-                &mut work,
-                &mut lows[..n],
-                &mut highs[..n],
-            )
-        }
+    let longest = check_demand(n, PORTS, cells)?;
+    if limit == 0 {
+        return Err(Refusal::Limit);
     }
+    let mut work = [0u32; CELLS];
+    let mut rows = [Outputs::none(); PORTS];
+    plan_fine(n, cells, limit, longest, plan, &mut work, &mut rows[..n])
 }
 
 // The same for a demand and a limit that nothing but the room can refuse. The working copy and its labels are lent.
@@ -70,60 +56,55 @@ fn plan_fine(
     longest: u64,
     plan: &mut [u8],
     work: &mut [u32],
-    lows: &mut [u64],
-    highs: &mut [u64],
+    rows: &mut [Outputs],
 ) -> Outcome
-    requires { (0 < limit) × (check_demand 64 n cells.now ≡ Fine longest) × Space n work.old lows.old highs.old }
+    requires { (0 < limit) × (check_demand 64 n cells.now ≡ Ok longest) × Space n work.old rows.old }
     ensures { Gives (quiet_planned first_edition n cells.now limit plan.old) result plan.new }
 {
     let room = plan.len() / RECORD;
-    let need = short_of(n, cells, limit, room, work, lows, highs);
-    if need != 0 {
-        return Outcome::Refused(Refusal::Room(need));
-    }
-    let done = lay_records(n, limit, plan, work, lows, highs);
-    Outcome::Done(Counts {
+    check_room(n, cells, limit, room, work, rows)?;
+    let done = lay_records(n, limit, plan, work, rows);
+    Ok(Counts {
         records: done.records,
-        longest: longest,
+        longest,
         total: done.total,
         length: 0,
         empty: 0,
     })
 }
 
-// How many records the plan has, where the room is too small for them; and 0 where it is not, with the demand copied in. Each record
-// empties a cell, so room for as many records as there are non-zero cells is always enough; with less they are counted.
-fn short_of(
+// The demand is copied in, or the room is too small for its plan's records. Each record empties a cell, so room for as many records as there
+// are non-zero cells is always enough; with less they are counted.
+fn check_room(
     n: usize,
     cells: &[u32],
     limit: u64,
     room: usize,
     work: &mut [u32],
-    lows: &mut [u64],
-    highs: &mut [u64],
-) -> usize
-    requires { (0 < limit) × Small n cells.now × Space n work.old lows.old highs.old }
-    ensures { ShortOf n limit cells.now room work.new lows.new highs.new result }
+    rows: &mut [Outputs],
+) -> Result<(), Refusal>
+    requires { (0 < limit) × Small n cells.now × Space n work.old rows.old }
+    ensures { RoomChecked n limit cells.now room work.new rows.new result }
 {
-    load(n, cells, work, lows, highs);
+    load(n, cells, work, rows);
     if asked_pairs(n, work) <= room {
-        return 0;
+        return Ok(());
     }
-    let need = count_records(n, limit, work, lows, highs);
+    let need = count_records(n, limit, work, rows);
     if room < need {
-        return need;
+        return Err(Refusal::Room(need));
     }
-    load(n, cells, work, lows, highs);
-    0
+    load(n, cells, work, rows);
+    Ok(())
 }
 
 // The demand copied in, with its labels.
-fn load(n: usize, cells: &[u32], work: &mut [u32], lows: &mut [u64], highs: &mut [u64])
-    requires { Small n cells.now × Space n work.old lows.old highs.old }
-    ensures { Copied n cells.now work.new lows.new highs.new }
+fn load(n: usize, cells: &[u32], work: &mut [u32], rows: &mut [Outputs])
+    requires { Small n cells.now × Space n work.old rows.old }
+    ensures { Copied n cells.now work.new rows.new }
 {
     copy(cells, work);
-    label_rows(work, n, lows, highs);
+    label_rows(work, n, rows);
 }
 
 // How many cells are not zero.
@@ -143,44 +124,22 @@ fn asked_of(n: usize, cells: &[u32], i: InputPort) -> usize
     requires { Sized n cells.now × (i.0 < n) }
     ensures { result ≡ count n (λ j. ltb 0 (cell n cells.now i.0 j)) }
 {
-    let row = i.0 * n;
-    let mut asked: usize = 0;
-    for j in 0..n {
-        asked += one_if(cells[row + j]);
-    }
-    asked
-}
-
-// 1 where the cell is not zero.
-fn one_if(cell: u32) -> usize
-    ensures { result ≡ ind (ltb 0 cell) }
-{
-    if cell == 0 {
-        return 0;
-    }
-    1
+    let at = i.0 * n;
+    let row = &cells[at..at + n];
+    row.iter().filter(|c| 0 < **c).count()
 }
 
 // How many records the plan has. The cells are spent.
-fn count_records(
-    n: usize,
-    limit: u64,
-    work: &mut [u32],
-    lows: &mut [u64],
-    highs: &mut [u64],
-) -> usize
-    requires { Ready n limit work.old lows.old highs.old }
+fn count_records(n: usize, limit: u64, work: &mut [u32], rows: &mut [Outputs]) -> usize
+    requires { Ready n limit work.old rows.old }
     ensures { result ≡ length (leftover n limit work.old) }
 {
     let mut out = [IDLE; PORTS];
     let mut records: usize = 0;
-    loop {
-        let hold = next_record(n, limit, work, lows, highs, &mut out);
-        if hold == 0 {
-            return records;
-        }
+    while let Some(_) = next_record(n, limit, work, rows, &mut out) {
         records += 1;
     }
+    records
 }
 
 // The plan's records laid at the plan's start, one behind the other. The cells are spent.
@@ -189,118 +148,104 @@ fn lay_records(
     limit: u64,
     plan: &mut [u8],
     work: &mut [u32],
-    lows: &mut [u64],
-    highs: &mut [u64],
+    rows: &mut [Outputs],
 ) -> Laid
-    requires { Ready n limit work.old lows.old highs.old × Short n work.old (leftover n limit work.old) × (length (bytes 0 n (leftover n limit work.old)) ≤ length plan.old) }
+    requires { Ready n limit work.old rows.old × Short n work.old (leftover n limit work.old) × (length (bytes 0 n (leftover n limit work.old)) ≤ length plan.old) }
     ensures { (result.records ≡ length (leftover n limit work.old)) × (result.total ≡ total (leftover n limit work.old)) × (plan.new ≡ laid plan.old 0 (bytes 0 n (leftover n limit work.old))) }
 {
     let mut out = [IDLE; PORTS];
-    let mut records: usize = 0;
-    let mut held: u64 = 0;
+    let mut laid = Laid {
+        records: 0,
+        total: 0,
+    };
     let mut at: usize = 0;
-    loop {
-        let hold = next_record(n, limit, work, lows, highs, &mut out);
-        if hold == 0 {
-            return Laid {
-                records: records,
-                total: held,
-            };
-        }
+    while let Some(hold) = next_record(n, limit, work, rows, &mut out) {
         put_record(plan, at, EDITION, hold as u16, n, &out);
         at += RECORD;
-        held += hold as u64;
-        records += 1;
+        laid.total += hold as u64;
+        laid.records += 1;
     }
+    laid
 }
 
-// Takes the next record off the working copy: `out` has its outputs. It answers the hold, which is 0 where nothing is left.
+// Takes the next record off the working copy: `out` has its outputs, and the answer is its hold; there is none where nothing is left.
 fn next_record(
     n: usize,
     limit: u64,
     work: &mut [u32],
-    lows: &mut [u64],
-    highs: &mut [u64],
+    rows: &mut [Outputs],
     out: &mut [u8],
-) -> u32
-    requires { Ready n limit work.old lows.old highs.old × (length out.old ≡ 64) }
-    ensures { Stepped n limit work.old work.new lows.new highs.new out.new result }
+) -> Option<u32>
+    requires { Ready n limit work.old rows.old × (length out.old ≡ 64) }
+    ensures { Stepped n limit work.old work.new rows.new out.new result }
 {
-    choose(n, limit, lows, out);
-    let hold = hold_of(work, n, out);
-    subtract(work, n, lows, highs, out, hold);
-    hold
+    choose(n, limit, rows, out);
+    let hold = hold_of(work, n, out)?;
+    subtract(work, n, rows, out, hold);
+    Some(hold)
 }
 
-// The hold of a setting: the smallest cell among the joined pairs, and 0 where all inputs are idle.
-fn hold_of(cells: &[u32], n: usize, out: &[u8]) -> u32
+// The hold of a setting: the smallest cell among the joined pairs.
+// A loop: of a chain that passes over inputs without a cell and takes the least, the promise did not follow.
+fn hold_of(cells: &[u32], n: usize, out: &[u8]) -> Option<u32>
     requires { Sized n cells.now × (n ≤ length out.now) }
-    ensures { result ≡ smallest n (joined_cell n (cell n cells.now) (out_of out.now)) }
+    ensures { HoldIs (smallest n (joined_cell n (cell n cells.now) (out_of out.now))) result }
 {
-    let mut hold: u32 = 0;
+    let mut hold: Option<u32> = None;
     for i in 0..n {
         hold = lesser_of(hold, cell_of(cells, n, out, InputPort(i)));
     }
     hold
 }
 
-// The cell of the pair that joins input i, and 0 where it is idle.
-fn cell_of(cells: &[u32], n: usize, out: &[u8], i: InputPort) -> u32
+// The cell of the pair that joins input i, where it is joined and the cell is not zero.
+fn cell_of(cells: &[u32], n: usize, out: &[u8], i: InputPort) -> Option<u32>
     requires { Sized n cells.now × (i.0 < n) × (n ≤ length out.now) }
-    ensures { result ≡ joined_cell n (cell n cells.now) (out_of out.now) i.0 }
+    ensures { HoldIs (joined_cell n (cell n cells.now) (out_of out.now) i.0) result }
 {
     let k = i.0;
     let j = out[k] as usize;
-    if j < n {
-        let at = cell_at(n, i, OutputPort(j));
-        return cells[at];
+    if n <= j {
+        return None;
     }
-    0
+    let at = cell_at(n, i, OutputPort(j));
+    let cell = cells[at];
+    if 0 < cell { Some(cell) } else { None }
 }
 
-// The smaller of two numbers, of which 0 counts as none.
-fn lesser_of(a: u32, b: u32) -> u32
-    ensures { result ≡ lesser a b }
+// The smaller of two cells, as far as there are any.
+fn lesser_of(a: Option<u32>, b: Option<u32>) -> Option<u32>
+    ensures { (x y : ℕ) → HoldIs x a → HoldIs y b → HoldIs (lesser x y) result }
 {
-    if a == 0 {
+    let Some(x) = a else {
         return b;
-    }
-    if b == 0 {
+    };
+    let Some(y) = b else {
         return a;
-    }
-    if a < b {
-        return a;
-    }
-    b
+    };
+    Some(x.min(y))
 }
 
 // Every joined pair's cell is less by the hold.
-fn subtract(work: &mut [u32], n: usize, lows: &mut [u64], highs: &mut [u64], out: &[u8], hold: u32)
-    requires { Loaded n work.old lows.old highs.old × (n ≤ length out.now) × ((i : ℕ) → i < n → out_of out.now i < n → hold ≤ cell n work.old i (out_of out.now i)) }
-    ensures { Subtracted n hold work.old out.now work.new lows.new highs.new }
+// i is an input: it has its output, its cell and its label.
+fn subtract(work: &mut [u32], n: usize, rows: &mut [Outputs], out: &[u8], hold: u32)
+    requires { Loaded n work.old rows.old × (n ≤ length out.now) × ((i : ℕ) → i < n → out_of out.now i < n → hold ≤ cell n work.old i (out_of out.now i)) }
+    ensures { Subtracted n hold work.old out.now work.new rows.new }
 {
     for i in 0..n {
-        give(work, n, lows, highs, out, InputPort(i), hold);
+        give(work, n, rows, out, InputPort(i), hold);
     }
 }
 
 // One input's part: it gives up the hold where it is joined.
-fn give(
-    work: &mut [u32],
-    n: usize,
-    lows: &mut [u64],
-    highs: &mut [u64],
-    out: &[u8],
-    i: InputPort,
-    hold: u32,
-)
-    requires { Giving n work.old lows.old highs.old out.now i.0 hold }
-    ensures { Given n work.old out.now i.0 hold work.new lows.new highs.new }
+fn give(work: &mut [u32], n: usize, rows: &mut [Outputs], out: &[u8], i: InputPort, hold: u32)
+    requires { Giving n work.old rows.old out.now i.0 hold }
+    ensures { Given n work.old out.now i.0 hold work.new rows.new }
 {
     let k = i.0;
     let j = out[k] as usize;
     if n <= j {
         return;
     }
-    take(work, n, lows, highs, i, OutputPort(j), hold);
+    take(work, n, rows, i, OutputPort(j), hold);
 }

@@ -12,6 +12,8 @@ use lib.Seq.{get_or-set_same, get_or-set_other}
 use lib.Dec.{T, leb}
 use borrow.Author.Tests.{eq-eqb, ne_eqb, le-leb, lt-leb}
 use Rattle.counting.proofs.Count.{δ-same, δ-other}
+use Rattle.labels.specs.Ports.{Outputs}
+use Rattle.labels.specs.Rows.{row_of}
 use Rattle.sets.specs.declared.Label.{Label}
 use Rattle.sets.specs.Label.{digit, In, is_in, Marked, Union, But, LowestAt}
 use Rattle.sets.proofs.Digits.{digit_lt}
@@ -27,7 +29,7 @@ use Rattle.quiet_rule.proofs.Limit.{lights-idle, lights-joined, lit-put, lit-le,
 use Rattle.quiet_rule.proofs.Setting.{within-is, within-yes, served-idle}
 use Rattle.quiet_rule.proofs.QuietFrom.{served-zero, served-next}
 use Rattle.quiet_setting.specs.declared.Busy.{Busy}
-use Rattle.quiet_setting.specs.Choosing.{MarkedIf, Around, asks, Rows, FullFor, Choosing}
+use Rattle.quiet_setting.specs.Choosing.{FirstWord, MarkedIf, Around, asks, Rows, FullFor, Choosing}
 use Rattle.quiet_setting.proofs.Turning.{wavelength-next}
 
 -- ---- sets and tests
@@ -124,19 +126,19 @@ module _ (N L : ℕ) (o : ℕ → ℕ) (v l j : ℕ) (lv : v < N) (lj : j < N) (
 
 -- ---- a turn
 
-asked_in : (lows : List ℕ) (i j : ℕ) → 0 < asks lows i j → In (get_or lows i 0) j
+asked_in : (rows : List Outputs) (i j : ℕ) → 0 < asks rows i j → In (row_of rows i) j
 unfolding asks
-asked_in lows i j p = omega (arith, digit_lt (get_or lows i 0) j)
+asked_in rows i j p = omega (arith, digit_lt (row_of rows i) j)
 
-in-asked : (lows : List ℕ) (i j : ℕ) → In (get_or lows i 0) j → 0 < asks lows i j
+in-asked : (rows : List Outputs) (i j : ℕ) → In (row_of rows i) j → 0 < asks rows i j
 unfolding asks
-in-asked lows i j e = omega (arith, e)
+in-asked rows i j e = omega (arith, e)
 
 -- the slot in the making, in whatever way it is written
-chosen : (N L : ℕ) (lows : List ℕ) (v : ℕ) (out counts : List ℕ) (busy : Busy) (y : Slot) → served N L (asks lows) v ≡ y → N ≤ length out → N ≤ length counts
+chosen : (N L : ℕ) (rows : List Outputs) (v : ℕ) (out counts : List ℕ) (busy : Busy) (y : Slot) → served N L (asks rows) v ≡ y → N ≤ length out → N ≤ length counts
     → ((i : ℕ) → get_or out i 255 ≡ y.outputs i) → ((w : ℕ) → w < N → get_or counts w 0 ≡ lit N y.outputs w) → ((j : ℕ) → j < N → is_in busy.taken.0 j ≡ y.taken j)
-    → FullFor N L y.outputs v busy.full.0 → Choosing N L lows v out counts busy
-chosen N L lows v out counts busy y e wide room outputs counted taken full = record {
+    → FullFor N L y.outputs v busy.full.0 → Choosing N L rows v out counts busy
+chosen N L rows v out counts busy y e wide room outputs counted taken full = record {
   wide = wide;
   room = room;
   outputs = λ i. outputs i ∙ ap (λ (s : Slot). s.outputs i) (sym e);
@@ -146,10 +148,10 @@ chosen N L lows v out counts busy y e wide room outputs counted taken full = rec
 }
 
 -- nobody is visited
-pub visit-first : (N L : ℕ) (lows out counts : List ℕ) (busy : Busy) → 0 < L → N ≤ 64 → N ≤ length out → N ≤ length counts → ((i : ℕ) → get_or out i 255 ≡ 255) → ((w : ℕ) → get_or counts w 0 ≡ 0)
-    → ((k : ℕ) → In busy.taken.0 k → ⊥) → ((k : ℕ) → In busy.full.0 k → ⊥) → Choosing N L lows 0 out counts busy
-visit-first N L lows out counts busy limit few wide room outputs counted taken full =
-    chosen N L lows 0 out counts busy (record { outputs = λ _. 255; taken = λ _. false }) (served-zero N L (asks lows)) wide room outputs
+pub visit-first : (N L : ℕ) (rows : List Outputs) (out counts : List ℕ) (busy : Busy) → 0 < L → N ≤ 64 → N ≤ length out → N ≤ length counts → ((i : ℕ) → get_or out i 255 ≡ 255) → ((w : ℕ) → get_or counts w 0 ≡ 0)
+    → ((k : ℕ) → In busy.taken.0 k → ⊥) → ((k : ℕ) → In busy.full.0 k → ⊥) → Choosing N L rows 0 out counts busy
+visit-first N L rows out counts busy limit few wide room outputs counted taken full =
+    chosen N L rows 0 out counts busy (record { outputs = λ _. 255; taken = λ _. false }) (served-zero N L (asks rows)) wide room outputs
     (λ w _. counted w ∙ sym (none w)) (λ j _. none_has busy.taken.0 taken j)
     (record { inside = λ j h. absurd (full j h); full = λ j _ h. absurd (full j h); has_room = λ j _ _. omega (arith, none (wavelength N 0 j)) })
   where
@@ -157,19 +159,19 @@ visit-first N L lows out counts busy limit few wide room outputs counted taken f
     none w = lit-none N (λ _. 255) (λ i _. omega arith) w
 
 -- all are visited
-pub visit-last : (N L : ℕ) (lows out counts : List ℕ) (busy : Busy) (v : ℕ) → v ≡ N → Choosing N L lows v out counts busy → (i : ℕ) → get_or out i 255 ≡ quiet_setting N L (asks lows) i
+pub visit-last : (N L : ℕ) (rows : List Outputs) (out counts : List ℕ) (busy : Busy) (v : ℕ) → v ≡ N → Choosing N L rows v out counts busy → (i : ℕ) → get_or out i 255 ≡ quiet_setting N L (asks rows) i
 unfolding quiet_setting
-visit-last N L lows out counts busy v e g i = g.outputs i ∙ ap (λ (k : ℕ). (served N L (asks lows) k).outputs i) e
+visit-last N L rows out counts busy v e g i = g.outputs i ∙ ap (λ (k : ℕ). (served N L (asks rows) k).outputs i) e
 
-module _ (N L : ℕ) (lows : List ℕ) (v : ℕ) (out counts : List ℕ) (busy : Busy) (lv : v < N) (rows : Rows N lows) (g : Choosing N L lows v out counts busy) where
+module _ (N L : ℕ) (rows : List Outputs) (v : ℕ) (out counts : List ℕ) (busy : Busy) (lv : v < N) (ask : Rows N rows) (g : Choosing N L rows v out counts busy) where
   abbrev x : Slot
-  x = served N L (asks lows) v
+  x = served N L (asks rows) v
 
   abbrev M : ℕ → ℕ → ℕ
-  M = asks lows
+  M = asks rows
 
   idle-v : x.outputs v ≡ 255
-  idle-v = served-idle N (omega (arith, rows.few)) L M v (omega arith) v (omega arith)
+  idle-v = served-idle N (omega (arith, ask.few)) L M v (omega arith) v (omega arith)
 
   is-taken : (j : ℕ) → j < N → In busy.taken.0 j → T (x.taken j)
   is-taken j lj e = subst T (g.taken j lj) (rw (eq-eqb (digit busy.taken.0 j) 1 e) tt)
@@ -182,27 +184,30 @@ module _ (N L : ℕ) (lows : List ℕ) (v : ℕ) (out counts : List ℕ) (busy :
       go (no e) = absurd (subst T (sym (g.taken j lj) ∙ ne_eqb (digit busy.taken.0 j) 1 e) t)
 
   -- free has the outputs of the input's label that are neither taken nor full
-  module _ (u free : ℕ) (both : Union busy.taken.0 busy.full.0 u) (rest : But (get_or lows v 0) u free) where
+  module _ (u free : ℕ) (both : Union busy.taken.0 busy.full.0 u) (row : ℕ) (word : FirstWord (row_of rows v) row) (rest : But row u free) where
     -- what the rule allows is among them
     allowed : (y : ℕ) → y < N → T (may_within N L M x v y) → In free y
     allowed y ly t =
         let r = within-is N L M x v y t in
         let p = may-is M x.taken v y r.0 in
-        rest.kept y (asked_in lows v y p.0) (λ h. elim (both.only y h) [ inl d ↦ p.1 (is-taken y ly d) | inr d ↦ omega (arith, g.full.full y ly d, r.1) ])
+        rest.kept y (sym (word y (omega (arith, ask.few))) ∙ asked_in rows v y p.0) (λ h. elim (both.only y h) [ inl d ↦ p.1 (is-taken y ly d) | inr d ↦ omega (arith, g.full.full y ly d, r.1) ])
 
     pub given-none : ((k : ℕ) → In free k → ⊥) → lowest N 0 (may_within N L M x v) ≡ 255
     given-none s = lowest-none N 0 (may_within N L M x v) (λ y _ l t. s y (allowed y (omega arith) t))
 
     module _ (j : ℕ) (m : LowestAt 64 free j) where
+      asked : In (row_of rows v) j
+      asked = word j m.small ∙ rest.less j m.here
+
       pub given-in : j < N
-      given-in = rows.inside v j lv (rest.less j m.here)
+      given-in = ask.inside v j lv asked
 
       pub not_full : In busy.full.0 j → ⊥
       not_full h = rest.gone j m.here (both.right j h)
 
       pub given-at : lowest N 0 (may_within N L M x v) ≡ j
       given-at = lowest-at N 0 (may_within N L M x v) j (omega arith) (omega (arith, given-in))
-          (within-yes N L M x v j (may-yes M x.taken v j (in-asked lows v j (rest.less j m.here)) (λ t. rest.gone j m.here (both.left j (taken_in j given-in t)))) (g.full.has_room j given-in not_full))
+          (within-yes N L M x v j (may-yes M x.taken v j (in-asked rows v j asked) (λ t. rest.gone j m.here (both.left j (taken_in j given-in t)))) (g.full.has_room j given-in not_full))
           (λ y _ l t. m.past y l (allowed y (below y l given-in) t))
         where
           below : (y : ℕ) → y < j → j < N → y < N
@@ -212,13 +217,13 @@ module _ (N L : ℕ) (lows : List ℕ) (v : ℕ) (out counts : List ℕ) (busy :
   next j e = served-next N L M v ∙ ap (seat x v) e
 
   small : N ≤ 255
-  small = omega (arith, rows.few)
+  small = omega (arith, ask.few)
 
   -- nothing is free: the input stays idle
-  pub visit-none : lowest N 0 (may_within N L M x v) ≡ 255 → (busy' : Busy) → busy'.taken ≡ busy.taken → Around N busy.full.0 busy'.full.0 → Choosing N L lows (v + 1) out counts busy'
+  pub visit-none : lowest N 0 (may_within N L M x v) ≡ 255 → (busy' : Busy) → busy'.taken ≡ busy.taken → Around N busy.full.0 busy'.full.0 → Choosing N L rows (v + 1) out counts busy'
   unfolding seat
   visit-none e busy' t a =
-      chosen N L lows (v + 1) out counts busy' (seat x v 255) (next 255 e) g.wide g.room (λ i. g.outputs i ∙ sym (stays i)) (λ w lw. g.counted w lw ∙ sym (same w))
+      chosen N L rows (v + 1) out counts busy' (seat x v 255) (next 255 e) g.wide g.room (λ i. g.outputs i ∙ sym (stays i)) (λ w lw. g.counted w lw ∙ sym (same w))
       (λ j lj. ap (λ (b : Label). is_in b.0 j) t ∙ g.taken j lj ∙ sym (put_other x.taken 255 true j (omega (arith, small))))
       (full-as N L x.outputs (put x.outputs v 255) (v + 1) busy'.full.0 same (full-turned N L x.outputs v busy.full.0 busy'.full.0 lv g.full a))
     where
@@ -235,17 +240,17 @@ module _ (N L : ℕ) (lows : List ℕ) (v : ℕ) (out counts : List ℕ) (busy :
   -- output j, by wavelength w
   module _ (w : ℕ) (lw : w < N) where
     pub count_small : get_or counts w 0 ≤ 64
-    count_small = omega (arith, g.counted w lw, lit-le N x.outputs w, rows.few)
+    count_small = omega (arith, g.counted w lw, lit-le N x.outputs w, ask.few)
 
   module _ (j w : ℕ) (lw : w < N) (lj : j < N) (new : In busy.full.0 j → ⊥) (e : lowest N 0 (may_within N L M x v) ≡ j) (ew : w ≡ wavelength N v j) where
     idle : N ≤ x.outputs v
     idle = omega (arith, idle-v, small)
 
     pub visit-at : (busy' : Busy) (l : ℕ) → Marked busy.taken.0 j busy'.taken.0 → MarkedIf (leb L (get_or counts w 0 + 1)) busy.full.0 j l → Around N l busy'.full.0
-        → Choosing N L lows (v + 1) (set out v j) (set counts w (get_or counts w 0 + 1)) busy'
+        → Choosing N L rows (v + 1) (set out v j) (set counts w (get_or counts w 0 + 1)) busy'
     unfolding seat
     visit-at busy' l mt mf a =
-        chosen N L lows (v + 1) (set out v j) (set counts w (get_or counts w 0 + 1)) busy' (seat x v j) (next j e)
+        chosen N L rows (v + 1) (set out v j) (set counts w (get_or counts w 0 + 1)) busy' (seat x v j) (next j e)
         (omega (arith, g.wide, length-set out v j)) (omega (arith, g.room, length-set counts w (get_or counts w 0 + 1))) outputs counted
         (λ b lb. marked-has busy.taken.0 j busy'.taken.0 mt b ∙ at b lb)
         (full-turned N L (put x.outputs v j) v l busy'.full.0 lv

@@ -1,5 +1,7 @@
 -- Inner: a quiet setting in the making, on labels: what each turn may assume and what it promises. Definitions only.
 use Rattle.std.specs.Prelude.{◌≡◌, Bool, true, false, List, ℕ, ◌+◌, ◌-◌, ◌%◌, ◌≤◌, ◌<◌, length, get_or}
+use Rattle.labels.specs.Ports.{Outputs}
+use Rattle.labels.specs.Rows.{row_of}
 use Rattle.sets.specs.Label.{digit, In, is_in, Marked}
 use Rattle.wavelengths.specs.Shared.{wavelength}
 use Rattle.quiet_rule.specs.Limit.{lit}
@@ -17,15 +19,19 @@ pub record Around (N l r : ℕ) : Type 0 where
   pub turns : (j : ℕ) → j < N → digit r j ≡ digit l ((j + (N - 1)) % N)
 
 -- 1 where output j is in the label of input i, and 0 elsewhere: a demand of the pairs with slots left
-unfoldable pub asks : (lows : List ℕ) (i j : ℕ) → ℕ
-asks lows i j = digit (get_or lows i 0) j
+unfoldable pub asks : (rows : List Outputs) (i j : ℕ) → ℕ
+asks rows i j = digit (row_of rows i) j
 
--- a label of outputs for each of N inputs, in one word
-pub record Rows (N : ℕ) (lows : List ℕ) : Type 0 where
+-- r has what l has of the outputs below 64
+abbrev pub FirstWord : (l r : ℕ) → Type 0
+FirstWord l r = (k : ℕ) → k < 64 → digit l k ≡ digit r k
+
+-- a label of outputs for each of N inputs, all of them in its first word
+pub record Rows (N : ℕ) (rows : List Outputs) : Type 0 where
   pub some : 0 < N
   pub few : N ≤ 64
-  pub size : N ≤ length lows
-  pub inside : (i j : ℕ) → i < N → In (get_or lows i 0) j → j < N
+  pub size : N ≤ length rows
+  pub inside : (i j : ℕ) → i < N → In (row_of rows i) j → j < N
 
 -- l has the outputs below N that input v would reach by a wavelength that L inputs of setting o use
 pub record FullFor (N L : ℕ) (o : ℕ → ℕ) (v l : ℕ) : Type 0 where
@@ -34,10 +40,10 @@ pub record FullFor (N L : ℕ) (o : ℕ → ℕ) (v l : ℕ) : Type 0 where
   pub has_room : (j : ℕ) → j < N → (In l j → ⊥) → lit N o (wavelength N v j) < L
 
 -- the first v inputs are visited: the outputs by input, the wavelengths counted, the outputs taken, and those whose wavelength is full for input v
-pub record Choosing (N L : ℕ) (lows : List ℕ) (v : ℕ) (out counts : List ℕ) (busy : Busy) : Type 0 where
+pub record Choosing (N L : ℕ) (rows : List Outputs) (v : ℕ) (out counts : List ℕ) (busy : Busy) : Type 0 where
   pub wide : N ≤ length out
   pub room : N ≤ length counts
-  pub outputs : (i : ℕ) → get_or out i 255 ≡ (served N L (asks lows) v).outputs i
-  pub counted : (w : ℕ) → w < N → get_or counts w 0 ≡ lit N (served N L (asks lows) v).outputs w
-  pub taken : (j : ℕ) → j < N → is_in busy.taken.0 j ≡ (served N L (asks lows) v).taken j
-  pub full : FullFor N L (served N L (asks lows) v).outputs v busy.full.0
+  pub outputs : (i : ℕ) → get_or out i 255 ≡ (served N L (asks rows) v).outputs i
+  pub counted : (w : ℕ) → w < N → get_or counts w 0 ≡ lit N (served N L (asks rows) v).outputs w
+  pub taken : (j : ℕ) → j < N → is_in busy.taken.0 j ≡ (served N L (asks rows) v).taken j
+  pub full : FullFor N L (served N L (asks rows) v).outputs v busy.full.0

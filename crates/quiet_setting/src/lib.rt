@@ -6,10 +6,12 @@
 
 ghost use Rattle.std.specs.Prelude.{◌≡◌, ℕ, ◌+◌, ◌<◌, ◌≤◌, length, get_or};
 ghost use Rattle.sets.specs.Label.{In};
+ghost use Rattle.labels.specs.Rows.{row_of};
 ghost use Rattle.quiet_rule.specs.Quiet.{quiet_setting};
-ghost use Rattle.quiet_setting.specs.Choosing.{MarkedIf, Around, asks, Rows, Choosing};
+ghost use Rattle.quiet_setting.specs.Choosing.{FirstWord, MarkedIf, Around, asks, Rows, Choosing};
 
-use sets::{Found, Label};
+use labels::{Outputs, row_of};
+use sets::{Label, NumberSet};
 use slot::idle_all;
 use switch::{InputPort, OutputPort, PORTS};
 use wavelengths::wavelength_of;
@@ -22,9 +24,10 @@ pub struct Busy {
 }
 
 // The quiet setting of what the labels ask, within a limit of at least 1: `out` has its outputs by input.
-pub fn choose(n: usize, limit: u64, lows: &[u64], out: &mut [u8])
-    requires { (0 < limit) × Rows n lows.now × (n ≤ length out.old) }
-    ensures { (i : ℕ) → get_or out.new i 255 ≡ quiet_setting n limit (asks lows.now) i }
+// i is an input: it has its label, its output and its wavelengths.
+pub fn choose(n: usize, limit: u64, rows: &[Outputs], out: &mut [u8])
+    requires { (0 < limit) × Rows n rows.now × (n ≤ length out.old) }
+    ensures { (i : ℕ) → get_or out.new i 255 ≡ quiet_setting n limit (asks rows.now) i }
 {
     idle_all(out);
     let mut counts = [0u8; PORTS];
@@ -33,7 +36,7 @@ pub fn choose(n: usize, limit: u64, lows: &[u64], out: &mut [u8])
         full: Label::none(),
     };
     for i in 0..n {
-        busy = visit(n, limit, lows, InputPort(i), busy, out, &mut counts);
+        busy = visit(n, limit, rows, InputPort(i), busy, out, &mut counts);
     }
 }
 
@@ -41,23 +44,23 @@ pub fn choose(n: usize, limit: u64, lows: &[u64], out: &mut [u8])
 fn visit(
     n: usize,
     limit: u64,
-    lows: &[u64],
+    rows: &[Outputs],
     i: InputPort,
     busy: Busy,
     out: &mut [u8],
     counts: &mut [u8],
 ) -> Busy
-    requires { (i.0 < n) × Rows n lows.now × Choosing n limit lows.now i.0 out.old counts.old busy }
-    ensures { Choosing n limit lows.now (i.0 + 1) out.new counts.new result }
+    requires { (i.0 < n) × Rows n rows.now × Choosing n limit rows.now i.0 out.old counts.old busy }
+    ensures { Choosing n limit rows.now (i.0 + 1) out.new counts.new result }
 {
     let port = i.0;
     let taken = busy.taken;
     let full = busy.full;
-    let row = Label(lows[port]);
+    let row = first_word(rows, i);
     let free = row.but(taken.with(full));
-    let Found::At(j) = free.lowest() else {
+    let Some(j) = free.lowest() else {
         return Busy {
-            taken: taken,
+            taken,
             full: turned(n, full),
         };
     };
@@ -70,6 +73,16 @@ fn visit(
         taken: taken.mark(j),
         full: turned(n, fuller),
     }
+}
+
+// The outputs of input i among the first 64: no others are asked for here, so that its label's other word need not be looked at.
+fn first_word(rows: &[Outputs], i: InputPort) -> Label
+    requires { i.0 < length rows.now }
+    ensures { FirstWord (row_of rows.now i.0) result.0 }
+{
+    let row = row_of(rows, i);
+    let words = row.numbers;
+    words.low
 }
 
 // The set, and output j besides where its wavelength is now full.

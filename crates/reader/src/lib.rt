@@ -1,5 +1,5 @@
-// The reader: it keeps a plan's bytes and the place reached. Each function over it takes it apart and calls the covered one of `plans`,
-// and `open_answer` and `step_from`, whose parameters are plain, stand above them: a caller that keeps the place itself reads by them.
+// The reader: it keeps a plan's bytes and the place reached, and `plans` opens the plan and takes each step.
+// A caller that keeps the place itself reads by `open_answer` and `step_from`, whose parameters are plain.
 // What a step gives is promised by `plans`; here it is promised that the place goes on with it and the plan stays.
 #![tactic(auto)]
 
@@ -20,6 +20,7 @@ pub struct Reader<'a> {
 }
 
 // What opening gives: its answer and the reader.
+// The promise gives a reader with a refusal too, all of whose steps are the end.
 #[derive(Clone, Copy)]
 pub struct Opened<'a> {
     pub answer: Outcome,
@@ -37,7 +38,7 @@ pub fn open<'a>(n: usize, plan: &'a [u8]) -> Opened<'a>
 
 impl<'a> Reader<'a> {
     // The step at the reader's place, and the reader goes on to the next.
-    pub fn step(&mut self) -> Stepped
+    pub fn step(&mut self) -> Stepped<64>
         ensures { (result ≡ step_at first_edition self.old.n self.old.plan.now self.old.at) × (self.new ≡ moved_to self.old result.next) }
     {
         let s = plans::step_at(self.n, self.plan, self.at);
@@ -54,7 +55,7 @@ pub fn open_answer(n: usize, plan: &[u8]) -> Outcome
 }
 
 // The step at record `at` of a plan, by a reader that stands there.
-pub fn step_from(n: usize, plan: &[u8], at: usize) -> Stepped
+pub fn step_from(n: usize, plan: &[u8], at: usize) -> Stepped<64>
     ensures { result ≡ step_at first_edition n plan.now at }
 {
     let mut r = standing(n, plan, at);

@@ -1,12 +1,13 @@
 -- Laying one list behind another is laying both at once; straight stores and a copying loop lay a list too.
-use mathlib.Core.Path.{◌≡◌, sym, ap, ap₂, ◌∙◌}
+use mathlib.Core.Path.{◌≡◌, refl, sym, ap, ap₂, ◌∙◌}
 use mathlib.Core.List.{List, [], ◌∷◌, ◌++◌, append_assoc, append-nil}
-use Prim.Native.Nat.{ℕ, suc, ◌+◌, ◌<◌, ◌≤◌}
+use Prim.Native.Nat.{ℕ, suc, ◌+◌, ◌-◌, ◌<◌, ◌≤◌}
 use native.Mathlib.Omega.{arith}
 use native.Mathlib.Nat.{add-zero, zero-add}
 use native.Mathlib.Numerals.{add-one}
-use lib.ListN.{length, get_or, set, take, drop, length-append, length-take, length-drop, take-append-drop, drop_of_length-le}
+use lib.ListN.{length, get_or, set, take, drop, length-set, length-append, length-take, length-drop, take-append-drop, drop_of_length-le}
 use lib.Seq.{take_at, drop_at, drop-drop, take_all, length-take-le, sets-eq, paste, paste-suc}
+use borrow.Rule.Slice.PartMut.{put_mid}
 use Rattle.records.specs.Bytes.{laid}
 
 pub laid_none : (d : List ℕ) (at : ℕ) → laid d at [] ≡ d
@@ -79,3 +80,39 @@ module _ (d s : List ℕ) where
   copy-whole p i e l q =
       copy-all d 0 s p i l q
       ∙ ap (λ (r : List ℕ). s ++ r) (drop_of_length-le d {i = 0 + length s} (omega arith)) ∙ append-nil s
+
+-- the first four bytes of a part: two copied, two stored
+module _ (v₀ v₁ v₂ v₃ : ℕ) where
+  head-stored : (p : List ℕ) → 4 ≤ length p → take 4 (set (set ((v₀ ∷ v₁ ∷ []) ++ drop 2 p) 2 v₂) 3 v₃) ≡ v₀ ∷ v₁ ∷ v₂ ∷ v₃ ∷ []
+  head-stored [] l = absurd (omega (arith, l))
+  head-stored (a ∷ []) l = absurd (omega (arith, l))
+  head-stored (a ∷ b ∷ []) l = absurd (omega (arith, l))
+  head-stored (a ∷ b ∷ c ∷ []) l = absurd (omega (arith, l))
+  head-stored (a ∷ b ∷ c ∷ e ∷ p) l = refl
+
+  -- the part of d that is lent, and what stands behind the head
+  module _ (d : List ℕ) (at : ℕ) (o : List ℕ) (fits : at + (length o + 4) ≤ length d) where
+    abbrev long : ℕ
+    long = at + 4 + length o - at
+
+    abbrev stored : List ℕ
+    stored = set (set ((v₀ ∷ v₁ ∷ []) ++ drop 2 (take long (drop at d))) 2 v₂) 3 v₃
+
+    part-size : length (take long (drop at d)) ≡ 4 + length o
+    part-size = simp (length-take, length-drop) (omega arith)
+
+    stored-size : length stored ≡ 4 + length o
+    stored-size = simp (length-set, length-drop) (omega (arith, part-size))
+
+    part-filled : put_mid 4 (length stored - 4) stored o ≡ v₀ ∷ v₁ ∷ v₂ ∷ v₃ ∷ o
+    part-filled =
+        ap₂ (λ (a b : List ℕ). a ++ (o ++ b)) (head-stored (take long (drop at d)) (omega (arith, part-size)))
+        (drop_of_length-le (drop 4 stored) {i = length stored - 4} (rw length-drop (omega arith)))
+        ∙ ap (λ (l : List ℕ). v₀ ∷ v₁ ∷ v₂ ∷ v₃ ∷ l) (append-nil o)
+
+    pub part-laid : put_mid at long d (put_mid 4 (length stored - 4) stored o) ≡ laid d at (v₀ ∷ v₁ ∷ v₂ ∷ v₃ ∷ o)
+    unfolding laid
+    part-laid =
+        ap (put_mid at long d) part-filled
+        ∙ ap (λ (l : List ℕ). take at d ++ ((v₀ ∷ v₁ ∷ v₂ ∷ v₃ ∷ o) ++ l)) (drop-drop long at d ∙ ap (λ (k : ℕ). drop k d) (omega arith))
+        ∙ sym (append_assoc (take at d) (v₀ ∷ v₁ ∷ v₂ ∷ v₃ ∷ o) (drop (at + length (v₀ ∷ v₁ ∷ v₂ ∷ v₃ ∷ o)) d))

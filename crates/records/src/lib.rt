@@ -11,7 +11,6 @@ ghost use Rattle.records.specs.Bytes.{encode, laid};
 ghost use Rattle.records.specs.Write.{written};
 ghost use Rattle.records.specs.Laying.{LaidOne};
 
-use numbers::size_of_byte;
 use switch::{Counts, Edition, Outcome, Refusal, first_edition, second_edition};
 
 // Outputs follow the hold in two bytes, N and the edition's byte.
@@ -30,30 +29,15 @@ pub const IDLE: u8 = 255;
 // So many values has an output byte.
 const BYTES: usize = 256;
 
-// Writes one record where a lent buffer begins, or refuses with 1, 5 or 11 (§5.8). The record is written from a copy of the outputs: a
-// copy cannot share bytes with the buffer, so that many bytes are moved at once.
+// Writes one record where a lent buffer begins, or refuses with 1, 5 or 11 (§5.8).
 pub fn write_record(hold: u16, n: usize, outputs: &[u8; 64], plan: &mut [u8]) -> Outcome
-    ensures { Gives (written first_edition hold n outputs.now plan.old) result plan.new }
-{
-    let own = *outputs;
-    write_first(hold, n, &own, plan)
-}
-
-// The same for a record of the second edition.
-pub fn write_record_second(hold: u16, n: usize, outputs: &[u8; 128], plan: &mut [u8]) -> Outcome
-    ensures { Gives (written second_edition hold n outputs.now plan.old) result plan.new }
-{
-    let own = *outputs;
-    write_second(hold, n, &own, plan)
-}
-
-fn write_first(hold: u16, n: usize, outputs: &[u8; 64], plan: &mut [u8]) -> Outcome
     ensures { Gives (written first_edition hold n outputs.now plan.old) result plan.new }
 {
     write_for(hold, n, outputs, plan, first_edition())
 }
 
-fn write_second(hold: u16, n: usize, outputs: &[u8; 128], plan: &mut [u8]) -> Outcome
+// The same for a record of the second edition.
+pub fn write_record_second(hold: u16, n: usize, outputs: &[u8; 128], plan: &mut [u8]) -> Outcome
     ensures { Gives (written second_edition hold n outputs.now plan.old) result plan.new }
 {
     write_for(hold, n, outputs, plan, second_edition())
@@ -65,25 +49,25 @@ pub fn write_for(hold: u16, n: usize, outputs: &[u8], plan: &mut [u8], e: Editio
     ensures { Gives (written e hold n outputs.now plan.old) result plan.new }
 {
     if n == 0 {
-        return Outcome::Refused(Refusal::Ports);
+        return Err(Refusal::Ports);
     }
     if e.ports < n {
-        return Outcome::Refused(Refusal::Ports);
+        return Err(Refusal::Ports);
     }
     if plan.len() < e.width + HEAD {
-        return Outcome::Refused(Refusal::Room(1));
+        return Err(Refusal::Room(1));
     }
     if hold == 0 {
-        return Outcome::Refused(Refusal::Malformed(0));
+        return Err(Refusal::Malformed(0));
     }
     if !outputs_fine(outputs, n) {
-        return Outcome::Refused(Refusal::Malformed(0));
+        return Err(Refusal::Malformed(0));
     }
     put_record(plan, 0, e.byte, hold, n, outputs);
-    Outcome::Done(Counts {
+    Ok(Counts {
         records: 1,
         longest: 0,
-        total: hold as u64,
+        total: u64::from(hold),
         length: 0,
         empty: 0,
     })
@@ -97,7 +81,7 @@ pub fn record_fine(rec: &[u8], n: usize, edition: u8) -> bool
     if hold_of(rec) == 0 {
         return false;
     }
-    if size_of_byte(rec[2]) != n {
+    if usize::from(rec[2]) != n {
         return false;
     }
     if rec[3] != edition {
@@ -111,9 +95,7 @@ pub fn hold_of(rec: &[u8]) -> u16
     requires { 4 ≤ length rec.now }
     ensures { result ≡ hold rec.now }
 {
-    let low = rec[0] as u16;
-    let high = rec[1] as u16;
-    low + 256 * high
+    u16::from_le_bytes([rec[0], rec[1]])
 }
 
 // Are a record's outputs fine for n?
@@ -146,11 +128,10 @@ fn told_fine(outputs: &[u8], n: usize) -> bool
 {
     let mut seen = [false; BYTES];
     let mut fine = true;
-    for i in 0..n {
-        let b = outputs[i];
-        let j = size_of_byte(b);
+    for b in &outputs[..n] {
+        let j = usize::from(*b);
         let port = j < n;
-        fine = fine & ((port & !seen[j]) | (b == IDLE));
+        fine = fine & ((port & !seen[j]) | (*b == IDLE));
         seen[j] = port;
     }
     fine
@@ -162,8 +143,8 @@ fn later_idle(outputs: &[u8], n: usize) -> bool
     ensures { result ≡ all (length outputs.now) (later n outputs.now) }
 {
     let mut idle = true;
-    for i in n..outputs.len() {
-        idle = idle & (outputs[i] == IDLE);
+    for b in &outputs[n..] {
+        idle = idle & (*b == IDLE);
     }
     idle
 }
@@ -173,16 +154,15 @@ pub fn put_record(plan: &mut [u8], at: usize, edition: u8, hold: u16, n: usize, 
     requires { (n < 256) × (at + (length outputs.now + 4) ≤ length plan.old) }
     ensures { plan.new ≡ laid plan.old at (encode edition hold n outputs.now) }
 {
-    plan[at] = (hold % 256) as u8;
-    plan[at + 1] = (hold / 256) as u8;
-    plan[at + 2] = n as u8;
-    plan[at + 3] = edition;
-    for i in 0..outputs.len() {
-        plan[at + HEAD + i] = outputs[i];
-    }
+    let rec = &mut plan[at..at + HEAD + outputs.len()];
+    rec[..2].copy_from_slice(&hold.to_le_bytes());
+    rec[2] = n as u8;
+    rec[3] = edition;
+    rec[HEAD..].copy_from_slice(outputs);
 }
 
 // The same where the record is to be written, and nothing where it is only counted; and where the next one goes.
+// By it a planner that counts first and writes afterwards has one loop for both.
 pub fn put_if(
     writes: bool,
     plan: &mut [u8],

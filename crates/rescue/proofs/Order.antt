@@ -1,4 +1,6 @@
 -- A rescue case by case: each refusal is given exactly where its test is the first that fails, and else plan and list are written.
+use Rattle.std.specs.declared.result.Result.{Result}
+use Rattle.std.specs.Prelude.{Err, Ok, MatchResult}
 use mathlib.Core.Path.{◌≡◌, refl, sym, ap, ◌∙◌}
 use mathlib.Core.Bool.{Bool, true, false}
 use mathlib.Core.Logic.{⊎_elim, dite, inl, inr}
@@ -13,8 +15,7 @@ use Rattle.switch.specs.declared.Edition.{Edition}
 use Rattle.switch.specs.declared.Refusal.{Refusal}
 use Rattle.switch.specs.declared.Refusal.TheVariants.{Records, Room, ListRoom}
 use Rattle.switch.specs.Plan.{Record}
-use Rattle.demand.specs.declared.Checked.{Checked}
-use Rattle.demand.specs.declared.Checked.TheVariants.{Fine, Faulty}
+use Rattle.demand.specs.Checked.{Checked}
 use Rattle.demand.specs.Check.{check_demand, Asked}
 use Rattle.demand.proofs.Check.{fine-asked}
 use Rattle.records.specs.Bytes.{whole}
@@ -23,7 +24,7 @@ use Rattle.planner.proofs.Planned.{fits-room, lacks-room}
 use Rattle.rescue_rule.specs.Rescue.{Entry, torn_tail}
 use Rattle.rescue.specs.declared.Answer.{Answer}
 use Rattle.rescue.specs.Keeping.{Known}
-use Rattle.rescue.specs.Rescue.{Saved, Saves, refusal, refuses, writes, fitting, records_in, few_in, check_in, rescuing}
+use Rattle.rescue.specs.Rescue.{Saved, Saves, refusal, answer_of, refuses, writes, fitting, records_in, few_in, check_in, rescuing}
 
 -- what is given is told another way
 pub saves-as : {given x : Saved} → given ≡ x → {r : Answer} {p l : List ℕ} → Saves x r p l → Saves given r p l
@@ -37,6 +38,11 @@ saves-as e s = record {
 pub saves-refusal : {given : Saved} {r : Refusal} {p l : List ℕ} → given ≡ refuses r p l → {a : Answer} → a ≡ refusal r → Saves given a p l
 saves-refusal e q = saves-as e (record { answer = q; plan = refl; list = refl })
 
+-- a refusal that was passed on is told as an answer
+pub saves-told : {given : Saved} {p l : List ℕ} (r : Result Answer Refusal) {a : Answer} → MatchResult r (λ x. a ≡ x) (λ e. a ≡ refusal e) → Saves given (answer_of r) p l → Saves given a p l
+saves-told (Ok x) e s = record { answer = e ∙ s.answer; plan = s.plan; list = s.list }
+saves-told (Err x) e s = record { answer = e ∙ s.answer; plan = s.plan; list = s.list }
+
 -- ---- what comes in
 
 module _ (E : Edition) (N : ℕ) (d damaged : List ℕ) where
@@ -44,20 +50,20 @@ module _ (E : Edition) (N : ℕ) (d damaged : List ℕ) where
   unfolding check_in
   after e = ap (few_in E damaged) e
 
-  pub in-faulty : {r : Refusal} → Faulty r ≡ check_demand E.ports N d → Faulty r ≡ check_in E N d damaged
+  pub in-faulty : {r : Refusal} → Err r ≡ check_demand E.ports N d → Err r ≡ check_in E N d damaged
   in-faulty e = after e
 
-  module _ {T : ℕ} (e : Fine T ≡ check_demand E.ports N d) where
-    pub in-many : E.records < whole E.width damaged + length (torn_tail E.width damaged) → Faulty (Records E.records) ≡ check_in E N d damaged
+  module _ {T : ℕ} (e : Ok T ≡ check_demand E.ports N d) where
+    pub in-many : E.records < whole E.width damaged + length (torn_tail E.width damaged) → Err (Records E.records) ≡ check_in E N d damaged
     in-many l = many ∙ after e
       where
-        many : Faulty (Records E.records) ≡ few_in E damaged (Fine T)
+        many : Err (Records E.records) ≡ few_in E damaged (Ok T)
         many = unfold records_in in rw (lt-leb _ _ l)
 
-    pub in-fine : whole E.width damaged + length (torn_tail E.width damaged) ≤ E.records → Fine T ≡ check_in E N d damaged
+    pub in-fine : whole E.width damaged + length (torn_tail E.width damaged) ≤ E.records → Ok T ≡ check_in E N d damaged
     in-fine l = few ∙ after e
       where
-        few : Fine T ≡ few_in E damaged (Fine T)
+        few : Ok T ≡ few_in E damaged (Ok T)
         few = unfold records_in in rw (le-leb _ _ l)
 
 -- a demand that nothing refuses, and no more records than a plan may have
@@ -65,21 +71,21 @@ pub record Entering (E : Edition) (N T : ℕ) (d damaged : List ℕ) : Type 0 wh
   pub asked : Asked E.ports N T d
   pub few : whole E.width damaged + length (torn_tail E.width damaged) ≤ E.records
 
-pub entering : (E : Edition) (N T : ℕ) (d damaged : List ℕ) → check_in E N d damaged ≡ Fine T → Entering E N T d damaged
+pub entering : (E : Edition) (N T : ℕ) (d damaged : List ℕ) → check_in E N d damaged ≡ Ok T → Entering E N T d damaged
 unfolding check_in records_in
 entering E N T d damaged q = go (check_demand E.ports N d) refl q
   where
-    fine : (T' : ℕ) → check_demand E.ports N d ≡ Fine T' → (b : Bool) → leb (records_in E.width damaged) E.records ≡ b → few_in E damaged (Fine T') ≡ Fine T → Entering E N T d damaged
+    fine : (T' : ℕ) → check_demand E.ports N d ≡ Ok T' → (b : Bool) → leb (records_in E.width damaged) E.records ≡ b → few_in E damaged (Ok T') ≡ Ok T → Entering E N T d damaged
     fine T' e true t f =
-        let same : Fine T' ≡ Fine T = rw t at f in
+        let same : Ok T' ≡ Ok T = rw t at f in
         record { asked = fine-asked E.ports N T d (e ∙ same); few = leb-true _ _ t }
     fine T' e false t f =
-        let no : Faulty (Records E.records) ≡ Fine T = rw t at f in
+        let no : Err (Records E.records) ≡ Ok T = rw t at f in
         let z : ◌≡◌ {A = ℕ} 0 1 = cc in absurd (let y : ⊥ = omega arith in y)
 
-    go : (o : Checked) → check_demand E.ports N d ≡ o → few_in E damaged o ≡ Fine T → Entering E N T d damaged
-    go (Fine T') e f = fine T' e (leb (records_in E.width damaged) E.records) refl f
-    go (Faulty r) e f = let z : ◌≡◌ {A = ℕ} 0 1 = cc in absurd (let y : ⊥ = omega arith in y)
+    go : (o : Checked) → check_demand E.ports N d ≡ o → few_in E damaged o ≡ Ok T → Entering E N T d damaged
+    go (Ok T') e f = fine T' e (leb (records_in E.width damaged) E.records) refl f
+    go (Err r) e f = let z : ◌≡◌ {A = ℕ} 0 1 = cc in absurd (let y : ⊥ = omega arith in y)
 
 -- ---- what goes out
 
@@ -124,6 +130,6 @@ module _ (most all r : ℕ) (k : Known most all r) (limit : ℕ) (least : most �
 -- ---- the whole call
 
 module _ (E : Edition) (N : ℕ) (d damaged plan list : List ℕ) where
-  pub rescuing-faulty : {r : Refusal} → Faulty r ≡ check_in E N d damaged → rescuing E N d damaged plan list ≡ refuses r plan list
+  pub rescuing-faulty : {r : Refusal} → Err r ≡ check_in E N d damaged → rescuing E N d damaged plan list ≡ refuses r plan list
   unfolding rescuing
   rescuing-faulty e = rw (sym e)

@@ -1,4 +1,5 @@
 -- What the pass, the surplus and what is left uncovered come to: all that is known before anything is written.
+use Rattle.std.specs.Prelude.{Ok}
 use mathlib.Core.Path.{◌≡◌, refl, sym, ap, ap₂, ◌∙◌}
 use mathlib.Core.Logic.{dite}
 use mathlib.Core.List.{List, ◌++◌}
@@ -6,25 +7,20 @@ use Prim.Native.Nat.{ℕ, ◌+◌, ◌*◌, ◌-◌, ◌<◌, ◌≤◌}
 use native.Mathlib.Nat.{mul-le-mul, le_of_eq}
 use native.Mathlib.Decide.{dec_lt}
 use native.Mathlib.Omega.{arith}
-use lib.ListN.{length, get_or, take, drop, length-append}
-use lib.Seq.{get_or-take, length-take-le}
-use lib.Arith.{digits_lt}
+use lib.ListN.{length, length-append}
 use Rattle.counting.specs.Matrix.{row}
 use Rattle.counting.proofs.Sum.{sum-cong}
 use Rattle.counting.proofs.Matrix.{row-cong}
 use Rattle.switch.specs.declared.Edition.{Edition}
-use Rattle.switch.specs.declared.Outcome.TheVariants.{Done}
 use Rattle.switch.specs.Answer.{demand_counts}
 use Rattle.switch.specs.Demand.{cell, longest, Blank}
 use Rattle.switch.specs.Editions.{Bounded}
 use Rattle.switch.specs.Plan.{Record, grant, total}
 use Rattle.switch.specs.Empty.{all_slots, beyond, empty_slots}
 use Rattle.switch.proofs.Append.{total-append}
-use Rattle.switch.proofs.Demand.{cell-append}
-use Rattle.demand.specs.declared.Checked.TheVariants.{Fine}
 use Rattle.demand.specs.Lines.{Short}
 use Rattle.rules.specs.Exact.{exact_plan}
-use Rattle.rules.proofs.Exact.{exact-records, exact-total, exact-cong, longest-cong}
+use Rattle.rules.proofs.Exact.{exact-records, exact-total}
 use Rattle.rules.proofs.Empty.{exact-empty-slots}
 use Rattle.records.specs.Bytes.{whole, bytes, laid}
 use Rattle.plans.specs.Reading.{Readable}
@@ -121,36 +117,7 @@ module _ (E : Edition) (bounds : Bounded E) (N T : ℕ) (d damaged : List ℕ) (
               length-append (dropped_to E.width E.byte N damaged (whole E.width damaged)) (torn_tail E.width damaged),
             )
 
--- ---- a copy of the cells
-
-module _ (N T : ℕ) (w z s : List ℕ) (c : Cells N T w) (copied : s ≡ take (N * N - 0) (drop 0 w) ++ z) where
-  start : take (N * N - 0) (drop 0 w) ≡ take (N * N) w
-  start = ap (λ (m : ℕ). take m w) (let e : N * N - 0 ≡ N * N = omega arith in e)
-
-  size : length (take (N * N) w) ≡ N * N
-  size = length-take-le (N * N) w c.room
-
-  copied-same : (i j : ℕ) → i < N → j < N → cell N s i j ≡ cell N w i j
-  unfolding cell
-  copied-same i j li lj =
-      ap (λ (l : List ℕ). get_or l (i * N + j) 0) (copied ∙ ap (λ (l : List ℕ). l ++ z) start)
-      ∙ cell-append N (take (N * N) w) z size i j li lj
-      ∙ get_or-take (N * N) w (i * N + j) 0 (digits_lt {q = i} {m = N} {r = j} {c = N} li lj)
-
-  copied-room : N * N ≤ length s
-  copied-room = omega (arith, ap length copied, ap length start, size, length-append (take (N * N - 0) (drop 0 w)) z)
-
-  pub copied-cells : Cells N T s
-  copied-cells = record {
-    some = c.some;
-    few = c.few;
-    room = copied-room;
-    longest-is = c.longest-is ∙ sym (longest-cong N (cell N s) (cell N w) copied-same);
-    small = c.small;
-  }
-
-  pub copied-plan : (W : ℕ) → N ≤ W → exact_plan W N s ≡ exact_plan W N w
-  copied-plan W l = exact-cong W N c.some l s w copied-room c.room copied-same
+-- ---- how many are added
 
 -- what the exact plan does not find room for is no more than T
 pub need-small : (N T room need : ℕ) (s : List ℕ) → Cells N T s → need ≡ shortage room (length (exact_plan 128 N s)) → need ≤ 65535
@@ -180,11 +147,11 @@ module _ (E : Edition) (N : ℕ) (damaged : List ℕ) (s : Stock) (w : List ℕ)
   pub written : (plan list plan' list' : List ℕ) (more : ℕ) → more ≡ length (exact_plan E.width N w) → plan' ≡ laid plan 0 (bytes E.byte N all)
       → list' ≡ laid list 0 (entry_bytes (dropped E.width E.byte N damaged))
       → Saves (writes E N s.longest s.empty (kept E.width E.byte N damaged) (exact_plan E.width N w) (dropped E.width E.byte N damaged) plan list)
-      (record { outcome = Done (demand_counts (s.kept + more) s.longest s.total s.empty); added = more; dropped = s.dropped }) plan' list'
+      (record { outcome = Ok (demand_counts (s.kept + more) s.longest s.total s.empty); added = more; dropped = s.dropped }) plan' list'
   unfolding writes
   written plan list plan' list' more m p l = record {
     answer = λ i. record {
-      outcome = Done (demand_counts ((ap (λ (x : ℕ). s.kept + x) m ∙ sym all-length) i) s.longest (all-total i) s.empty);
+      outcome = Ok (demand_counts ((ap (λ (x : ℕ). s.kept + x) m ∙ sym all-length) i) s.longest (all-total i) s.empty);
       added = m i;
       dropped = st.goes i;
     };
@@ -201,7 +168,7 @@ module _ (E : Edition) (N : ℕ) (damaged : List ℕ) (s : Stock) (w : List ℕ)
     all-within l = omega (arith, known-within most (s.kept + length (exact_plan E.width N w)) records k limit least l, all-length)
 
 -- the stock decides
-pub rescuing-taken : (E : Edition) (N T : ℕ) (d damaged plan list : List ℕ) (s : Stock) (w : List ℕ) → Fine T ≡ check_in E N d damaged → Taken E N T d damaged s w
+pub rescuing-taken : (E : Edition) (N T : ℕ) (d damaged plan list : List ℕ) (s : Stock) (w : List ℕ) → Ok T ≡ check_in E N d damaged → Taken E N T d damaged s w
     → rescuing E N d damaged plan list
     ≡ fitting E N s.longest s.empty (kept E.width E.byte N damaged) (exact_plan E.width N w) (dropped E.width E.byte N damaged) plan list
 unfolding rescuing

@@ -1,7 +1,7 @@
 -- What a rescue answers, and the bytes of its two lent buffers afterwards (§19). Definitions only.
-use Rattle.std.specs.Prelude.{◌≡◌, List, ◌++◌, ℕ, ◌+◌, ◌/◌, length, leb}
+use Rattle.std.specs.declared.result.Result.{Result}
+use Rattle.std.specs.Prelude.{Err, Ok, ◌≡◌, List, ◌++◌, ℕ, ◌+◌, ◌/◌, length, leb}
 use Rattle.switch.specs.declared.Edition.{Edition}
-use Rattle.switch.specs.declared.Outcome.TheVariants.{Done, Refused}
 use Rattle.switch.specs.declared.Refusal.{Refusal}
 use Rattle.switch.specs.declared.Refusal.TheVariants.{Records, Room, ListRoom}
 use Rattle.switch.specs.Answer.{demand_counts}
@@ -9,8 +9,7 @@ use Rattle.switch.specs.Demand.{cell}
 use Rattle.switch.specs.Plan.{Record, total}
 use Rattle.switch.specs.Empty.{empty_slots}
 use Rattle.switch.specs.Result.{unless}
-use Rattle.demand.specs.declared.Checked.{Checked}
-use Rattle.demand.specs.declared.Checked.TheVariants.{Fine, Faulty}
+use Rattle.demand.specs.Checked.{Checked}
 use Rattle.demand.specs.Check.{check_demand}
 use Rattle.records.specs.Bytes.{whole, bytes, laid}
 use Rattle.rescue_rule.specs.Rescue.{Entry, kept, added, dropped, torn_tail, rescued, entry_bytes}
@@ -30,7 +29,12 @@ pub record Saves (given : Saved) (r : Answer) (after listed : List ℕ) : Type 0
 
 -- a refusal counts nothing
 abbrev pub refusal : (r : Refusal) → Answer
-refusal r = record { outcome = Refused r; added = 0; dropped = 0 }
+refusal r = record { outcome = Err r; added = 0; dropped = 0 }
+
+-- what is answered where a refusal is passed on
+abbrev pub answer_of : Result Answer Refusal → Answer
+answer_of (Ok a) = a
+answer_of (Err r) = refusal r
 
 -- and changes no byte of either buffer
 abbrev pub refuses : Refusal → (plan list : List ℕ) → Saved
@@ -40,7 +44,7 @@ refuses r plan list = record { answer = refusal r; plan = plan; list = list }
 unfoldable pub writes : Edition → (N T empty : ℕ) (K A : List Record) (D : List Entry) (plan list : List ℕ) → Saved
 writes E N T empty K A D plan list =
     record {
-      answer = record { outcome = Done (demand_counts (length (K ++ A)) T (total (K ++ A)) empty); added = length A; dropped = length D };
+      answer = record { outcome = Ok (demand_counts (length (K ++ A)) T (total (K ++ A)) empty); added = length A; dropped = length D };
       plan = laid plan 0 (bytes E.byte N (K ++ A));
       list = laid list 0 (entry_bytes D);
     }
@@ -68,8 +72,8 @@ records_in W damaged = whole W damaged + length (torn_tail W damaged)
 
 -- of a demand that nothing refuses: code 10 for the records that come in
 abbrev pub few_in : Edition → (damaged : List ℕ) → Checked → Checked
-few_in E damaged (Fine T) = unless (leb (records_in E.width damaged) E.records) (Faulty (Records E.records)) (Fine T)
-few_in E damaged (Faulty r) = Faulty r
+few_in E damaged (Ok T) = unless (leb (records_in E.width damaged) E.records) (Err (Records E.records)) (Ok T)
+few_in E damaged (Err r) = Err r
 
 -- codes 1, 2 and 3 of the demand, and then 10; else T
 unfoldable pub check_in : Edition → (N : ℕ) (d damaged : List ℕ) → Checked
@@ -77,8 +81,8 @@ check_in E N d damaged = few_in E damaged (check_demand E.ports N d)
 
 -- what is checked is refused, and else what is done with T
 abbrev pub after_check : Checked → (ℕ → Saved) → (plan list : List ℕ) → Saved
-after_check (Fine T) go plan list = go T
-after_check (Faulty r) go plan list = refuses r plan list
+after_check (Ok T) go plan list = go T
+after_check (Err r) go plan list = refuses r plan list
 
 -- the rescue of a plan for the demand d: T is d's, the empty slots are those of all that is written
 unfoldable pub rescuing : Edition → (N : ℕ) (d damaged plan list : List ℕ) → Saved

@@ -3,21 +3,18 @@
 // bytes, and nothing is written before all is known. What is kept, dropped and added stands on paper in the crate rescue_rule.
 #![tactic(auto)]
 
-ghost use Rattle.std.specs.Prelude.{◌≡◌, ◌++◌, length, ℕ, ◌+◌, ◌*◌, ◌-◌, ◌<◌, ◌≤◌};
+ghost use Rattle.std.specs.Prelude.{◌≡◌, ◌++◌, length, ℕ, ◌+◌, ◌*◌, ◌-◌, ◌<◌, ◌≤◌, Ok};
 ghost use Rattle.switch.specs.Demand.{cell, Blank};
 ghost use Rattle.switch.specs.Editions.{first_edition, Bounded};
 ghost use Rattle.switch.specs.Empty.{beyond};
-ghost use Rattle.demand.specs.declared.Checked.TheVariants.{Fine};
 ghost use Rattle.rules.specs.Exact.{exact_plan};
 ghost use Rattle.records.specs.Bytes.{whole, bytes, laid};
 ghost use Rattle.plans.specs.Reading.{Readable};
 ghost use Rattle.peel.specs.Standing.{Cells};
 ghost use Rattle.rescue_rule.specs.Rescue.{kept_to, kept_at, kept, dropped};
 ghost use Rattle.rescue.specs.Keeping.{Keeping, Left, Stocked, Taken, Known};
-ghost use Rattle.rescue.specs.Rescue.{Saves, check_in, refusal, fitting, writes, rescuing};
+ghost use Rattle.rescue.specs.Rescue.{Saves, check_in, refusal, answer_of, fitting, writes, rescuing};
 
-use demand::Checked;
-use numbers::{smaller_size, word_less};
 use records::HEAD;
 use switch::{Counts, Edition, Outcome, Refusal};
 
@@ -25,6 +22,7 @@ use switch::{Counts, Edition, Outcome, Refusal};
 const PAIRS: usize = 4096;
 
 // What a rescue answers: a planner's outcome for the lent demand, and how many records were added and dropped; none where it is refused.
+// They stand beside the outcome, since `rescuing` tells all three of a refusal too.
 #[derive(Clone, Copy)]
 pub struct Answer {
     pub outcome: Outcome,
@@ -61,41 +59,22 @@ pub fn rescue_plan(
 ) -> Answer
     ensures { Saves (rescuing first_edition n cells.now damaged.now plan.old list.old) result plan.new list.new }
 {
-    let mut left = [0u32; PAIRS];
-    let mut spare = [0u32; PAIRS];
-    rescue_for(
-        n,
-        cells,
-        damaged,
-        plan,
-        list,
-        switch::first_edition(),
-        &mut left,
-        &mut spare,
-    )
+    rescue_for::<PAIRS>(n, cells, damaged, plan, list, switch::first_edition())
 }
 
-// The same for an edition. Lent besides are a number for each pair of its largest switch, all 0, and as many to count with.
-pub fn rescue_for(
+// The same for an edition, of whose largest switch P are the pairs.
+pub fn rescue_for<const P: usize>(
     n: usize,
     cells: &[u32],
     damaged: &[u8],
     plan: &mut [u8],
     list: &mut [u8],
     e: Edition,
-    left: &mut [u32],
-    spare: &mut [u32],
 ) -> Answer
-    requires { Bounded e × Blank (e.ports * e.ports) left.old × (e.ports * e.ports ≤ length spare.old) }
+    requires { Bounded e × (e.ports * e.ports ≤ P) × (P < 65536) }
     ensures { Saves (rescuing e n cells.now damaged.now plan.old list.old) result plan.new list.new }
 {
-    match check_in(n, cells, damaged, e) {
-        Checked::Faulty(r) => refused(r),
-        Checked::Fine(longest) => {
-            let stock = take_stock(n, longest, cells, damaged, e, left);
-            write_or_refuse(n, damaged, stock, left, spare, plan, list, e)
-        }
-    }
+    rescued_or_refused::<P>(n, cells, damaged, plan, list, e).unwrap_or_else(refused)
 }
 
 // A refusal counts nothing.
@@ -103,26 +82,41 @@ fn refused(r: Refusal) -> Answer
     ensures { result ≡ refusal r }
 {
     Answer {
-        outcome: Outcome::Refused(r),
+        outcome: Err(r),
         added: 0,
         dropped: 0,
     }
 }
 
+// The same, where a refusal is passed on.
+fn rescued_or_refused<const P: usize>(
+    n: usize,
+    cells: &[u32],
+    damaged: &[u8],
+    plan: &mut [u8],
+    list: &mut [u8],
+    e: Edition,
+) -> Result<Answer, Refusal>
+    requires { Bounded e × (e.ports * e.ports ≤ P) × (P < 65536) }
+    ensures { Saves (rescuing e n cells.now damaged.now plan.old list.old) (answer_of result) plan.new list.new }
+{
+    let longest = check_in(n, cells, damaged, e)?;
+    let mut left = [0u32; P];
+    let stock = take_stock(n, longest, cells, damaged, e, &mut left);
+    write_or_refuse(n, damaged, stock, &mut left, plan, list, e)
+}
+
 // What the demand is refused for, and then code 10 for the records that come in, of which a torn tail is one; else T.
-fn check_in(n: usize, cells: &[u32], damaged: &[u8], e: Edition) -> Checked
+fn check_in(n: usize, cells: &[u32], damaged: &[u8], e: Edition) -> Result<u64, Refusal>
     requires { Bounded e }
     ensures { result ≡ check_in e n cells.now damaged.now }
 {
-    let checked = demand::check_demand(n, e.ports, cells);
-    let Checked::Fine(_) = checked else {
-        return checked;
-    };
+    let longest = demand::check_demand(n, e.ports, cells)?;
     let records = damaged.len() / (e.width + HEAD);
     if e.records < records + dropping::torn(damaged, e.width) {
-        return Checked::Faulty(Refusal::Records(e.records));
+        return Err(Refusal::Records(e.records));
     }
-    checked
+    Ok(longest)
 }
 
 // Goes over the records, and leaves in the lent cells what the kept ones do not cover.
@@ -134,7 +128,7 @@ fn take_stock(
     e: Edition,
     left: &mut [u32],
 ) -> Stock
-    requires { Bounded e × (check_in e n cells.now damaged.now ≡ Fine longest) × Blank (e.ports * e.ports) left.old }
+    requires { Bounded e × (check_in e n cells.now damaged.now ≡ Ok longest) × Blank (e.ports * e.ports) left.old }
     ensures { Taken e n longest cells.now damaged.now result left.new }
 {
     let records = damaged.len() / (e.width + HEAD);
@@ -153,60 +147,47 @@ fn take_stock(
 }
 
 // Codes 10 for the records that go out, 5 and 16, and else the plan and the list.
-fn write_or_refuse(
+fn write_or_refuse<const P: usize>(
     n: usize,
     damaged: &[u8],
     stock: Stock,
-    left: &mut [u32],
-    spare: &mut [u32],
+    left: &mut [u32; P],
     plan: &mut [u8],
     list: &mut [u8],
     e: Edition,
-) -> Answer
-    requires { Stocked e n damaged.now stock left.old × (n * n ≤ length spare.old) }
-    ensures { Saves (fitting e n stock.longest stock.empty (kept e.width e.byte n damaged.now) (exact_plan e.width n left.old) (dropped e.width e.byte n damaged.now) plan.old list.old) result plan.new list.new }
+) -> Result<Answer, Refusal>
+    requires { Stocked e n damaged.now stock left.old × (P < 65536) }
+    ensures { Saves (fitting e n stock.longest stock.empty (kept e.width e.byte n damaged.now) (exact_plan e.width n left.old) (dropped e.width e.byte n damaged.now) plan.old list.old) (answer_of result) plan.new list.new }
 {
     let room = plan.len() / (e.width + HEAD);
-    let most = smaller_size(e.records, room);
-    let records = records_known(n, stock.kept, stock.left, left, spare, most);
+    let most = e.records.min(room);
+    let records = records_known(n, stock.kept, stock.left, left, most);
     if e.records < records {
-        return refused(Refusal::Records(e.records));
+        return Err(Refusal::Records(e.records));
     }
     if room < records {
-        return refused(Refusal::Room(records));
+        return Err(Refusal::Room(records));
     }
     if list.len() / dropping::ENTRY < stock.dropped {
-        return refused(Refusal::ListRoom(stock.dropped));
+        return Err(Refusal::ListRoom(stock.dropped));
     }
-    write(n, damaged, stock, left, plan, list, e)
+    Ok(write(n, damaged, stock, left, plan, list, e))
 }
 
 // How many records are kept and added, where they are more than `most`; and else a number that is not either. Those to add are counted, on
 // a copy, only where there could be too many.
-fn records_known(
+fn records_known<const P: usize>(
     n: usize,
     kept: usize,
     longest: u64,
-    left: &[u32],
-    spare: &mut [u32],
+    left: &[u32; P],
     most: usize,
 ) -> usize
-    requires { (kept ≤ 65536) × Cells n longest left.now × (n * n ≤ length spare.old) }
+    requires { (kept ≤ 65536) × Cells n longest left.now }
     ensures { (W : ℕ) → n ≤ W → W ≤ 128 → Known most (kept + length (exact_plan W n left.now)) result }
 {
-    let square = n * n;
-    board::copy(&left[0..square], spare);
-    kept + exact::short_of(spare, n, longest, behind(most, kept))
-}
-
-// The room behind so many records.
-fn behind(room: usize, records: usize) -> usize
-    ensures { result ≡ room - records }
-{
-    if room < records {
-        return 0;
-    }
-    room - records
+    let mut spare = *left;
+    kept + exact::short_of(&mut spare, n, longest, most.saturating_sub(kept)).unwrap_or(0)
 }
 
 // Writes the plan and the list where both have room.
@@ -232,7 +213,7 @@ fn write(
         empty: stock.empty,
     };
     Answer {
-        outcome: Outcome::Done(counts),
+        outcome: Ok(counts),
         added,
         dropped: stock.dropped,
     }
@@ -271,32 +252,32 @@ fn keep_record(
         return kept;
     }
     let hold = records::hold_of(read);
-    grants::grant_record(read, n, hold as u32, grants);
+    grants::grant_record(read, n, u32::from(hold), grants);
     Kept {
         records: kept.records + 1,
-        total: kept.total + hold as u64,
+        total: kept.total + u64::from(hold),
     }
 }
 
-// What is granted beyond what is asked, over all pairs.
+// What is granted beyond what is asked, over all pairs. The index serves both: of what comes out of two zipped slices a proof is told too little.
 fn surplus(n: usize, cells: &[u32], grants: &[u32]) -> u64
     requires { (n ≤ 128) × (length cells.now ≡ n * n) × (n * n ≤ length grants.now) }
     ensures { (result ≡ beyond n (cell n cells.now) (cell n grants.now)) × (result ≤ n * n * 4294967295) }
 {
     let mut empty: u64 = 0;
     for k in 0..cells.len() {
-        empty += word_less(grants[k], cells[k]) as u64;
+        empty += u64::from(grants[k].saturating_sub(cells[k]));
     }
     empty
 }
 
-// What is left uncovered, at each pair the larger of 0 and asked less granted, in the place of the grants.
+// What is left uncovered, at each pair the larger of 0 and asked less granted, in the place of the grants. The index serves both here too.
 fn leave(cells: &[u32], grants: &mut [u32])
     requires { length cells.now ≤ length grants.old }
     ensures { Left (length cells.now) cells.now grants.old grants.new }
 {
     for k in 0..cells.len() {
-        grants[k] = word_less(cells[k], grants[k]);
+        grants[k] = cells[k].saturating_sub(grants[k]);
     }
 }
 
@@ -320,6 +301,7 @@ fn lay_rescued(
 }
 
 // Lays the kept records over a plan from its start on.
+// Where a record goes depends on those kept before it, so that the place goes on with them.
 fn lay_kept(n: usize, damaged: &[u8], e: Edition, records: usize, plan: &mut [u8])
     requires { Readable e n damaged.now records × (length (bytes e.byte n (kept_to e.width e.byte n damaged.now records)) ≤ length plan.old) }
     ensures { plan.new ≡ laid plan.old 0 (bytes e.byte n (kept_to e.width e.byte n damaged.now records)) }

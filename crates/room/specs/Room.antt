@@ -1,8 +1,8 @@
 -- How many records always suffice, from N and T alone. Definitions only.
+use Rattle.std.specs.Prelude.{Err, Ok}
 use Rattle.std.specs.Prelude.{ℕ, ◌+◌, ◌*◌, ◌-◌, min, leb}
 use Rattle.switch.specs.declared.Edition.{Edition}
-use Rattle.switch.specs.declared.Outcome.{Outcome}
-use Rattle.switch.specs.declared.Outcome.TheVariants.{Done, Refused}
+use Rattle.switch.specs.Outcome.{Outcome}
 use Rattle.switch.specs.declared.Refusal.TheVariants.{Ports, LongestOver, Longest}
 use Rattle.switch.specs.Answer.{plan_counts}
 use Rattle.switch.specs.Check.{ports_fine}
@@ -24,14 +24,14 @@ quick_room T = 2 * T - 1
 
 -- records only: no T and no total
 abbrev pub sufficing : (records : ℕ) → Outcome
-sufficing records = Done (plan_counts records 0 0)
+sufficing records = Ok (plan_counts records 0 0)
 
 -- each planner's number; the quick cover takes no T above 1,024
 abbrev pub room_of : Planner → (N T : ℕ) → Outcome
 room_of Exact N T = sufficing (exact_room N T)
 room_of Doubled N T = sufficing (doubled_room N)
-room_of Quick N T = unless (leb T 1024) (Refused Longest) (sufficing (quick_room T))
+room_of Quick N T = unless (leb T 1024) (Err Longest) (sufficing (quick_room T))
 
 -- refusals 1, 3 (no line is known, so no side), then the planner's
 unfoldable pub roomed : Edition → Planner → (N T : ℕ) → Outcome
-roomed E planner N T = unless (ports_fine E.ports N) (Refused Ports) (unless (leb T 65535) (Refused LongestOver) (room_of planner N T))
+roomed E planner N T = unless (ports_fine E.ports N) (Err Ports) (unless (leb T 65535) (Err LongestOver) (room_of planner N T))

@@ -13,7 +13,7 @@ use switch::{Counts, Edition, LONGEST, Outcome, Refusal};
 // The quick cover takes no T above this.
 pub const MOST_QUICK: u64 = 1024;
 
-// Whose plan is to find room.
+// Whose plan is to find room. The calls' promises name it by value, so that it is told by a case and not handed in as a function.
 #[derive(Clone, Copy)]
 pub enum Planner {
     Exact,
@@ -69,13 +69,13 @@ pub fn room_for(n: usize, longest: u64, planner: Planner, e: Edition) -> Outcome
     ensures { result ≡ roomed e planner n longest }
 {
     if n == 0 {
-        return Outcome::Refused(Refusal::Ports);
+        return Err(Refusal::Ports);
     }
     if e.ports < n {
-        return Outcome::Refused(Refusal::Ports);
+        return Err(Refusal::Ports);
     }
     if LONGEST < longest {
-        return Outcome::Refused(Refusal::LongestOver);
+        return Err(Refusal::LongestOver);
     }
     room_of(n, longest, planner)
 }
@@ -90,7 +90,7 @@ fn room_of(n: usize, longest: u64, planner: Planner) -> Outcome
         Planner::Doubled => suffice(doubled_records(n)),
         Planner::Quick => {
             if MOST_QUICK < longest {
-                return Outcome::Refused(Refusal::Longest);
+                return Err(Refusal::Longest);
             }
             suffice(quick_records(longest))
         }
@@ -101,7 +101,7 @@ fn room_of(n: usize, longest: u64, planner: Planner) -> Outcome
 fn suffice(records: usize) -> Outcome
     ensures { result ≡ sufficing records }
 {
-    Outcome::Done(Counts {
+    Ok(Counts {
         records,
         longest: 0,
         total: 0,
@@ -116,10 +116,7 @@ pub fn exact_records(n: usize, longest: u64) -> usize
     ensures { result ≡ exact_room n longest }
 {
     let most = n * n + 2 - 2 * n;
-    if longest < most as u64 {
-        return longest as usize;
-    }
-    most
+    longest.min(most as u64) as usize
 }
 
 // The doubled plan: at most N records in each of its parts.
@@ -135,8 +132,5 @@ pub fn quick_records(longest: u64) -> usize
     requires { longest ≤ 1024 }
     ensures { result ≡ quick_room longest }
 {
-    if longest == 0 {
-        return 0;
-    }
-    (2 * longest - 1) as usize
+    (2 * longest).saturating_sub(1) as usize
 }

@@ -1,15 +1,15 @@
 -- Why the search is right: a wave whose holders all lead to what was tried is closed; and the holder that is handed an output leaves its own free.
-use mathlib.Core.Path.{◌≡◌, refl, sym, ap, subst, ◌∙◌}
+use Rattle.std.specs.Prelude.{None, Some}
+use mathlib.Core.Path.{◌≡◌, refl, sym, subst, ◌∙◌}
 use mathlib.Core.Logic.{◌⊎◌, inl, inr, ⊎_elim}
 use mathlib.Core.List.{List}
 use Prim.Native.Nat.{ℕ, ◌+◌, ◌-◌, ◌<◌, ◌≤◌}
 use native.Mathlib.Omega.{arith}
-use lib.ListN.{length, get_or, set, length-set}
+use lib.ListN.{length, get_or, set}
 use lib.Seq.{get_or-set_same, get_or-set_other}
 use Rattle.sets.specs.Label.{digit, In, Sub, Union, But, absent}
 use Rattle.labels.specs.Ports.{UntriedAt, Untried}
-use Rattle.labels.specs.declared.FoundOutput.{FoundOutput}
-use Rattle.labels.specs.declared.FoundOutput.TheVariants.{At, Nothing}
+use Rattle.std.specs.declared.option.Option.{Option}
 use Rattle.sets.proofs.Digits.{same_or, absent-less}
 use Rattle.switch.specs.declared.OutputPort.{OutputPort}
 use Rattle.search.specs.declared.Asked.{Asked}
@@ -115,10 +115,10 @@ module _ (w n : ℕ) (E : ℕ → ℕ → Type 0) (by out : List ℕ) (t j i k :
 
 -- ---- the lowest output that is left
 
-pub lowest-at : (w row seen : ℕ) (f : FoundOutput) (j : OutputPort) → Untried w row seen f → f ≡ At j → UntriedAt w row seen j.0
+pub lowest-at : (w row seen : ℕ) (f : (Option OutputPort)) (j : OutputPort) → Untried w row seen f → f ≡ Some j → UntriedAt w row seen j.0
 lowest-at w row seen f j l q = subst (Untried w row seen) q l
 
-pub none_left : (w row seen : ℕ) (f : FoundOutput) → Untried w row seen f → f ≡ Nothing → Sub row seen
+pub none_left : (w row seen : ℕ) (f : (Option OutputPort)) → Untried w row seen f → f ≡ None → Sub row seen
 none_left w row seen f l q = subst (Untried w row seen) q l
 
 pub one_up : (v : ℕ) → (v ≡ 0 → ⊥) → v ≡ v - 1 + 1
@@ -255,20 +255,3 @@ module _ (w n : ℕ) (E : ℕ → ℕ → Type 0) (by out : List ℕ) (held t : 
                   get_or-set_other (set by' h 0) j k (d.input + 1) 0 (λ q. f (q ∙ m.same (subst (λ (a : ℕ). get_or by a 0 ≡ 0) q e)))
                   ∙ get_or-set_other by' h k 0 0 (λ q. held-not-free by' h d.input d.held (still h d.asked ∙ subst (λ (a : ℕ). get_or by a 0 ≡ 0) q e))
                   ∙ m.others k e f
-
--- ---- what comes of asking leaves the tables as long as they were
-
-module _ (w n : ℕ) (E : ℕ → ℕ → Type 0) (by out : List ℕ) (t outputs : ℕ) (by' out' : List ℕ) (g : Matching w n E by out) where
-  pub same-holders : (a : Asked) → AskPost w n E by out t outputs by' out' a → length by' ≡ length by
-  same-holders (Freed x u) m = m.good.holders ∙ sym g.holders
-  same-holders (Stuck u) m = ap length m.holders
-
-  pub same-outputs : (a : Asked) → AskPost w n E by out t outputs by' out' a → length out' ≡ length out
-  same-outputs (Freed x u) m = m.good.outputs ∙ sym g.outputs
-  same-outputs (Stuck u) m = ap length m.outs
-
-pub handed-holders : (E : ℕ → ℕ → Type 0) (by out : List ℕ) (wave wanted j : ℕ) (by' out' : List ℕ) → Handed E by out wave wanted j by' out' → length by' ≡ length by
-handed-holders E by out wave wanted j by' out' h = ap length h.holders ∙ length-set (set by j 0) _ _ ∙ length-set by _ _
-
-pub handed-outputs : (E : ℕ → ℕ → Type 0) (by out : List ℕ) (wave wanted j : ℕ) (by' out' : List ℕ) → Handed E by out wave wanted j by' out' → length out' ≡ length out
-handed-outputs E by out wave wanted j by' out' h = ap length h.outputs ∙ length-set out _ _

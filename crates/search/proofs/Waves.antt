@@ -1,4 +1,5 @@
 -- A wave is asked word by word, each word output by output; the rows of the holders met are what it leads to.
+use Rattle.std.specs.Prelude.{None, Some}
 use mathlib.Core.Path.{◌≡◌, sym, ap, subst, ◌∙◌}
 use mathlib.Core.Logic.{◌⊎◌, inl, inr, ⊎_elim}
 use mathlib.Core.List.{List}
@@ -8,8 +9,7 @@ use native.Mathlib.Decide.{dec_lt}
 use native.Mathlib.Omega.{arith}
 use Rattle.sets.specs.Label.{In, Sub, Cleared, Union}
 use Rattle.sets.specs.Wide.{two}
-use Rattle.labels.specs.declared.FoundOutput.{FoundOutput}
-use Rattle.labels.specs.declared.FoundOutput.TheVariants.{At, Nothing}
+use Rattle.std.specs.declared.option.Option.{Option}
 use Rattle.sets.proofs.Digits.{same_or, digit-in}
 use Rattle.sets.proofs.Words.{low, high}
 use Rattle.switch.specs.declared.OutputPort.{OutputPort}
@@ -49,9 +49,9 @@ module _ (E : ℕ → ℕ → Type 0) (by : List ℕ) (word base before : ℕ) w
 
 -- ---- both words
 
-abbrev is-nothing : FoundOutput → Type 0
-is-nothing (At j) = ⊥
-is-nothing Nothing = Unit {0}
+abbrev is-nothing : (Option OutputPort) → Type 0
+is-nothing (Some j) = ⊥
+is-nothing None = Unit {0}
 
 module _ (E : ℕ → ℕ → Type 0) (by : List ℕ) (a r : ℕ) (hr : r < 2 ^ 64) where
   pub in-low : (k : ℕ) → k < 64 → In r k → In (two a r) k
@@ -76,17 +76,17 @@ module _ (E : ℕ → ℕ → Type 0) (by : List ℕ) (a r : ℕ) (hr : r < 2 ^ 
       high-from y = (64 + y.0, y.1, in-high y.0 y.2, y.3, y.4)
 
   -- an output of the low word is free
-  pub low-leads : (none u : ℕ) (f : FoundOutput) {x : OutputPort} → f ≡ At x → Reaches E by r 0 none f u → Leads E by (two a r) f u
-  low-leads none u (At j) e y = let q : j.0 ≡ y.0 = y.2 ∙ omega arith in (subst (In (two a r)) (sym q) (in-low y.0 (digit-in 64 r y.0 hr y.1) y.1), omega (arith, y.3), y.4)
-  low-leads none u Nothing e y = absurd (differ e)
+  pub low-leads : (none u : ℕ) (f : (Option OutputPort)) {x : OutputPort} → f ≡ Some x → Reaches E by r 0 none f u → Leads E by (two a r) f u
+  low-leads none u (Some j) e y = let q : j.0 ≡ y.0 = y.2 ∙ omega arith in (subst (In (two a r)) (sym q) (in-low y.0 (digit-in 64 r y.0 hr y.1) y.1), omega (arith, y.3), y.4)
+  low-leads none u None e y = absurd (differ e)
     where
-      differ : {z : OutputPort} → Nothing ≡ At z → ⊥
+      differ : {z : OutputPort} → None ≡ Some z → ⊥
       differ q = subst is-nothing q tt
 
   -- none is: it is the high word's to say
-  pub high-leads : (none before u : ℕ) (g f : FoundOutput) → ((k : ℕ) → In none k → ⊥) → g ≡ Nothing → Reaches E by r 0 none g before → Reaches E by a 64 before f u → Leads E by (two a r) f u
-  high-leads none before u g (At j) empty e l y = (subst (In (two a r)) (sym y.2) (in-high y.0 y.1), omega (arith, y.3), y.4)
-  high-leads none before u g Nothing empty e l h = both_words none before u empty (subst (λ (x : FoundOutput). Reaches E by r 0 none x before) e l) h
+  pub high-leads : (none before u : ℕ) (g f : (Option OutputPort)) → ((k : ℕ) → In none k → ⊥) → g ≡ None → Reaches E by r 0 none g before → Reaches E by a 64 before f u → Leads E by (two a r) f u
+  high-leads none before u g (Some j) empty e l y = (subst (In (two a r)) (sym y.2) (in-high y.0 y.1), omega (arith, y.3), y.4)
+  high-leads none before u g None empty e l h = both_words none before u empty (subst (λ (x : (Option OutputPort)). Reaches E by r 0 none x before) e l) h
 
 -- ---- who can move
 
@@ -102,12 +102,13 @@ module _ (w n : ℕ) (E : ℕ → ℕ → Type 0) (by : List ℕ) (wave wanted :
   not-mover f k e y = f (subst (λ (i : ℕ). E i wanted) (one-holder by j y.1.0 (get_or by j 0 - 1) (subst (λ (q : ℕ). Held by q y.1.0) e y.1.1) holder-of) y.1.2)
 
   -- its holder takes the wanted output
-  pub handed : (out by' by'' out' : List ℕ) → Mover E by wave wanted j → by' ≡ set by j 0 → by'' ≡ set by' wanted (get_or by j 0 - 1 + 1) → out' ≡ set out (get_or by j 0 - 1) wanted → Handed E by out wave wanted j by'' out'
-  handed out by' by'' out' y e f g = record {
+  pub handed : (out by' out' by'' out'' : List ℕ) → Mover E by wave wanted j → by' ≡ set by j 0 → out' ≡ out → by'' ≡ set by' wanted (get_or by j 0 - 1 + 1)
+      → out'' ≡ set out' (get_or by j 0 - 1) wanted → Handed E by out wave wanted j by'' out''
+  handed out by' out' by'' out'' y e o f g = record {
     asked = here;
     input = get_or by j 0 - 1;
     held = holder-of;
     edge = subst (λ (i : ℕ). E i wanted) (one-holder by j y.1.0 (get_or by j 0 - 1) y.1.1 holder-of) y.1.2;
     holders = f ∙ ap (λ (l : List ℕ). set l wanted (get_or by j 0 - 1 + 1)) e;
-    outputs = g;
+    outputs = g ∙ ap (λ (l : List ℕ). set l (get_or by j 0 - 1) wanted) o;
   }

@@ -1,9 +1,10 @@
 -- Inner: what the two functions of the search promise, over any relation E of inputs and outputs: `by` and `out` are the tables
 -- before, `by'` and `out'` after, t the outputs tried before. Definitions only.
+use Rattle.std.specs.Prelude.{None, Some}
 use Rattle.std.specs.Prelude.{◌≡◌, ◌⊎◌, List, ℕ, ◌+◌, ◌<◌, ◌≤◌, length, get_or, set}
 use Rattle.sets.specs.Label.{In, Sub}
-use Rattle.labels.specs.declared.FoundOutput.{FoundOutput}
-use Rattle.labels.specs.declared.FoundOutput.TheVariants.{At, Nothing}
+use Rattle.std.specs.declared.option.Option.{Option}
+use Rattle.switch.specs.declared.OutputPort.{OutputPort}
 use Rattle.search.specs.declared.Asked.{Asked}
 use Rattle.search.specs.declared.Asked.TheVariants.{Freed, Stuck}
 use Rattle.search.specs.Tables.{tried_of, Held, Holds, joined, Matching}
@@ -34,9 +35,9 @@ pub record Grown (E : ℕ → ℕ → Type 0) (by : List ℕ) (word base before 
   pub from : (k : ℕ) → In r k → In before k ⊎ ((j i : ℕ) × In word j × Held by (base + j) i × E i k)
 
 -- an output of the word is free, or none is
-abbrev pub Reaches : (ℕ → ℕ → Type 0) → List ℕ → ℕ → ℕ → ℕ → FoundOutput → ℕ → Type 0
-Reaches E by word base before (At j) r = (k : ℕ) × In word k × (j.0 ≡ base + k) × (j.0 < base + 64) × (get_or by j.0 0 ≡ 0)
-Reaches E by word base before Nothing r = Grown E by word base before r
+abbrev pub Reaches : (ℕ → ℕ → Type 0) → List ℕ → ℕ → ℕ → ℕ → (Option OutputPort) → ℕ → Type 0
+Reaches E by word base before (Some j) r = (k : ℕ) × In word k × (j.0 ≡ base + k) × (j.0 < base + 64) × (get_or by j.0 0 ≡ 0)
+Reaches E by word base before None r = Grown E by word base before r
 
 -- r is all that the holders of the wave may take
 pub record Further (E : ℕ → ℕ → Type 0) (by : List ℕ) (wave r : ℕ) : Type 0 where
@@ -44,9 +45,9 @@ pub record Further (E : ℕ → ℕ → Type 0) (by : List ℕ) (wave r : ℕ) :
   pub from : (k : ℕ) → In r k → (j i : ℕ) × In wave j × Held by j i × E i k
 
 -- an output of the wave is free, or none is
-abbrev pub Leads : (ℕ → ℕ → Type 0) → List ℕ → ℕ → FoundOutput → ℕ → Type 0
-Leads E by wave (At j) r = In wave j.0 × (j.0 < 128) × (get_or by j.0 0 ≡ 0)
-Leads E by wave Nothing r = Further E by wave r
+abbrev pub Leads : (ℕ → ℕ → Type 0) → List ℕ → ℕ → (Option OutputPort) → ℕ → Type 0
+Leads E by wave (Some j) r = In wave j.0 × (j.0 < 128) × (get_or by j.0 0 ≡ 0)
+Leads E by wave None r = Further E by wave r
 
 -- ---- handing on
 

@@ -1,4 +1,5 @@
 -- Inner: who holds which output: holders by output and outputs by input, two tables kept in step. Definitions only.
+use Rattle.labels.specs.Ports.{Outputs}
 use Rattle.std.specs.Prelude.{◌≡◌, List, ℕ, ◌+◌, ◌<◌, ◌≤◌, length, get_or}
 use Rattle.sets.specs.Label.{In}
 use Rattle.labels.specs.Ports.{outputs_of}
@@ -10,13 +11,12 @@ abbrev pub tried_of : (t : Tried) → ℕ
 tried_of t = outputs_of t.outputs
 
 -- input i may take output j: it is in the label of that input
-abbrev pub Allowed : (lows highs : List ℕ) (i j : ℕ) → Type 0
-Allowed lows highs i j = In (row_of lows highs i) j
+abbrev pub Allowed : (rows : List Outputs) (i j : ℕ) → Type 0
+Allowed rows i j = In (row_of rows i) j
 
 -- a label for each input, and no more inputs than the tables have places
-pub record Rows (w : ℕ) (lows highs : List ℕ) : Type 0 where
-  pub same : length highs ≡ length lows
-  pub few : length lows ≤ w
+pub record Rows (w : ℕ) (rows : List Outputs) : Type 0 where
+  pub few : length rows ≤ w
 
 -- input i holds output j: the holders have i + 1 there, and 0 where nobody holds
 abbrev pub Held : (by : List ℕ) (j i : ℕ) → Type 0

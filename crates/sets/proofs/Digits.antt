@@ -12,7 +12,7 @@ use lib.Pow.{shr-shr, shr_lt, high, shl_exact, pow_pos}
 use lib.Bits.{bit_and, bit_or, bit_xor, differ, and_step, or_step, xor_step, and_shr, or_shr, xor_shr, and_mask, and_zero_r, xor_zero_r, block_half, block_odd, shifted_half}
 use mir.Val.{bool_byte}
 use lib.Count.{count_trailing_zeros, under, trailing_le}
-use Rattle.sets.specs.Label.{digit, In, Sub, Marked, Cleared, ClearedIf, Union, But, Common, Below, From, LowestAt, absent}
+use Rattle.sets.specs.Label.{Lowered, digit, In, Sub, Marked, Cleared, ClearedIf, Union, But, Common, Below, From, LowestAt, absent}
 
 two_pos : zero < 2
 two_pos = zero-lt-suc 1
@@ -335,6 +335,14 @@ lowered-at l j e f = record {
 
     over : (k : ℕ) → In l k → (k ≡ j → ⊥) → j < k
     over k h d = ⊎_elim (λ z. absurd (f k (omega arith) h)) (λ z. omega (arith, d)) (same_or (suc k - j) 0)
+
+-- l & (l - 1) in a word, where 0 - 1 is the last number: nothing shares a digit with 0
+pub lowered : (l : ℕ) → l < 2 ^ 64 → Lowered l (bit_and l ((l + 18446744073709551615) % 18446744073709551616))
+lowered zero h = record { cleared = λ j e _. absurd (omega (arith, e, none-digit j)); same = λ _. refl }
+lowered (suc l) h =
+    let e : (suc l + 18446744073709551615) % 18446744073709551616 ≡ suc l - 1 = omega (arith, h) in
+    subst (λ (x : ℕ). Lowered (suc l) (bit_and (suc l) x)) (sym e)
+    (record { cleared = λ j i f. lowered-at (suc l) j i f; same = λ n. absurd (n _ (lowest (suc l) h (omega arith)).here) })
 
 -- every digit below w of the last number below 2 ^ w
 pub every : (w k : ℕ) → k < w → In (2 ^ w - 1) k

@@ -4,7 +4,7 @@ use mathlib.Core.Logic.{◌⊎◌, inl, inr, ⊎_elim}
 use Prim.Native.Nat.{ℕ, ◌+◌, ◌-◌, ◌^◌, ◌≤◌, ◌<◌}
 use native.Mathlib.Decide.{dec_lt}
 use native.Mathlib.Omega.{arith}
-use Rattle.sets.specs.Label.{digit, In, Marked, Cleared, Lowered, Union, But, Common, Below, From, LowestAt}
+use Rattle.sets.specs.Label.{digit, In, Marked, Cleared, Lowered, Union, But, Common, Below, From, LowestAt, Upto}
 use Rattle.sets.proofs.Digits.{digit_lt, same_or, all-zero, digit-in, cat-low, cat-high}
 use Rattle.sets.specs.Wide.{two}
 
@@ -154,11 +154,12 @@ lowered-high a b r hr nr m = record {
   same = λ n. ap (λ (x : ℕ). two x r) (m.same (λ k h. n (64 + k) (high a r k hr ∙ h)));
 }
 
-pub every : (a r : ℕ) → r < 2 ^ 64 → ((k : ℕ) → k < 64 → In a k) → ((k : ℕ) → k < 64 → In r k) → (k : ℕ) → k < 128 → In (two a r) k
-every a r hr fa fr = by_word (λ k. k < 128 → In (two a r) k) (λ k q l. low a r k q ∙ fr k q) (λ i l. high a r i hr ∙ fa i (omega arith))
-
 -- a set of two words has nothing from 128 on
 pub in_words : (a r k : ℕ) → a < 2 ^ 64 → r < 2 ^ 64 → In (two a r) k → k < 128
 in_words a r k ha hr = by_word (λ k. In (two a r) k → k < 128) (λ k q _. omega arith) (λ i h. omega (arith, digit-in 64 a i ha (sym (high a r i hr) ∙ h))) k
 
--- ---- ports
+pub every : (a r : ℕ) → a < 2 ^ 64 → r < 2 ^ 64 → Upto 64 a → Upto 64 r → Upto 128 (two a r)
+every a r ha hr fa fr = record {
+  only = λ k h. in_words a r k ha hr h;
+  all = by_word (λ k. k < 128 → In (two a r) k) (λ k q l. low a r k q ∙ fr.all k q) (λ i l. high a r i hr ∙ fa.all i (omega arith));
+}

@@ -1,7 +1,7 @@
 -- Inner: a set of numbers is itself a number: j is in the set where binary digit j is 1. Definitions only.
+use Rattle.std.specs.Prelude.{None, Some}
 use Rattle.std.specs.Prelude.{◌≡◌, Bool, true, false, ◌⊎◌, ℕ, zero, suc, ◌+◌, ◌-◌, ◌/◌, ◌%◌, ◌^◌, ◌≤◌, ◌<◌, eqb}
-use Rattle.sets.specs.declared.Found.{Found}
-use Rattle.sets.specs.declared.Found.TheVariants.{At, Nothing}
+use Rattle.std.specs.declared.option.Option.{Option}
 
 -- binary digit j of l
 unfoldable pub digit : (l j : ℕ) → ℕ
@@ -83,9 +83,9 @@ pub record LowestAt (w l j : ℕ) : Type 0 where
   pub past : (k : ℕ) → k < j → In l k → ⊥
 
 -- the lowest number of l; nothing where it has none
-abbrev pub Lowest : ℕ → ℕ → Found → Type 0
-Lowest w l (At j) = LowestAt w l j
-Lowest w l Nothing = (k : ℕ) → In l k → ⊥
+abbrev pub Lowest : ℕ → ℕ → Option ℕ → Type 0
+Lowest w l (Some j) = LowestAt w l j
+Lowest w l None = (k : ℕ) → In l k → ⊥
 
 -- how many numbers below d are not in l
 unfoldable pub absent : ℕ → ℕ → ℕ

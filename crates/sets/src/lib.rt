@@ -3,11 +3,80 @@
 #![tactic(auto)]
 
 ghost use Rattle.std.specs.Prelude.{◌≡◌, ℕ, ◌≤◌, ◌<◌};
-ghost use Rattle.sets.specs.Label.{In, Marked, Cleared, ClearedIf, Lowered, Union, But, Common, Below, From, Lowest, is_in};
+ghost use Rattle.sets.specs.Label.{In, Marked, Cleared, ClearedIf, Lowered, Union, But, Common, Below, From, Lowest, Upto, is_in};
 ghost use Rattle.sets.specs.Wide.{numbers_of};
 
 // Every number of a word.
 const EVERY: u64 = 0xffff_ffff_ffff_ffff;
+
+// What a set of numbers does, whatever it is made of.
+pub trait NumberSet: Copy {
+    // Every number of a set is below this.
+    ghost SIZE: { ℕ };
+
+    const SIZE: usize;
+
+    // The set as a number, the j-th binary digit of which is 1 where j is in the set.
+    ghost numbers: { Self → ℕ };
+
+    // No number.
+    fn none() -> Self
+        ensures { (k : ℕ) → In (numbers result) k → ⊥ };
+
+    // Every number.
+    fn every() -> Self
+        ensures { Upto SIZE (numbers result) };
+
+    // Is j in the set?
+    fn has(self, j: usize) -> bool
+        requires { j < SIZE }
+        ensures { result ≡ is_in (numbers self) j };
+
+    // The set and j besides.
+    fn mark(self, j: usize) -> Self
+        requires { j < SIZE }
+        ensures { Marked (numbers self) j (numbers result) };
+
+    // The set without j.
+    fn without(self, j: usize) -> Self
+        requires { j < SIZE }
+        ensures { Cleared (numbers self) j (numbers result) };
+
+    // The set without j, where that is gone. No branch waits for the answer.
+    fn without_if(self, j: usize, gone: bool) -> Self
+        requires { j < SIZE }
+        ensures { ClearedIf gone (numbers self) j (numbers result) };
+
+    // The set without its lowest number, in a step that need not know which it is.
+    fn without_lowest(self) -> Self
+        ensures { Lowered (numbers self) (numbers result) };
+
+    // The numbers of both sets.
+    fn with(self, other: Self) -> Self
+        ensures { Union (numbers self) (numbers other) (numbers result) };
+
+    // The numbers of the set but those of the other.
+    fn but(self, other: Self) -> Self
+        ensures { But (numbers self) (numbers other) (numbers result) };
+
+    // The numbers that both sets have.
+    fn common(self, other: Self) -> Self
+        ensures { Common (numbers self) (numbers other) (numbers result) };
+
+    // The numbers of the set that are lower than j.
+    fn below(self, j: usize) -> Self
+        requires { j < SIZE }
+        ensures { Below (numbers self) j (numbers result) };
+
+    // The numbers of the set that are not lower than j.
+    fn from(self, j: usize) -> Self
+        requires { j < SIZE }
+        ensures { From (numbers self) j (numbers result) };
+
+    // The lowest number of the set.
+    fn lowest(self) -> Option<usize>
+        ensures { Lowest SIZE (numbers self) result };
+}
 
 // A set of numbers below 64.
 #[derive(Clone, Copy)]
@@ -20,327 +89,200 @@ pub struct Wide {
     pub high: Label,
 }
 
-// The lowest number of a set.
-#[derive(Clone, Copy)]
-pub enum Found {
-    At(usize),
-    Nothing,
-}
+impl NumberSet for Label {
+    ghost SIZE = { 64 };
 
-impl Label {
-    // No number.
-    pub fn none() -> Label
-        ensures { (k : ℕ) → In result.0 k → ⊥ }
-    {
+    const SIZE: usize = 64;
+
+    ghost numbers = { λ s. s.0 };
+
+    fn none() -> Label {
         Label(0)
     }
 
-    // Every number.
-    pub fn every() -> Label
-        ensures { (k : ℕ) → k < 64 → In result.0 k }
-    {
+    fn every() -> Label {
         Label(EVERY)
     }
 
-    // Is j in the set?
-    pub fn has(self, j: usize) -> bool
-        requires { j < 64 }
-        ensures { result ≡ is_in self.0 j }
-    {
+    fn has(self, j: usize) -> bool {
         (self.0 >> j) & 1 == 1
     }
 
-    // The set and j besides.
-    pub fn mark(self, j: usize) -> Label
-        requires { j < 64 }
-        ensures { Marked self.0 j result.0 }
-    {
+    fn mark(self, j: usize) -> Label {
         Label(self.0 | (1u64 << j))
     }
 
-    // The set without j.
-    pub fn without(self, j: usize) -> Label
-        requires { j < 64 }
-        ensures { Cleared self.0 j result.0 }
-    {
+    fn without(self, j: usize) -> Label {
         Label(self.0 ^ (self.0 & (1u64 << j)))
     }
 
-    // The set without j, where that is gone. No branch waits for the answer.
-    pub fn without_if(self, j: usize, gone: bool) -> Label
-        requires { j < 64 }
-        ensures { ClearedIf gone self.0 j result.0 }
-    {
-        let one = gone as u64;
-        Label(self.0 ^ (self.0 & (one << j)))
+    fn without_if(self, j: usize, gone: bool) -> Label {
+        Label(self.0 ^ (self.0 & (u64::from(gone) << j)))
     }
 
-    // The set without its lowest number, in a step that need not know which it is.
-    pub fn without_lowest(self) -> Label
-        ensures { Lowered self.0 result.0 }
-    {
-        if self.0 == 0 {
-            return self;
-        }
-        Label(self.0 & (self.0 - 1))
+    fn without_lowest(self) -> Label {
+        Label(self.0 & self.0.wrapping_sub(1))
     }
 
-    // The numbers of both sets.
-    pub fn with(self, other: Label) -> Label
-        ensures { Union self.0 other.0 result.0 }
-    {
+    fn with(self, other: Label) -> Label {
         Label(self.0 | other.0)
     }
 
-    // The numbers of the set but those of the other.
-    pub fn but(self, other: Label) -> Label
-        ensures { But self.0 other.0 result.0 }
-    {
+    fn but(self, other: Label) -> Label {
         Label(self.0 ^ (self.0 & other.0))
     }
 
-    // The numbers that both sets have.
-    pub fn common(self, other: Label) -> Label
-        ensures { Common self.0 other.0 result.0 }
-    {
+    fn common(self, other: Label) -> Label {
         Label(self.0 & other.0)
     }
 
-    // The numbers of the set that are lower than j.
-    pub fn below(self, j: usize) -> Label
-        requires { j < 64 }
-        ensures { Below self.0 j result.0 }
-    {
-        let first = 1u64 << j;
-        Label(self.0 % first)
+    fn below(self, j: usize) -> Label {
+        Label(self.0 % (1u64 << j))
     }
 
-    // The numbers of the set that are not lower than j.
-    pub fn from(self, j: usize) -> Label
-        requires { j < 64 }
-        ensures { From self.0 j result.0 }
-    {
-        let first = 1u64 << j;
-        Label(self.0 - self.0 % first)
+    fn from(self, j: usize) -> Label {
+        Label(self.0 - self.0 % (1u64 << j))
     }
 
-    // The lowest number of the set.
-    pub fn lowest(self) -> Found
-        ensures { Lowest 64 self.0 result }
-    {
-        let m = self.0;
-        if m == 0 {
-            return Found::Nothing;
+    fn lowest(self) -> Option<usize> {
+        if self.0 == 0 {
+            return None;
         }
-        Found::At(u64::trailing_zeros(m) as usize)
+        Some(self.0.trailing_zeros() as usize)
     }
 }
 
-impl Wide {
-    // No number.
-    pub fn none() -> Wide
-        ensures { (k : ℕ) → In (numbers_of result) k → ⊥ }
-    {
+impl NumberSet for Wide {
+    ghost SIZE = { 128 };
+
+    const SIZE: usize = 128;
+
+    ghost numbers = { λ w. numbers_of w };
+
+    fn none() -> Wide {
         Wide {
             low: Label::none(),
             high: Label::none(),
         }
     }
 
-    // Every number.
-    pub fn every() -> Wide
-        ensures { (k : ℕ) → k < 128 → In (numbers_of result) k }
-    {
+    fn every() -> Wide {
         Wide {
             low: Label::every(),
             high: Label::every(),
         }
     }
 
-    // Is j in the set?
-    pub fn has(self, j: usize) -> bool
-        requires { j < 128 }
-        ensures { result ≡ is_in (numbers_of self) j }
-    {
+    fn has(self, j: usize) -> bool {
         if j < 64 {
-            let l = self.low;
-            return l.has(j);
+            return self.low.has(j);
         }
-        let h = self.high;
-        h.has(j - 64)
+        self.high.has(j - 64)
     }
 
-    // The set and j besides.
-    pub fn mark(self, j: usize) -> Wide
-        requires { j < 128 }
-        ensures { Marked (numbers_of self) j (numbers_of result) }
-    {
-        let l = self.low;
-        let h = self.high;
+    fn mark(self, j: usize) -> Wide {
         if j < 64 {
             return Wide {
-                low: l.mark(j),
-                high: h,
+                low: self.low.mark(j),
+                ..self
             };
         }
         Wide {
-            low: l,
-            high: h.mark(j - 64),
+            high: self.high.mark(j - 64),
+            ..self
         }
     }
 
-    // The set without j.
-    pub fn without(self, j: usize) -> Wide
-        requires { j < 128 }
-        ensures { Cleared (numbers_of self) j (numbers_of result) }
-    {
-        let l = self.low;
-        let h = self.high;
+    fn without(self, j: usize) -> Wide {
         if j < 64 {
             return Wide {
-                low: l.without(j),
-                high: h,
+                low: self.low.without(j),
+                ..self
             };
         }
         Wide {
-            low: l,
-            high: h.without(j - 64),
+            high: self.high.without(j - 64),
+            ..self
         }
     }
 
-    // The set without j, where that is gone.
-    pub fn without_if(self, j: usize, gone: bool) -> Wide
-        requires { j < 128 }
-        ensures { ClearedIf gone (numbers_of self) j (numbers_of result) }
-    {
-        let l = self.low;
-        let h = self.high;
+    fn without_if(self, j: usize, gone: bool) -> Wide {
         if j < 64 {
             return Wide {
-                low: l.without_if(j, gone),
-                high: h,
+                low: self.low.without_if(j, gone),
+                ..self
             };
         }
         Wide {
-            low: l,
-            high: h.without_if(j - 64, gone),
+            high: self.high.without_if(j - 64, gone),
+            ..self
         }
     }
 
-    // The set without its lowest number.
-    pub fn without_lowest(self) -> Wide
-        ensures { Lowered (numbers_of self) (numbers_of result) }
-    {
-        let l = self.low;
-        let h = self.high;
-        if l.0 == 0 {
+    fn without_lowest(self) -> Wide {
+        if self.low.0 == 0 {
             return Wide {
-                low: l,
-                high: h.without_lowest(),
+                high: self.high.without_lowest(),
+                ..self
             };
         }
         Wide {
-            low: l.without_lowest(),
-            high: h,
+            low: self.low.without_lowest(),
+            ..self
         }
     }
 
-    // The numbers of both sets.
-    pub fn with(self, other: Wide) -> Wide
-        ensures { Union (numbers_of self) (numbers_of other) (numbers_of result) }
-    {
-        let l = self.low;
-        let m = other.low;
-        let h = self.high;
-        let g = other.high;
+    fn with(self, other: Wide) -> Wide {
         Wide {
-            low: l.with(m),
-            high: h.with(g),
+            low: self.low.with(other.low),
+            high: self.high.with(other.high),
         }
     }
 
-    // The numbers of the set but those of the other.
-    pub fn but(self, other: Wide) -> Wide
-        ensures { But (numbers_of self) (numbers_of other) (numbers_of result) }
-    {
-        let l = self.low;
-        let m = other.low;
-        let h = self.high;
-        let g = other.high;
+    fn but(self, other: Wide) -> Wide {
         Wide {
-            low: l.but(m),
-            high: h.but(g),
+            low: self.low.but(other.low),
+            high: self.high.but(other.high),
         }
     }
 
-    // The numbers that both sets have.
-    pub fn common(self, other: Wide) -> Wide
-        ensures { Common (numbers_of self) (numbers_of other) (numbers_of result) }
-    {
-        let l = self.low;
-        let m = other.low;
-        let h = self.high;
-        let g = other.high;
+    fn common(self, other: Wide) -> Wide {
         Wide {
-            low: l.common(m),
-            high: h.common(g),
+            low: self.low.common(other.low),
+            high: self.high.common(other.high),
         }
     }
 
-    // The numbers of the set that are lower than j.
-    pub fn below(self, j: usize) -> Wide
-        requires { j < 128 }
-        ensures { Below (numbers_of self) j (numbers_of result) }
-    {
-        let l = self.low;
-        let h = self.high;
+    fn below(self, j: usize) -> Wide {
         if j < 64 {
             return Wide {
-                low: l.below(j),
+                low: self.low.below(j),
                 high: Label::none(),
             };
         }
         Wide {
-            low: l,
-            high: h.below(j - 64),
+            high: self.high.below(j - 64),
+            ..self
         }
     }
 
-    // The numbers of the set that are not lower than j.
-    pub fn from(self, j: usize) -> Wide
-        requires { j < 128 }
-        ensures { From (numbers_of self) j (numbers_of result) }
-    {
-        let l = self.low;
-        let h = self.high;
+    fn from(self, j: usize) -> Wide {
         if j < 64 {
             return Wide {
-                low: l.from(j),
-                high: h,
+                low: self.low.from(j),
+                ..self
             };
         }
         Wide {
             low: Label::none(),
-            high: h.from(j - 64),
+            high: self.high.from(j - 64),
         }
     }
 
-    // The lowest number of the set.
-    pub fn lowest(self) -> Found
-        ensures { Lowest 128 (numbers_of self) result }
-    {
-        let l = self.low;
-        let a = l.lowest();
-        match a {
-            Found::At(j) => Found::At(j),
-            Found::Nothing => {
-                let h = self.high;
-                let b = h.lowest();
-                match b {
-                    Found::At(j) => Found::At(64 + j),
-                    Found::Nothing => Found::Nothing,
-                }
-            }
+    fn lowest(self) -> Option<usize> {
+        match self.low.lowest() {
+            None => Some(64 + self.high.lowest()?),
+            Some(j) => Some(j),
         }
     }
 }

@@ -1,23 +1,27 @@
 -- The sets at the start: input by input the ones with slots for an output, output by output; with all ports idle they keep the closed shop.
+use Rattle.std.specs.Prelude.{Err, Ok}
 use mathlib.Core.Path.{◌≡◌, refl, sym, ap, ap₂, subst, ◌∙◌}
 use mathlib.Core.Logic.{◌⊎◌, inl, inr}
 use mathlib.Core.List.{List}
-use Prim.Native.Nat.{ℕ, ◌+◌, ◌*◌, ◌/◌, ◌≤◌, ◌<◌}
+use Prim.Native.Nat.{ℕ, zero, suc, ◌+◌, ◌*◌, ◌/◌, ◌≤◌, ◌<◌}
 use native.Mathlib.Decide.{ℕ_discrete, dec_lt}
 use native.Mathlib.Omega.{arith}
-use lib.ListN.{length, get_or, set, replicate}
-use lib.Seq.{get_or-set_same, get_or-set_other}
+use lib.ListN.{length, get_or, set, take, replicate}
+use lib.Seq.{get_or-set_same, get_or-set_other, take_all}
 use Rattle.counting.specs.Sum.{sum}
 use Rattle.counting.specs.Matrix.{row}
-use Rattle.counting.proofs.Sum.{sum_rows, sum-next}
-use borrow.Author.Tests.{lt-leb, le-leb}
-use Rattle.switch.specs.declared.Outcome.TheVariants.{Done, Refused}
+use Rattle.counting.proofs.Sum.{sum_rows, sum-next, sum-zero}
+use Rattle.std.specs.List.{count_by}
+use Rattle.std.proofs.lemmas.List.Sums.{count_by_more_no, count_by_more_yes}
+use mathlib.Core.Bool.{Bool, not}
+use lib.Dec.{eqb}
+use native.Mathlib.Numerals.{add-one}
+use borrow.Author.Tests.{lt-leb, le-leb, eq-eqb, ne_eqb}
 use Rattle.switch.specs.declared.Refusal.TheVariants.{Room}
 use Rattle.switch.specs.Answer.{plan_counts}
 use Rattle.switch.specs.Demand.{cell}
 use Rattle.switch.specs.declared.Refusal.{Refusal}
-use Rattle.switch.specs.declared.Outcome.{Outcome}
-use Rattle.demand.specs.declared.Checked.TheVariants.{Fine, Faulty}
+use Rattle.switch.specs.Outcome.{Outcome}
 use Rattle.demand.specs.Check.{check_demand}
 use Rattle.switch.specs.Result.{Gives}
 use Rattle.sets.specs.Label.{In, Marked}
@@ -82,39 +86,60 @@ closed-held n cells waiting h = record {
 
 -- ---- how many
 
-pub count-is : (n d : ℕ) (cells : List ℕ) → n ≤ 64 → length cells ≡ n * n → sum (length cells) (λ k. pairs (get_or cells k 0)) ≡ length (shop_plan n d cells)
+-- a pair without slots counts nothing, and another one
+module _ (cells : List ℕ) where
+  abbrev some : ℕ → Bool
+  some x = not (eqb x 0)
+
+  counted : (k : ℕ) → k ≤ length cells → count_by some (take k cells) ≡ sum k (λ a. pairs (get_or cells a 0))
+  counted zero l = sym (sum-zero (λ a. pairs (get_or cells a 0)))
+  counted (suc k) l = go (ℕ_discrete (get_or cells k 0) 0) (counted k (omega arith))
+    where
+      go : Dec (get_or cells k 0 ≡ 0) → count_by some (take k cells) ≡ sum k (λ a. pairs (get_or cells a 0)) → count_by some (take (suc k) cells) ≡ sum (suc k) (λ a. pairs (get_or cells a 0))
+      go (yes e) h = omega (
+        arith,
+        rw (add-one k) at (count_by_more_no some cells k 0 (omega arith) (ap not (eq-eqb (get_or cells k 0) 0 e))),
+        rw (add-one k) at (sum-next k (λ a. pairs (get_or cells a 0))),
+        ap pairs e,
+        pairs-none,
+        h,
+      )
+      go (no n) h = omega (
+        arith,
+        rw (add-one k) at (count_by_more_yes some cells k 0 (omega arith) (ap not (ne_eqb (get_or cells k 0) 0 n))),
+        rw (add-one k) at (sum-next k (λ a. pairs (get_or cells a 0))),
+        pairs-one (get_or cells k 0) (omega (arith, n)),
+        h,
+      )
+
+  count-all : count_by some cells ≡ sum (length cells) (λ a. pairs (get_or cells a 0))
+  count-all = sym (ap (count_by some) (take_all (length cells) cells (omega arith))) ∙ counted (length cells) (omega arith)
+
+pub count-is : (n d : ℕ) (cells : List ℕ) → n ≤ 64 → length cells ≡ n * n → count_by (λ c. not (eqb c 0)) cells ≡ length (shop_plan n d cells)
 unfolding row cell
 count-is n d cells few size =
-    ap (λ (m : ℕ). sum m (λ k. pairs (get_or cells k 0))) size ∙ sum_rows n n (λ k. pairs (get_or cells k 0)) ∙ sym (shop-length n d (omega arith) cells)
-
--- a pair without slots counts nothing, and another one
-module _ (cells : List ℕ) (k : ℕ) where
-  pub count-one : (get_or cells k 0 ≡ 0 → ⊥) → sum (k + 1) (λ a. pairs (get_or cells a 0)) ≡ sum k (λ a. pairs (get_or cells a 0)) + 1
-  count-one h = omega (arith, sum-next k (λ a. pairs (get_or cells a 0)), pairs-one (get_or cells k 0) (omega (arith, h)))
-
-  pub count-skip : get_or cells k 0 ≡ 0 → sum (k + 1) (λ a. pairs (get_or cells a 0)) ≡ sum k (λ a. pairs (get_or cells a 0))
-  count-skip e = omega (arith, sum-next k (λ a. pairs (get_or cells a 0)), ap pairs e, pairs-none)
+    count-all cells ∙ ap (λ (m : ℕ). sum m (λ k. pairs (get_or cells k 0))) size ∙ sum_rows n n (λ k. pairs (get_or cells k 0)) ∙ sym (shop-length n d (omega arith) cells)
 
 -- ---- the call
 
 -- the buffer has no room for all tasks
-pub gives-room : (n d : ℕ) (cells tasks : List ℕ) (k : ℕ) → k ≡ length (shop_plan n d cells) → length tasks / 12 < k → Gives (room_for (shop_plan n d cells) tasks) (Refused (Room k)) tasks
+pub gives-room : (n d : ℕ) (cells tasks : List ℕ) (k : ℕ) → k ≡ length (shop_plan n d cells) → length tasks / 12 < k → Gives (room_for (shop_plan n d cells) tasks) (Err (Room k)) tasks
 unfolding room_for
 gives-room n d cells tasks k e l = rw (← e, lt-leb _ _ l) (record { outcome = refl; bytes = refl })
 
 -- it has, and the plan is laid over its start
 pub gives-done : (n d : ℕ) (cells tasks tasks' : List ℕ) (g : Begun) → length (shop_plan n d cells) ≤ length tasks / 12 → RunPost n cells d tasks g tasks'
-    → Gives (room_for (shop_plan n d cells) tasks) (Done (plan_counts g.records 0 g.latest)) tasks'
+    → Gives (room_for (shop_plan n d cells) tasks) (Ok (plan_counts g.records 0 g.latest)) tasks'
 unfolding room_for writes
-gives-done n d cells tasks tasks' g l p = rw (le-leb _ _ l) (record { outcome = ap₂ (λ (a b : ℕ). Done (plan_counts a 0 b)) p.records p.latest-is; bytes = p.laid-is })
+gives-done n d cells tasks tasks' g l p = rw (le-leb _ _ l) (record { outcome = ap₂ (λ (a b : ℕ). Ok (plan_counts a 0 b)) p.records p.latest-is; bytes = p.laid-is })
 
 module _ (n d : ℕ) (cells tasks : List ℕ) where
   -- the demand is refused by itself
-  pub gives-faulty : (r : Refusal) → check_demand 64 n cells ≡ Faulty r → Gives (shopped n d cells tasks) (Refused r) tasks
+  pub gives-faulty : (r : Refusal) → check_demand 64 n cells ≡ Err r → Gives (shopped n d cells tasks) (Err r) tasks
   unfolding shopped
   gives-faulty r e = rw e (record { outcome = refl; bytes = refl })
 
   -- it is not, and the room decides
-  pub gives-fine : (T : ℕ) → check_demand 64 n cells ≡ Fine T → (r : Outcome) (tasks' : List ℕ) → Gives (room_for (shop_plan n d cells) tasks) r tasks' → Gives (shopped n d cells tasks) r tasks'
+  pub gives-fine : (T : ℕ) → check_demand 64 n cells ≡ Ok T → (r : Outcome) (tasks' : List ℕ) → Gives (room_for (shop_plan n d cells) tasks) r tasks' → Gives (shopped n d cells tasks) r tasks'
   unfolding shopped
   gives-fine T e r tasks' g = rw e g

@@ -1,5 +1,5 @@
 -- Port by port: the inputs that are idle, one more at a time, and the next finish, which is the sooner of that before and one output's.
-use mathlib.Core.Path.{◌≡◌, refl}
+use mathlib.Core.Path.{◌≡◌, refl, subst}
 use mathlib.Core.Logic.{◌⊎◌, inl, inr}
 use mathlib.Core.List.{List}
 use Prim.Native.Nat.{ℕ, ◌+◌, ◌≤◌, ◌<◌}
@@ -7,9 +7,14 @@ use native.Mathlib.Decide.{ℕ_discrete}
 use native.Mathlib.Numerals.{add-one}
 use native.Mathlib.Omega.{arith}
 use lib.ListN.{get_or}
-use Rattle.sets.specs.Label.{In, Marked, Common, LowestAt}
+use Rattle.sets.specs.declared.Label.{Label}
+use Rattle.sets.specs.Label.{In, Marked, Common, Lowest}
+use Rattle.labels.specs.Ports.{input_found}
+use Rattle.switch.specs.declared.InputPort.{InputPort}
+use Rattle.std.specs.declared.option.Option.{Option}
+use Rattle.std.specs.Prelude.{None, Some}
 use Rattle.shop_rule.specs.Shop.{sooner, next}
-use Rattle.shop.specs.Sets.{CommonAt}
+use Rattle.shop.specs.Sets.{LowestCommon}
 use Rattle.shop.specs.Kept.{Idle}
 
 module _ (t : ℕ) (ins : List ℕ) where
@@ -39,11 +44,12 @@ module _ (t : ℕ) (ins : List ℕ) where
         all a la z (yes q) = absurd (let v : get_or ins i 0 ≤ t = rw q at z in let f : ⊥ = omega arith in f)
         all a la z (no q) = b.all a (omega arith) z
 
-pub common-at : {l m b k : ℕ} → Common l m b → LowestAt 64 b k → CommonAt l m k
-common-at {k} c o = record { small = o.small; left = c.left k o.here; right = c.right k o.here; past = λ a la p q. o.past a la (c.all a p q) }
-
-pub common-none : {l m b : ℕ} → Common l m b → ((k : ℕ) → In b k → ⊥) → (k : ℕ) → In l k → In m k → ⊥
-common-none c h k p q = h k (c.all k p q)
+pub lowest-common : {s w : Label} {m b : ℕ} → s ≡ w → Common s.0 m b → (f : Option InputPort) → Lowest 64 b (input_found f) → LowestCommon w.0 m f
+lowest-common {m} {b} e c f h = subst (λ (w : Label). LowestCommon w.0 m f) e (found c f h)
+  where
+    found : {l : ℕ} → Common l m b → (f : Option InputPort) → Lowest 64 b (input_found f) → LowestCommon l m f
+    found c (Some i) o = record { small = o.small; left = c.left i.0 o.here; right = c.right i.0 o.here; past = λ a la p q. o.past a la (c.all a p q) }
+    found c None h = λ k p q. h k (c.all k p q)
 
 pub next-none : (t : ℕ) (f : ℕ → ℕ) → t ≡ next 0 t f
 unfolding next

@@ -1,7 +1,7 @@
 -- What the open-shop call answers, and the lent buffer's bytes afterwards. Definitions only.
+use Rattle.std.specs.Prelude.{Ok}
 use Rattle.std.specs.Prelude.{List, ℕ, ◌/◌, length, leb}
 use Rattle.switch.specs.declared.Refusal.TheVariants.{Room}
-use Rattle.switch.specs.declared.Outcome.TheVariants.{Done}
 use Rattle.switch.specs.Answer.{plan_counts}
 use Rattle.switch.specs.Result.{Result, refuses, unless}
 use Rattle.demand.specs.Check.{check_demand}
@@ -13,7 +13,7 @@ use Rattle.tasks.specs.Bytes.{bytes}
 
 -- the plan at the buffer's start, and nothing else touched; its tasks, and its latest end as total (§21.6)
 unfoldable pub writes : (p : List Task) (buf : List ℕ) → Result
-writes p buf = record { outcome = Done (plan_counts (length p) 0 (latest p)); bytes = laid buf 0 (bytes p) }
+writes p buf = record { outcome = Ok (plan_counts (length p) 0 (latest p)); bytes = laid buf 0 (bytes p) }
 
 -- code 5: there is room for fewer whole records than the plan has tasks
 unfoldable pub room_for : (p : List Task) (buf : List ℕ) → Result

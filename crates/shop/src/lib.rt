@@ -4,66 +4,22 @@
 // and for each port the time at which it is idle again; the demand is only read. The layout of a task is left to the crate below.
 #![tactic(auto)]
 
-ghost use Rattle.std.specs.Prelude.{◌≡◌, ℕ, ◌+◌, ◌*◌, ◌<◌, ◌≤◌, max, length, get_or};
-ghost use Rattle.counting.specs.Sum.{sum};
+ghost use Rattle.std.specs.Prelude.{◌≡◌, ◌==◌, not, count_by, ℕ, ◌+◌, ◌*◌, ◌<◌, ◌≤◌, max, length, get_or};
 ghost use Rattle.switch.specs.Demand.{cell, longest};
 ghost use Rattle.switch.specs.Result.{Gives};
-ghost use Rattle.sets.specs.Label.{In, Marked, Cleared};
-ghost use Rattle.shop_rule.specs.Shop.{pairs, sooner, next, shop_plan};
+ghost use Rattle.shop_rule.specs.Shop.{sooner, next, shop_plan};
 ghost use Rattle.shop.specs.Shopped.{room_for, shopped};
-ghost use Rattle.shop.specs.Sets.{numbers_of, LowestCommon};
+ghost use Rattle.shop.specs.Sets.{numbers_of};
 ghost use Rattle.shop.specs.Kept.{Idle, Column, TurnPre, TurnPost, MomentPre, MomentPost, RunPre, RunPost};
 
-use demand::{Checked, check_demand};
-use labels::FoundInput;
-use numbers::larger_word;
-use sets::{Found, Label};
+use demand::check_demand;
+use labels::PortSet;
+use sets::Label;
 use switch::{Counts, InputPort, Outcome, OutputPort, PORTS, Refusal};
 use tasks::{TASK, put_task};
 
 // A set of inputs: one word holds those of a switch of 64 ports.
-#[derive(Clone, Copy)]
-pub struct InputSet(pub Label);
-
-impl InputSet {
-    // No input.
-    pub fn none() -> InputSet
-        ensures { (k : ℕ) → In (numbers_of result) k → ⊥ }
-    {
-        InputSet(Label::none())
-    }
-
-    // The set and input i besides.
-    pub fn mark(self, i: InputPort) -> InputSet
-        requires { i.0 < 64 }
-        ensures { Marked (numbers_of self) i.0 (numbers_of result) }
-    {
-        let s = self.0;
-        InputSet(s.mark(i.0))
-    }
-
-    // The set without input i.
-    pub fn without(self, i: InputPort) -> InputSet
-        requires { i.0 < 64 }
-        ensures { Cleared (numbers_of self) i.0 (numbers_of result) }
-    {
-        let s = self.0;
-        InputSet(s.without(i.0))
-    }
-
-    // The lowest input that is in both sets.
-    pub fn lowest_common(self, other: InputSet) -> FoundInput
-        ensures { LowestCommon (numbers_of self) (numbers_of other) result }
-    {
-        let s = self.0;
-        let both = s.common(other.0);
-        let f = both.lowest();
-        match f {
-            Found::At(k) => FoundInput::At(InputPort(k)),
-            Found::Nothing => FoundInput::Nothing,
-        }
-    }
-}
+pub type InputSet = PortSet<InputPort, Label>;
 
 // How many tasks are started, and the latest end of them.
 #[derive(Clone, Copy)]
@@ -91,11 +47,8 @@ pub struct Clock {
 pub fn shop_plan(n: usize, cells: &[u32], d: u16, tasks: &mut [u8]) -> Outcome
     ensures { Gives (shopped n d cells.now tasks.old) result tasks.new }
 {
-    let checked = check_demand(n, PORTS, cells);
-    match checked {
-        Checked::Faulty(r) => Outcome::Refused(r),
-        Checked::Fine(_) => plan_checked(n, cells, d as u32, tasks),
-    }
+    check_demand(n, PORTS, cells)?;
+    plan_checked(n, cells, u32::from(d), tasks)
 }
 
 // The same for a demand that nothing but the room can refuse.
@@ -105,17 +58,17 @@ fn plan_checked(n: usize, cells: &[u32], d: u32, tasks: &mut [u8]) -> Outcome
 {
     let need = count_tasks(cells);
     if tasks.len() / TASK < need {
-        return Outcome::Refused(Refusal::Room(need));
+        return Err(Refusal::Room(need));
     }
     let mut waiting = [0u64; PORTS];
     let mut ins = [0u32; PORTS];
     let mut outs = [0u32; PORTS];
     label_columns(cells, n, &mut waiting);
     let begun = run(n, cells, d, &mut waiting, &mut ins, &mut outs, tasks);
-    Outcome::Done(Counts {
+    Ok(Counts {
         records: begun.records,
         longest: 0,
-        total: begun.latest as u64,
+        total: u64::from(begun.latest),
         length: 0,
         empty: 0,
     })
@@ -123,30 +76,25 @@ fn plan_checked(n: usize, cells: &[u32], d: u32, tasks: &mut [u8]) -> Outcome
 
 // How many pairs have slots.
 fn count_tasks(cells: &[u32]) -> usize
-    ensures { result ≡ sum (length cells.now) (λ k. pairs (get_or cells.now k 0)) }
+    ensures { result ≡ count_by (λ c. not (c == 0)) cells.now }
 {
-    let mut count: usize = 0;
-    for k in 0..cells.len() {
-        if cells[k] != 0 {
-            count += 1;
-        }
-    }
-    count
+    cells.iter().filter(|c| **c != 0).count()
 }
 
 // The set of each output: the inputs with slots for it.
+// j is the output, whose column is read and whose set is written.
 fn label_columns(cells: &[u32], n: usize, waiting: &mut [u64])
     requires { (n ≤ 64) × (n * n ≤ length cells.now) × (length waiting.old ≡ 64) }
     ensures { (length waiting.new ≡ 64) × ((j : ℕ) → j < n → Column n n cells.now j (get_or waiting.new j 0)) }
 {
     for j in 0..n {
         let asks = label_column(cells, n, OutputPort(j));
-        let label = asks.0;
-        waiting[j] = label.0;
+        waiting[j] = asks.numbers.0;
     }
 }
 
 // The set of one output.
+// A column's cells stand n apart, so that its inputs are counted and no slice is walked.
 fn label_column(cells: &[u32], n: usize, j: OutputPort) -> InputSet
     requires { (n ≤ 64) × (n * n ≤ length cells.now) × (j.0 < n) }
     ensures { Column n n cells.now j.0 (numbers_of result) }
@@ -190,6 +138,7 @@ fn run(
 }
 
 // One moment: every output has its turn, in ascending order.
+// j is an output: it has its set and its time.
 fn moment(
     clock: Clock,
     cells: &[u32],
@@ -204,7 +153,7 @@ fn moment(
 {
     let mut so = Turned {
         idle: idle_inputs(ins, clock.n, clock.t),
-        begun: begun,
+        begun,
     };
     for j in 0..clock.n {
         so = turn(clock, cells, OutputPort(j), so, waiting, ins, outs, tasks);
@@ -232,17 +181,17 @@ fn turn(
     }
     let idle = so.idle;
     let begun = so.begun;
-    let asks = InputSet(Label(waiting[output]));
-    let found = asks.lowest_common(idle);
-    let FoundInput::At(i) = found else {
+    let asks = InputSet::of(Label(waiting[output]));
+    let both = asks.common(idle);
+    let found = both.lowest();
+    let Some(i) = found else {
         return so;
     };
     let input = i.0;
     let end = clock.t + (clock.d + cells[input * clock.n + output]);
     put_task(tasks, begun.records * TASK, i, j, clock.t, end);
     let rest = asks.without(i);
-    let label = rest.0;
-    waiting[output] = label.0;
+    waiting[output] = rest.numbers.0;
     ins[input] = end;
     outs[output] = end;
     Turned {
@@ -258,7 +207,7 @@ fn one_more(begun: Begun, end: u32) -> Begun
 {
     Begun {
         records: begun.records + 1,
-        latest: larger_word(begun.latest, end),
+        latest: begun.latest.max(end),
     }
 }
 
@@ -268,8 +217,8 @@ fn idle_inputs(ins: &[u32], n: usize, t: u32) -> InputSet
     ensures { Idle n t ins.now (numbers_of result) }
 {
     let mut idle = InputSet::none();
-    for i in 0..n {
-        if ins[i] <= t {
+    for (i, end) in ins[..n].iter().enumerate() {
+        if *end <= t {
             idle = idle.mark(InputPort(i));
         }
     }
@@ -282,8 +231,8 @@ fn next_finish(outs: &[u32], n: usize, t: u32) -> u32
     ensures { result ≡ next n t (λ j. get_or outs.now j 0) }
 {
     let mut soonest = t;
-    for j in 0..n {
-        soonest = sooner_of(t, soonest, outs[j]);
+    for end in &outs[..n] {
+        soonest = sooner_of(t, soonest, *end);
     }
     soonest
 }

@@ -1,4 +1,5 @@
 -- Inputs that are visited lowest first, up to the last one and then from input 0 on, are those of the rule; the ones passed over have no slots left.
+use Rattle.labels.specs.Ports.{Outputs}
 use mathlib.Core.Path.{◌≡◌, sym, ap, ◌∙◌, subst}
 use mathlib.Core.List.{List}
 use Prim.Native.Nat.{ℕ, ◌+◌, ◌-◌, ◌%◌, ◌≤◌, ◌<◌}
@@ -55,16 +56,16 @@ module _ (N s : ℕ) (pos : 0 < N) where
 
 -- ---- a run of visits, whose inputs follow each other: visit q comes to input q + f - b, for q below h
 
-module _ (N s : ℕ) (S : ℕ) (w₀ w lows highs out : List ℕ) (turn : Turn) (v f b h r : ℕ) (top : h ≤ N) (here : v ≤ h) (base : b ≤ v + f)
+module _ (N s : ℕ) (S : ℕ) (w₀ w : List ℕ) (rows : List Outputs) (out : List ℕ) (turn : Turn) (v f b h r : ℕ) (top : h ≤ N) (here : v ≤ h) (base : b ≤ v + f)
     (port : (q : ℕ) → v ≤ q → q < h → (q + s) % N ≡ q + f - b)
-    (g : Visiting N s v w₀ w lows highs out turn)
+    (g : Visiting N s v w₀ w rows out turn)
     (empty : (i : ℕ) → i < N → (In S i → ⊥) → (j : ℕ) → j < N → cell N w₀ i j ≡ 0)
     (c : Cut S (v + f - b) (h + f - b) r) where
   -- the visits up to k come to inputs without slots left
-  passed : (k : ℕ) → v ≤ k → k ≤ h → ((x : ℕ) → v + f - b ≤ x → x < k + f - b → In r x → ⊥) → Visiting N s k w₀ w lows highs out turn
+  passed : (k : ℕ) → v ≤ k → k ≤ h → ((x : ℕ) → v + f - b ≤ x → x < k + f - b → In r x → ⊥) → Visiting N s k w₀ w rows out turn
   passed k l t no_one =
-      subst (λ (x : ℕ). Visiting N s x w₀ w lows highs out turn) (let e : v + (k - v) ≡ k = omega arith in e)
-      (visiting-skips N s w₀ w lows highs out turn v (k - v) (omega arith) (λ q a d. free q a (omega arith)) g)
+      subst (λ (x : ℕ). Visiting N s x w₀ w rows out turn) (let e : v + (k - v) ≡ k = omega arith in e)
+      (visiting-skips N s w₀ w rows out turn v (k - v) (omega arith) (λ q a d. free q a (omega arith)) g)
     where
       free : (q : ℕ) → v ≤ q → q < k → (j : ℕ) → j < N → cell N w₀ ((q + s) % N) j ≡ 0
       free q a d =
@@ -73,7 +74,7 @@ module _ (N s : ℕ) (S : ℕ) (w₀ w lows highs out : List ℕ) (turn : Turn) 
           (λ x. no_one (q + f - b) (omega arith) (omega arith) (c.all (q + f - b) (omega arith) (omega arith) (subst (In S) p x)))
 
   -- the lowest input ahead is the next one that is visited
-  reached : (i : ℕ) → In r i → ((k : ℕ) → k < i → In r k → ⊥) → Visiting N s (i + b - f) w₀ w lows highs out turn × (v ≤ i + b - f) × (i + b - f < h) × ((i + b - f + s) % N ≡ i)
+  reached : (i : ℕ) → In r i → ((k : ℕ) → k < i → In r k → ⊥) → Visiting N s (i + b - f) w₀ w rows out turn × (v ≤ i + b - f) × (i + b - f < h) × ((i + b - f + s) % N ≡ i)
   reached i e first =
       let lo : v + f - b ≤ i = c.from i e in
       let hi : i < h + f - b = c.below i e in
@@ -82,50 +83,50 @@ module _ (N s : ℕ) (S : ℕ) (w₀ w lows highs out : List ℕ) (turn : Turn) 
       (passed (i + b - f) a (omega arith) (λ x _ l. first x (omega arith)), a, d, port (i + b - f) a d ∙ omega arith)
 
   -- none is ahead: the run is over
-  over : ((k : ℕ) → In r k → ⊥) → Visiting N s h w₀ w lows highs out turn
+  over : ((k : ℕ) → In r k → ⊥) → Visiting N s h w₀ w rows out turn
   over no_one = passed h here (omega arith) (λ x _ _. no_one x)
 
 -- ---- turns, one after the other
 
 -- the inputs of r are still ahead: their turns complete those of l
-pub record Ahead (N l : ℕ) (w₀ lows₀ highs₀ out₀ : List ℕ) (turn₀ : Turn) (r : ℕ) (w lows highs out : List ℕ) (turn : Turn) : Type 0 where
-  pub copy : Copy N turn.rest w lows highs
+pub record Ahead (N l : ℕ) (w₀ : List ℕ) (rows₀ : List Outputs) (out₀ : List ℕ) (turn₀ : Turn) (r : ℕ) (w : List ℕ) (rows : List Outputs) (out : List ℕ) (turn : Turn) : Type 0 where
+  pub copy : Copy N turn.rest w rows
   pub waits : Waiting N r out
   pub work : length w ≡ length w₀
   pub long : length out ≡ length out₀
-  pub rest : (w' lows' highs' out' : List ℕ) (turn' : Turn) → Visited N r w lows highs out turn w' lows' highs' out' turn' → Visited N l w₀ lows₀ highs₀ out₀ turn₀ w' lows' highs' out' turn'
+  pub rest : (w' : List ℕ) (rows' : List Outputs) (out' : List ℕ) (turn' : Turn) → Visited N r w rows out turn w' rows' out' turn' → Visited N l w₀ rows₀ out₀ turn₀ w' rows' out' turn'
 
 -- one less
-pub ahead-next : (N l : ℕ) (w₀ lows₀ highs₀ out₀ : List ℕ) (turn₀ : Turn) (r : ℕ) (w lows highs out : List ℕ) (turn : Turn) → Ahead N l w₀ lows₀ highs₀ out₀ turn₀ r w lows highs out turn
-    → (i r' : ℕ) → LowestAt 128 r i → Cleared r i r' → (w' lows' highs' out' : List ℕ) (turn' : Turn) → Turned N i w out turn w' lows' highs' out' turn' → length w' ≡ length w
-    → Ahead N l w₀ lows₀ highs₀ out₀ turn₀ r' w' lows' highs' out' turn'
-ahead-next N l w₀ lows₀ highs₀ out₀ turn₀ r w lows highs out turn g i r' m d w' lows' highs' out' turn' t z = record {
+pub ahead-next : (N l : ℕ) (w₀ : List ℕ) (rows₀ : List Outputs) (out₀ : List ℕ) (turn₀ : Turn) (r : ℕ) (w : List ℕ) (rows : List Outputs) (out : List ℕ) (turn : Turn) → Ahead N l w₀ rows₀ out₀ turn₀ r w rows out turn
+    → (i r' : ℕ) → LowestAt 128 r i → Cleared r i r' → (w' : List ℕ) (rows' : List Outputs) (out' : List ℕ) (turn' : Turn) → Turned N i w out turn w' rows' out' turn' → length w' ≡ length w
+    → Ahead N l w₀ rows₀ out₀ turn₀ r' w' rows' out' turn'
+ahead-next N l w₀ rows₀ out₀ turn₀ r w rows out turn g i r' m d w' rows' out' turn' t z = record {
   copy = t.copy;
   waits = λ k h. let b = g.waits k (d.less k h) in (b.0, ap (λ (o : List ℕ). get_or o k 255) t.seated ∙ get_or-set_other out i k _ 255 (λ e. d.gone (subst (In r') e h)) ∙ b.1);
   work = z ∙ g.work;
   long = ap length t.seated ∙ length-set out i _ ∙ g.long;
-  rest = λ w₁ lows₁ highs₁ out₁ turn₁ k. g.rest w₁ lows₁ highs₁ out₁ turn₁ (next m d t k);
+  rest = λ w₁ rows₁ out₁ turn₁ k. g.rest w₁ rows₁ out₁ turn₁ (next m d t k);
 }
 
 -- ---- the run's turns
 
 -- the inputs of S from the run's first on have had their turns: all its visits are made
 module _ (N s S : ℕ) (w₀ : List ℕ) (f b h : ℕ) (top : h ≤ N) (empty : (i : ℕ) → i < N → (In S i → ⊥) → (j : ℕ) → j < N → cell N w₀ i j ≡ 0) where
-  pub visits-made : {r : ℕ} {w lows highs out w' lows' highs' out' : List ℕ} {turn turn' : Turn} → Visited N r w lows highs out turn w' lows' highs' out' turn'
-      → (v : ℕ) → v ≤ h → b ≤ v + f → ((q : ℕ) → v ≤ q → q < h → (q + s) % N ≡ q + f - b) → Visiting N s v w₀ w lows highs out turn → Cut S (v + f - b) (h + f - b) r
-      → Visiting N s h w₀ w' lows' highs' out' turn'
-  visits-made {r} {w} {lows} {highs} {out} {turn = turn} (none n) v here base port g c = over N s S w₀ w lows highs out turn v f b h r top here base port g empty c n
-  visits-made {r} {w} {lows} {highs} {out} {turn = turn} (next {i = i} {r = r'} {w₁ = wᵢ} {lows₁ = lowsᵢ} {highs₁ = highsᵢ} {out₁ = outᵢ} {turn₁ = turnᵢ} m d t k) v here base port g c =
-      let x = reached N s S w₀ w lows highs out turn v f b h r top here base port g empty c i m.here m.past in
+  pub visits-made : {r : ℕ} {w : List ℕ} {rows : List Outputs} {out w' : List ℕ} {rows' : List Outputs} {out' : List ℕ} {turn turn' : Turn} → Visited N r w rows out turn w' rows' out' turn'
+      → (v : ℕ) → v ≤ h → b ≤ v + f → ((q : ℕ) → v ≤ q → q < h → (q + s) % N ≡ q + f - b) → Visiting N s v w₀ w rows out turn → Cut S (v + f - b) (h + f - b) r
+      → Visiting N s h w₀ w' rows' out' turn'
+  visits-made {r} {w} {rows} {out} {turn = turn} (none n) v here base port g c = over N s S w₀ w rows out turn v f b h r top here base port g empty c n
+  visits-made {r} {w} {rows} {out} {turn = turn} (next {i = i} {r = r'} {w₁ = wᵢ} {rows₁ = rowsᵢ} {out₁ = outᵢ} {turn₁ = turnᵢ} m d t k) v here base port g c =
+      let x = reached N s S w₀ w rows out turn v f b h r top here base port g empty c i m.here m.past in
       let lo : v + f - b ≤ i = c.from i m.here in
       let e : i + 1 ≡ i + b - f + 1 + f - b = omega (arith, x.1, x.2) in
       visits-made k (i + b - f + 1) (omega (arith, x.2)) (omega (arith, x.1)) (λ q p. port q (omega (arith, x.1)))
-      (visiting-next N s (i + b - f) w₀ w lows highs out turn (omega (arith, x.2)) x.0 wᵢ lowsᵢ highsᵢ outᵢ turnᵢ (subst (λ (y : ℕ). Turned N y w out turn wᵢ lowsᵢ highsᵢ outᵢ turnᵢ) (sym x.3) t))
+      (visiting-next N s (i + b - f) w₀ w rows out turn (omega (arith, x.2)) x.0 wᵢ rowsᵢ outᵢ turnᵢ (subst (λ (y : ℕ). Turned N y w out turn wᵢ rowsᵢ outᵢ turnᵢ) (sym x.3) t))
       (subst (λ (y : ℕ). Cut S y (h + f - b) r') e (cut-lowered S (v + f - b) (h + f - b) r i r' c m.here m.past d))
 
 -- ---- a slot: from input s mod N on, and then from input 0 on
 
-module _ (N s : ℕ) (w₀ lows₀ highs₀ out₀ : List ℕ) (begun : Turn) (copy : Copy N begun.rest w₀ lows₀ highs₀) (wide : N ≤ length out₀) (idle : (i : ℕ) → get_or out₀ i 255 ≡ 255) where
+module _ (N s : ℕ) (w₀ : List ℕ) (rows₀ : List Outputs) (out₀ : List ℕ) (begun : Turn) (copy : Copy N begun.rest w₀ rows₀) (wide : N ≤ length out₀) (idle : (i : ℕ) → get_or out₀ i 255 ≡ 255) where
   abbrev f : ℕ
   f = s % N
 
@@ -142,12 +143,12 @@ module _ (N s : ℕ) (w₀ lows₀ highs₀ out₀ : List ℕ) (begun : Turn) (c
     pub first-waits : Waiting N ahead out₀
     first-waits i h = (copy.inside i (from.less i h), idle i)
 
-    module _ (w lows highs out : List ℕ) (half : Turn) (free : (k : ℕ) → k < 128 → In (outputs_of begun.free) k) (first : Visited N ahead w₀ lows₀ highs₀ out₀ begun w lows highs out half) where
-      pub first-half : Visiting N s (N - s % N) w₀ w lows highs out half
+    module _ (w : List ℕ) (rows : List Outputs) (out : List ℕ) (half : Turn) (free : (k : ℕ) → k < 128 → In (outputs_of begun.free) k) (first : Visited N ahead w₀ rows₀ out₀ begun w rows out half) where
+      pub first-half : Visiting N s (N - s % N) w₀ w rows out half
       first-half =
           visits-made N s S w₀ f 0 (N - f) (omega arith) copy.others first 0 (omega arith) (omega arith)
           (λ q _ l. port-on N s pos q (omega arith) ∙ (let e : q + f ≡ q + f - 0 = omega arith in e))
-          (visiting-none N s w₀ lows₀ highs₀ out₀ begun copy wide idle free)
+          (visiting-none N s w₀ rows₀ out₀ begun copy wide idle free)
           (subst (λ (x : ℕ). Cut S x (N - f + f - 0) ahead) (let e : f ≡ 0 + f - 0 = omega arith in e)
           (subst (λ (x : ℕ). Cut S f x ahead) (let e : N ≡ N - f + f - 0 = omega (arith, small) in e) (cut-from S f N ahead copy.inside from)))
 
@@ -161,8 +162,8 @@ module _ (N s : ℕ) (w₀ lows₀ highs₀ out₀ : List ℕ) (begun : Turn) (c
             let e : i + (N - f) + f - N ≡ i = omega (arith, small) in
             (omega (arith, l, small), subst (λ (x : ℕ). get_or out x 255 ≡ 255) (around (i + (N - f)) (omega arith) (omega (arith, l)) ∙ e) (first-half.ahead (i + (N - f)) (omega arith) (omega (arith, l))))
 
-        pub second-half : (w' lows' highs' out' : List ℕ) (whole : Turn) → Visited N later w lows highs out half w' lows' highs' out' whole → Visiting N s N w₀ w' lows' highs' out' whole
-        second-half w' lows' highs' out' whole second =
+        pub second-half : (w' : List ℕ) (rows' : List Outputs) (out' : List ℕ) (whole : Turn) → Visited N later w rows out half w' rows' out' whole → Visiting N s N w₀ w' rows' out' whole
+        second-half w' rows' out' whole second =
             visits-made N s S w₀ f N N (omega arith) copy.others second (N - f) (omega arith) (omega (arith, small)) around first-half
             (subst (λ (x : ℕ). Cut S x (N + f - N) later) (let e : 0 ≡ N - f + f - N = omega (arith, small) in e)
             (subst (λ (x : ℕ). Cut S 0 x later) (let e : f ≡ N + f - N = omega arith in e) (cut_below S f later below)))

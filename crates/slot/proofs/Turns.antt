@@ -15,10 +15,8 @@ use Rattle.counting.proofs.Sum.{sum-at}
 use Rattle.counting.proofs.Matrix.{Raised, raised_all}
 use Rattle.switch.specs.Demand.{cell}
 use Rattle.switch.proofs.Demand.{set-lowered}
-use Rattle.labels.specs.declared.Inputs.{Inputs}
-use Rattle.labels.specs.declared.Outputs.{Outputs}
 use Rattle.sets.specs.Label.{digit, In, Cleared, Common, LowestAt}
-use Rattle.labels.specs.Ports.{inputs_of, outputs_of}
+use Rattle.labels.specs.Ports.{Inputs, Outputs, inputs_of, outputs_of}
 use Rattle.rules.specs.Search.{put}
 use Rattle.rules.specs.Peel.{peel}
 use Rattle.rules.specs.Quick.{may}
@@ -126,12 +124,12 @@ pub turn-idle : (N : ℕ) (w : List ℕ) (free i : ℕ) → ((j : ℕ) → j < N
 unfolding turn_of
 turn-idle N w free i h = lowest-none N 0 (may (cell N w) (taken_of free) i) (λ y _ l t. omega (arith, h y (omega arith), (may-is (cell N w) (taken_of free) i y t).0))
 
-module _ (N i : ℕ) (w lows highs out : List ℕ) (turn : Turn) (c : Copy N turn.rest w lows highs) where
+module _ (N i : ℕ) (w : List ℕ) (rows : List Outputs) (out : List ℕ) (turn : Turn) (c : Copy N turn.rest w rows) where
   -- nothing is free: the input stays idle, and need not be asked again where its label is empty
   pub turned_none : turn_of N w (outputs_of turn.free) i ≡ 255 → get_or out i 255 ≡ 255
       → (turn' : Turn) → turn'.free ≡ turn.free → turn'.rest.left ≡ turn.rest.left
       → (label : ℕ) → RowOf N w i label → StillAsking label i (inputs_of turn.rest.inputs) (inputs_of turn'.rest.inputs)
-      → Turned N i w out turn w lows highs out turn'
+      → Turned N i w out turn w rows out turn'
   turned_none e o turn' t l label r a = record {
     copy = record { sized = c.sized; labels = c.labels; all = l ∙ c.all; inside = λ k h. c.inside k (a.less k h); others = others };
     seated = sym (ap (set out i) (e ∙ sym o) ∙ set-get_or out i 255);
@@ -152,10 +150,10 @@ module _ (N i : ℕ) (w lows highs out : List ℕ) (turn : Turn) (c : Copy N tur
               none_of x f = omega (arith, f)
 
   -- output j: one slot of the pair less, and one in all
-  pub turned-at : (j : ℕ) → i < N → j < N → 0 < cell N w i j → turn_of N w (outputs_of turn.free) i ≡ j → (w' lows' highs' : List ℕ) (turn' : Turn)
-      → TakePost N w i j 1 w' lows' highs' → Cleared (outputs_of turn.free) j (outputs_of turn'.free) → turn'.rest.left ≡ turn.rest.left - 1 → turn'.rest.inputs ≡ turn.rest.inputs
-      → Turned N i w out turn w' lows' highs' (set out i j) turn'
-  turned-at j li lj p e w' lows' highs' turn' s m f g = record {
+  pub turned-at : (j : ℕ) → i < N → j < N → 0 < cell N w i j → turn_of N w (outputs_of turn.free) i ≡ j → (w' : List ℕ) (rows' : List Outputs) (turn' : Turn)
+      → TakePost N w i j 1 w' rows' → Cleared (outputs_of turn.free) j (outputs_of turn'.free) → turn'.rest.left ≡ turn.rest.left - 1 → turn'.rest.inputs ≡ turn.rest.inputs
+      → Turned N i w out turn w' rows' (set out i j) turn'
+  turned-at j li lj p e w' rows' turn' s m f g = record {
     copy = record {
       sized = record { some = c.sized.some; few = c.sized.few; room = omega (arith, c.sized.room, ap length s.taken, length-set w (i * N + j) (cell N w i j - 1)) };
       labels = s.labels;

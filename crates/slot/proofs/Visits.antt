@@ -1,4 +1,5 @@
 -- Turn by turn the working copy, the taken outputs and the outputs by input are what the rule's visits give; after N visits, its slot.
+use Rattle.labels.specs.Ports.{Outputs}
 use mathlib.Core.Path.{◌≡◌, refl, sym, ap, ap₂, ◌∙◌, subst}
 use mathlib.Core.Logic.{◌≢◌}
 use mathlib.Core.Bool.{true}
@@ -30,18 +31,18 @@ use Rattle.slot.specs.Filled.{left_in, leftover, Copy, Seats, taken_of, turn_of,
 use Rattle.slot.proofs.Turns.{every-free, asking-same, turn-idle, turned_none}
 
 -- the first v visits of slot s, begun with the working copy w₀
-pub record Visiting (N s v : ℕ) (w₀ w lows highs out : List ℕ) (turn : Turn) : Type 0 where
-  pub copy : Copy N turn.rest w lows highs
+pub record Visiting (N s v : ℕ) (w₀ w : List ℕ) (rows : List Outputs) (out : List ℕ) (turn : Turn) : Type 0 where
+  pub copy : Copy N turn.rest w rows
   pub cells : (a b : ℕ) → a < N → b < N → cell N w a b ≡ peel 1 (visits N (cell N w₀) s v).outputs (cell N w₀) a b
   pub taken : (b : ℕ) → b < N → taken_of (outputs_of turn.free) b ≡ (visits N (cell N w₀) s v).taken b
   pub seated : (q : ℕ) → q < v → get_or out ((q + s) % N) 255 ≡ (visits N (cell N w₀) s v).outputs ((q + s) % N)
   pub ahead : (q : ℕ) → v ≤ q → q < N → get_or out ((q + s) % N) 255 ≡ 255
   pub seats : Seats N out
 
-pub visiting-none : (N s : ℕ) (w lows highs out : List ℕ) (turn : Turn) → Copy N turn.rest w lows highs → N ≤ length out → ((i : ℕ) → get_or out i 255 ≡ 255)
-    → ((k : ℕ) → k < 128 → In (outputs_of turn.free) k) → Visiting N s 0 w w lows highs out turn
+pub visiting-none : (N s : ℕ) (w : List ℕ) (rows : List Outputs) (out : List ℕ) (turn : Turn) → Copy N turn.rest w rows → N ≤ length out → ((i : ℕ) → get_or out i 255 ≡ 255)
+    → ((k : ℕ) → k < 128 → In (outputs_of turn.free) k) → Visiting N s 0 w w rows out turn
 unfolding visits
-visiting-none N s w lows highs out turn c l o h = record {
+visiting-none N s w rows out turn c l o h = record {
   copy = c;
   cells = λ a b la lb. sym (peel-off 1 (λ _. 255) (cell N w) a b (omega (arith, c.sized.few)));
   taken = λ b lb. every-free (outputs_of turn.free) b (h b (omega (arith, c.sized.few)));
@@ -50,7 +51,7 @@ visiting-none N s w lows highs out turn c l o h = record {
   seats = record { wide = l; idle = λ i _. o i };
 }
 
-module _ (N s v : ℕ) (w₀ w lows highs out : List ℕ) (turn : Turn) (lv : v < N) (g : Visiting N s v w₀ w lows highs out turn) where
+module _ (N s v : ℕ) (w₀ w : List ℕ) (rows : List Outputs) (out : List ℕ) (turn : Turn) (lv : v < N) (g : Visiting N s v w₀ w rows out turn) where
   abbrev M : ℕ → ℕ → ℕ
   M = cell N w₀
 
@@ -82,7 +83,7 @@ module _ (N s v : ℕ) (w₀ w lows highs out : List ℕ) (turn : Turn) (lv : v 
   next : visits N (cell N w₀) s (v + 1) ≡ seat (visits N (cell N w₀) s v) i (turn_of N w (outputs_of turn.free) i)
   next = visits-next N (cell N w₀) s v ∙ ap (seat x i) (sym given)
 
-  module _ (w' lows' highs' out' : List ℕ) (turn' : Turn) (t : Turned N i w out turn w' lows' highs' out' turn') where
+  module _ (w' : List ℕ) (rows' : List Outputs) (out' : List ℕ) (turn' : Turn) (t : Turned N i w out turn w' rows' out' turn') where
     abbrev j : ℕ
     j = turn_of N w (outputs_of turn.free) i
 
@@ -126,7 +127,7 @@ module _ (N s v : ℕ) (w₀ w lows highs out : List ℕ) (turn : Turn) (lv : v 
     idle' : (a : ℕ) → N ≤ a → get_or out' a 255 ≡ 255
     idle' a l = ap (λ (o : List ℕ). get_or o a 255) t.seated ∙ get_or-set_other out i a j 255 (λ e. omega (arith, li)) ∙ g.seats.idle a l
 
-    pub visiting-next : Visiting N s (v + 1) w₀ w' lows' highs' out' turn'
+    pub visiting-next : Visiting N s (v + 1) w₀ w' rows' out' turn'
     unfolding seat
     visiting-next = record {
       copy = t.copy;
@@ -138,22 +139,22 @@ module _ (N s v : ℕ) (w₀ w lows highs out : List ℕ) (turn : Turn) (lv : v 
     }
 
   -- an input without slots left need not be visited
-  pub visiting-skip : ((b : ℕ) → b < N → cell N w₀ ((v + s) % N) b ≡ 0) → Visiting N s (v + 1) w₀ w lows highs out turn
+  pub visiting-skip : ((b : ℕ) → b < N → cell N w₀ ((v + s) % N) b ≡ 0) → Visiting N s (v + 1) w₀ w rows out turn
   visiting-skip empty =
-      visiting-next w lows highs out turn
-      (turned_none N i w lows highs out turn g.copy (turn-idle N w (outputs_of turn.free) i (λ b lb. fresh b lb ∙ empty b lb)) (g.ahead v (omega arith) lv) turn refl refl
+      visiting-next w rows out turn
+      (turned_none N i w rows out turn g.copy (turn-idle N w (outputs_of turn.free) i (λ b lb. fresh b lb ∙ empty b lb)) (g.ahead v (omega arith) lv) turn refl refl
       _ (g.copy.labels.row i li) (asking-same _ i _))
 
 -- nor need any number of them
-pub visiting-skips : (N s : ℕ) (w₀ w lows highs out : List ℕ) (turn : Turn) (v k : ℕ) → v + k ≤ N → ((q : ℕ) → v ≤ q → q < v + k → (b : ℕ) → b < N → cell N w₀ ((q + s) % N) b ≡ 0)
-    → Visiting N s v w₀ w lows highs out turn → Visiting N s (v + k) w₀ w lows highs out turn
-visiting-skips N s w₀ w lows highs out turn v zero l e g = subst (λ (x : ℕ). Visiting N s x w₀ w lows highs out turn) (let z : v ≡ v + 0 = omega arith in z) g
-visiting-skips N s w₀ w lows highs out turn v (suc k) l e g =
-    subst (λ (x : ℕ). Visiting N s x w₀ w lows highs out turn) (let z : v + k + 1 ≡ v + suc k = omega arith in z)
-    (visiting-skip N s (v + k) w₀ w lows highs out turn (omega arith) (visiting-skips N s w₀ w lows highs out turn v k (omega arith) (λ q a b. e q a (omega arith)) g) (e (v + k) (omega arith) (omega arith)))
+pub visiting-skips : (N s : ℕ) (w₀ w : List ℕ) (rows : List Outputs) (out : List ℕ) (turn : Turn) (v k : ℕ) → v + k ≤ N → ((q : ℕ) → v ≤ q → q < v + k → (b : ℕ) → b < N → cell N w₀ ((q + s) % N) b ≡ 0)
+    → Visiting N s v w₀ w rows out turn → Visiting N s (v + k) w₀ w rows out turn
+visiting-skips N s w₀ w rows out turn v zero l e g = subst (λ (x : ℕ). Visiting N s x w₀ w rows out turn) (let z : v ≡ v + 0 = omega arith in z) g
+visiting-skips N s w₀ w rows out turn v (suc k) l e g =
+    subst (λ (x : ℕ). Visiting N s x w₀ w rows out turn) (let z : v + k + 1 ≡ v + suc k = omega arith in z)
+    (visiting-skip N s (v + k) w₀ w rows out turn (omega arith) (visiting-skips N s w₀ w rows out turn v k (omega arith) (λ q a b. e q a (omega arith)) g) (e (v + k) (omega arith) (omega arith)))
 
 -- all inputs are visited
-module _ (N s : ℕ) (w₀ w lows highs out : List ℕ) (turn : Turn) (g : Visiting N s N w₀ w lows highs out turn) where
+module _ (N s : ℕ) (w₀ w : List ℕ) (rows : List Outputs) (out : List ℕ) (turn : Turn) (g : Visiting N s N w₀ w rows out turn) where
   pos : 0 < N
   pos = g.copy.sized.some
 
@@ -170,7 +171,7 @@ module _ (N s : ℕ) (w₀ w lows highs out : List ℕ) (turn : Turn) (g : Visit
           subst (λ (z : ℕ). get_or out z 255 ≡ (visits N (cell N w₀) s N).outputs z) r.2 (g.seated r.0 r.1)
       at k (no h) = g.seats.idle k (omega arith) ∙ sym (slot-idle N pos small' (cell N w₀) s k (omega arith))
 
-  pub visited-all : left_in N w₀ ≢ 0 → Filled N s w₀ w lows highs out turn.rest
+  pub visited-all : left_in N w₀ ≢ 0 → Filled N s w₀ w rows out turn.rest
   visited-all ne = record { copy = g.copy; seats = g.seats; more = more }
     where
       more : leftover (length out) N s w₀ ≡ record { hold = 1; outputs = out } ∷ leftover (length out) N (s + 1) w

@@ -1,4 +1,5 @@
 -- Inner: one slot on a working copy with a label for each input: what each turn may assume and what it promises. Definitions only.
+use Rattle.labels.specs.Ports.{Outputs}
 use Rattle.std.specs.Prelude.{◌≡◌, Bool, true, not, List, ◌∷◌, ℕ, ◌+◌, ◌≤◌, ◌<◌, length, get_or, set}
 use Rattle.counting.specs.Sum.{sum}
 use Rattle.counting.specs.Matrix.{row}
@@ -23,9 +24,9 @@ unfoldable pub leftover : (W N s : ℕ) (w : List ℕ) → List Record
 leftover W N s w = quick_from W N s (cell N w)
 
 -- a working copy with its labels, and what is left of it to serve
-pub record Copy (N : ℕ) (rest : Rest) (w lows highs : List ℕ) : Type 0 where
+pub record Copy (N : ℕ) (rest : Rest) (w : List ℕ) (rows : List Outputs) : Type 0 where
   pub sized : Sized N w
-  pub labels : Labelled N w lows highs
+  pub labels : Labelled N w rows
   pub all : rest.left ≡ left_in N w
   pub inside : (i : ℕ) → In (inputs_of rest.inputs) i → i < N
   pub others : (i : ℕ) → i < N → (In (inputs_of rest.inputs) i → ⊥) → (j : ℕ) → j < N → cell N w i j ≡ 0
@@ -44,8 +45,8 @@ unfoldable pub turn_of : (N : ℕ) (w : List ℕ) (free i : ℕ) → ℕ
 turn_of N w free i = lowest N 0 (may (cell N w) (taken_of free) i)
 
 -- input i has had its turn: what it takes stands among the outputs, one slot of that pair is subtracted, and the output is taken
-pub record Turned (N i : ℕ) (w out : List ℕ) (turn : Turn) (w' lows' highs' out' : List ℕ) (turn' : Turn) : Type 0 where
-  pub copy : Copy N turn'.rest w' lows' highs'
+pub record Turned (N i : ℕ) (w out : List ℕ) (turn : Turn) (w' : List ℕ) (rows' : List Outputs) (out' : List ℕ) (turn' : Turn) : Type 0 where
+  pub copy : Copy N turn'.rest w' rows'
   pub seated : out' ≡ set out i (turn_of N w (outputs_of turn.free) i)
   pub cells : (a b : ℕ) → a < N → b < N → cell N w' a b ≡ peel 1 (put (λ _. 255) i (turn_of N w (outputs_of turn.free) i)) (cell N w) a b
   pub taken : (b : ℕ) → b < N → taken_of (outputs_of turn'.free) b ≡ put (taken_of (outputs_of turn.free)) (turn_of N w (outputs_of turn.free) i) true b
@@ -55,10 +56,10 @@ abbrev pub Waiting : (N l : ℕ) (out : List ℕ) → Type 0
 Waiting N l out = (i : ℕ) → In l i → (i < N) × (get_or out i 255 ≡ 255)
 
 -- the inputs of l have had their turns, the lowest first
-pub data Visited (N : ℕ) : ℕ → List ℕ → List ℕ → List ℕ → List ℕ → Turn → List ℕ → List ℕ → List ℕ → List ℕ → Turn → Type 0 where
-  none : {l : ℕ} {w lows highs out : List ℕ} {turn : Turn} → ((i : ℕ) → In l i → ⊥) → Visited N l w lows highs out turn w lows highs out turn
-  next : {l i r : ℕ} {w lows highs out w₁ lows₁ highs₁ out₁ w' lows' highs' out' : List ℕ} {turn turn₁ turn' : Turn} → LowestAt 128 l i → Cleared l i r
-      → Turned N i w out turn w₁ lows₁ highs₁ out₁ turn₁ → Visited N r w₁ lows₁ highs₁ out₁ turn₁ w' lows' highs' out' turn' → Visited N l w lows highs out turn w' lows' highs' out' turn'
+pub data Visited (N : ℕ) : ℕ → List ℕ → List Outputs → List ℕ → Turn → List ℕ → List Outputs → List ℕ → Turn → Type 0 where
+  none : {l : ℕ} {w : List ℕ} {rows : List Outputs} {out : List ℕ} {turn : Turn} → ((i : ℕ) → In l i → ⊥) → Visited N l w rows out turn w rows out turn
+  next : {l i r : ℕ} {w : List ℕ} {rows : List Outputs} {out w₁ : List ℕ} {rows₁ : List Outputs} {out₁ w' : List ℕ} {rows' : List Outputs} {out' : List ℕ} {turn turn₁ turn' : Turn} → LowestAt 128 l i → Cleared l i r
+      → Turned N i w out turn w₁ rows₁ out₁ turn₁ → Visited N r w₁ rows₁ out₁ turn₁ w' rows' out' turn' → Visited N l w rows out turn w' rows' out' turn'
 
 -- r has the inputs of l, but i may be gone where its label is empty
 pub record StillAsking (row i l r : ℕ) : Type 0 where
@@ -66,7 +67,7 @@ pub record StillAsking (row i l r : ℕ) : Type 0 where
   pub gone : (k : ℕ) → In l k → (In r k → ⊥) → (k ≡ i) × ((j : ℕ) → In row j → ⊥)
 
 -- slot s is filled: what was still to come is its record and what is still to come
-pub record Filled (N s : ℕ) (w w' lows' highs' out' : List ℕ) (rest' : Rest) : Type 0 where
-  pub copy : Copy N rest' w' lows' highs'
+pub record Filled (N s : ℕ) (w w' : List ℕ) (rows' : List Outputs) (out' : List ℕ) (rest' : Rest) : Type 0 where
+  pub copy : Copy N rest' w' rows'
   pub seats : Seats N out'
   pub more : leftover (length out') N s w ≡ record { hold = 1; outputs = out' } ∷ leftover (length out') N (s + 1) w'

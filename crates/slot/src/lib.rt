@@ -9,7 +9,7 @@ ghost use Rattle.labels.specs.Ports.{inputs_of, outputs_of};
 ghost use Rattle.slot.specs.Filled.{Copy, Waiting, Turned, Visited, StillAsking, Filled};
 
 use board::take;
-use labels::{FoundInput, FoundOutput, Inputs, Outputs, row_of};
+use labels::{Inputs, Outputs, row_of};
 use records::IDLE;
 use switch::InputPort;
 
@@ -32,24 +32,23 @@ pub struct Turn {
 pub fn fill_slot(
     n: usize,
     work: &mut [u32],
-    lows: &mut [u64],
-    highs: &mut [u64],
+    rows: &mut [Outputs],
     rest: Rest,
     s: usize,
     out: &mut [u8],
 ) -> Rest
-    requires { Copy n rest work.old lows.old highs.old × (n ≤ length out.old) × (0 < rest.left) }
-    ensures { Filled n s work.old work.new lows.new highs.new out.new result }
+    requires { Copy n rest work.old rows.old × (n ≤ length out.old) × (0 < rest.left) }
+    ensures { Filled n s work.old work.new rows.new out.new result }
 {
     idle_all(out);
     let first = InputPort(s % n);
     let inputs = rest.inputs;
     let begun = Turn {
         free: Outputs::every(),
-        rest: rest,
+        rest,
     };
-    let half = visit_each(n, work, lows, highs, inputs.from(first), begun, out);
-    let whole = visit_each(n, work, lows, highs, inputs.below(first), half, out);
+    let half = visit_each(n, work, rows, inputs.from(first), begun, out);
+    let whole = visit_each(n, work, rows, inputs.below(first), half, out);
     whole.rest
 }
 
@@ -57,59 +56,51 @@ pub fn fill_slot(
 pub fn idle_all(out: &mut [u8])
     ensures { (i : ℕ) → get_or out.new i 255 ≡ 255 }
 {
-    for i in 0..out.len() {
-        out[i] = IDLE;
-    }
+    out.fill(IDLE);
 }
 
 // These inputs have their turns, the lowest first.
 fn visit_each(
     n: usize,
     work: &mut [u32],
-    lows: &mut [u64],
-    highs: &mut [u64],
+    rows: &mut [Outputs],
     inputs: Inputs,
     begun: Turn,
     out: &mut [u8],
 ) -> Turn
-    requires { Copy n begun.rest work.old lows.old highs.old × (n ≤ length out.old) × Waiting n (inputs_of inputs) out.old }
-    ensures { Visited n (inputs_of inputs) work.old lows.old highs.old out.old begun work.new lows.new highs.new out.new result }
+    requires { Copy n begun.rest work.old rows.old × (n ≤ length out.old) × Waiting n (inputs_of inputs) out.old }
+    ensures { Visited n (inputs_of inputs) work.old rows.old out.old begun work.new rows.new out.new result }
 {
     let mut ahead = inputs;
     let mut turn = begun;
-    loop {
-        let f = ahead.lowest();
-        let FoundInput::At(i) = f else {
-            return turn;
-        };
-        turn = visit(n, work, lows, highs, i, turn, out);
+    while let Some(i) = ahead.lowest() {
+        turn = visit(n, work, rows, i, turn, out);
         ahead = ahead.without_lowest();
     }
+    turn
 }
 
 // One input's turn: the lowest output that is free and for which it has slots left is its own for this slot, or it stays idle (§8.1).
 fn visit(
     n: usize,
     work: &mut [u32],
-    lows: &mut [u64],
-    highs: &mut [u64],
+    rows: &mut [Outputs],
     i: InputPort,
     turn: Turn,
     out: &mut [u8],
 ) -> Turn
-    requires { Copy n turn.rest work.old lows.old highs.old × (i.0 < n) × (n ≤ length out.old) × (get_or out.old i.0 255 ≡ 255) }
-    ensures { Turned n i.0 work.old out.old turn work.new lows.new highs.new out.new result }
+    requires { Copy n turn.rest work.old rows.old × (i.0 < n) × (n ≤ length out.old) × (get_or out.old i.0 255 ≡ 255) }
+    ensures { Turned n i.0 work.old out.old turn work.new rows.new out.new result }
 {
     let port = i.0;
     let free = turn.free;
     let rest = turn.rest;
     let inputs = rest.inputs;
-    let row = row_of(lows, highs, i);
+    let row = row_of(rows, i);
     let both = row.common(free);
-    let f = both.lowest();
-    let FoundOutput::At(j) = f else {
+    let Some(j) = both.lowest() else {
         return Turn {
-            free: free,
+            free,
             rest: Rest {
                 inputs: still_asking(inputs, i, row),
                 left: rest.left,
@@ -117,11 +108,11 @@ fn visit(
         };
     };
     out[port] = j.0 as u8;
-    take(work, n, lows, highs, i, j, 1);
+    take(work, n, rows, i, j, 1);
     Turn {
         free: free.without(j),
         rest: Rest {
-            inputs: inputs,
+            inputs,
             left: rest.left - 1,
         },
     }
@@ -132,9 +123,8 @@ fn still_asking(inputs: Inputs, i: InputPort, row: Outputs) -> Inputs
     requires { i.0 < 128 }
     ensures { StillAsking (outputs_of row) i.0 (inputs_of inputs) (inputs_of result) }
 {
-    let f = row.lowest();
-    match f {
-        FoundOutput::At(_) => inputs,
-        FoundOutput::Nothing => inputs.without(i),
+    match row.lowest() {
+        Some(_) => inputs,
+        None => inputs.without(i),
     }
 }

@@ -1,4 +1,5 @@
 -- An outcome is told by its numbers: the refusal can be read back from its code, its place and its side.
+use Rattle.std.specs.Prelude.{Err, Ok}
 use mathlib.Core.Path.{◌≡◌, refl, sym, ap, ◌∙◌}
 use mathlib.Core.Bool.{cond}
 use Prim.Native.Nat.{ℕ}
@@ -11,8 +12,7 @@ use Rattle.switch.specs.declared.Refusal.{Refusal}
 use Rattle.switch.specs.declared.Refusal.TheVariants.{Ports, Cells, Line, Longest, Room, NotFinite, BelowZero, AboveMost}
 use Rattle.switch.specs.declared.Refusal.TheVariants.{Torn, Records, Malformed, Named, Uncovered}
 use Rattle.switch.specs.declared.Refusal.TheVariants.{LongestOver, NotInForce, FirstOver, ListRoom, Limit}
-use Rattle.switch.specs.declared.Outcome.{Outcome}
-use Rattle.switch.specs.declared.Outcome.TheVariants.{Done, Refused}
+use Rattle.switch.specs.Outcome.{Outcome}
 
 -- code 3 names a line by its side, or none
 line_from : ℕ → ℕ → Refusal
@@ -43,37 +43,37 @@ refusal_from : ℕ → ℕ → ℕ → Refusal
 refusal_from c p s = early c p s (middle c p (late c p))
 
 outcome_from : Numbers → Outcome
-outcome_from a = cond (eqb a.code 0) (Done a.counts) (Refused (refusal_from a.code a.place a.side))
+outcome_from a = cond (eqb a.code 0) (Ok a.counts) (Err (refusal_from a.code a.place a.side))
 
 told : (o : Outcome) → outcome_from (numbers_of o) ≡ o
 unfolding outcome_from refusal_from early middle late line_from
-told (Done c) = refl
-told (Refused Ports) = refl
-told (Refused (Cells k)) = refl
-told (Refused (Line (Input p))) = refl
-told (Refused (Line (Output p))) = refl
-told (Refused Longest) = refl
-told (Refused (Room k)) = refl
-told (Refused (NotFinite k)) = refl
-told (Refused (BelowZero k)) = refl
-told (Refused (AboveMost k)) = refl
-told (Refused (Torn k)) = refl
-told (Refused (Records k)) = refl
-told (Refused (Malformed k)) = refl
-told (Refused (Named k)) = refl
-told (Refused (Uncovered k)) = refl
-told (Refused LongestOver) = refl
-told (Refused NotInForce) = refl
-told (Refused (FirstOver k)) = refl
-told (Refused (ListRoom k)) = refl
-told (Refused Limit) = refl
+told (Ok c) = refl
+told (Err Ports) = refl
+told (Err (Cells k)) = refl
+told (Err (Line (Input p))) = refl
+told (Err (Line (Output p))) = refl
+told (Err Longest) = refl
+told (Err (Room k)) = refl
+told (Err (NotFinite k)) = refl
+told (Err (BelowZero k)) = refl
+told (Err (AboveMost k)) = refl
+told (Err (Torn k)) = refl
+told (Err (Records k)) = refl
+told (Err (Malformed k)) = refl
+told (Err (Named k)) = refl
+told (Err (Uncovered k)) = refl
+told (Err LongestOver) = refl
+told (Err NotInForce) = refl
+told (Err (FirstOver k)) = refl
+told (Err (ListRoom k)) = refl
+told (Err Limit) = refl
 
 -- outcomes with the same code, place, side and counts are the same
 pub answer-tells : (o p : Outcome) → numbers_of o ≡ numbers_of p → o ≡ p
 answer-tells o p e = sym (told o) ∙ ap outcome_from e ∙ told p
 
 -- code 0 is given to what is done, and to nothing else
-pub code-done : (o : Outcome) → code_of o ≡ 0 → o ≡ Done (counts_of o)
+pub code-done : (o : Outcome) → code_of o ≡ 0 → o ≡ Ok (counts_of o)
 unfolding outcome_from
 code-done o e = sym (told o) ∙ rw (eq-eqb (code_of o) 0 e)
 

@@ -2,7 +2,7 @@
 use mathlib.Core.Path.{◌≡◌, sym, ap, ◌∙◌}
 use mathlib.Core.List.{List}
 use Prim.Native.Nat.{ℕ}
-use Rattle.switch.specs.declared.Outcome.{Outcome}
+use Rattle.switch.specs.Outcome.{Outcome}
 use Rattle.switch.specs.Result.{Result, Gives}
 use Rattle.switch.proofs.Answer.{determined}
 

@@ -1,4 +1,5 @@
 -- The numbers on paper for each case of an answer: code, place, side, records, T, total, length and empty slots; and what a refusal is about. Definitions only.
+use Rattle.std.specs.Prelude.{Err, Ok}
 use Rattle.std.specs.Prelude.{ℕ}
 use Rattle.switch.specs.declared.Side.{Side}
 use Rattle.switch.specs.declared.Side.TheVariants.{Input, Output}
@@ -8,10 +9,10 @@ use Rattle.switch.specs.declared.Refusal.TheVariants.{Torn, Records, Malformed, 
 use Rattle.switch.specs.declared.Refusal.TheVariants.{LongestOver, NotInForce, FirstOver, ListRoom, Limit}
 use Rattle.switch.specs.declared.About.{About}
 use Rattle.switch.specs.declared.About.TheVariants as about
+use Rattle.switch.specs.declared.Blamed.{Blamed}
 use Rattle.switch.specs.declared.Numbers.{Numbers}
 use Rattle.switch.specs.declared.Counts.{Counts}
-use Rattle.switch.specs.declared.Outcome.{Outcome}
-use Rattle.switch.specs.declared.Outcome.TheVariants.{Done, Refused}
+use Rattle.switch.specs.Outcome.{Outcome}
 
 -- the table of codes (§9.7)
 abbrev pub refusal_code : Refusal → ℕ
@@ -86,26 +87,30 @@ refusal_side (FirstOver k) = 0
 refusal_side (ListRoom k) = 0
 refusal_side Limit = 0
 
+-- a refusal with what it is about
+abbrev pub blamed : About → Refusal → Blamed
+blamed a r = record { about = a; refusal = r }
+
 -- code 0: nothing refused
 abbrev pub code_of : Outcome → ℕ
-code_of (Done c) = 0
-code_of (Refused r) = refusal_code r
+code_of (Ok c) = 0
+code_of (Err r) = refusal_code r
 
 abbrev pub place_of : Outcome → ℕ
-place_of (Done c) = 0
-place_of (Refused r) = refusal_place r
+place_of (Ok c) = 0
+place_of (Err r) = refusal_place r
 
 abbrev pub side_of : Outcome → ℕ
-side_of (Done c) = 0
-side_of (Refused r) = refusal_side r
+side_of (Ok c) = 0
+side_of (Err r) = refusal_side r
 
 -- a refusal counts nothing (§9.6)
 abbrev pub no_counts : Counts
 no_counts = record { records = 0; longest = 0; total = 0; length = 0; empty = 0 }
 
 abbrev pub counts_of : Outcome → Counts
-counts_of (Done c) = c
-counts_of (Refused r) = no_counts
+counts_of (Ok c) = c
+counts_of (Err r) = no_counts
 
 -- inner: what a call answers on paper; what does not apply is 0
 abbrev pub numbers_of : (o : Outcome) → Numbers

@@ -6,3 +6,4 @@ pub mod Sound
 pub mod Empty
 pub mod Result
 pub mod Editions
+pub mod Outcome

@@ -1,9 +1,9 @@
 -- What a call that writes lent memory gives: its outcome, and the memory's contents afterwards. Definitions only.
+use Rattle.std.specs.Prelude.{Err, Ok}
 use Rattle.std.specs.Prelude.{◌≡◌, Bool, cond, List, ℕ}
 use Rattle.switch.specs.declared.Refusal.{Refusal}
 use Rattle.switch.specs.declared.Counts.{Counts}
-use Rattle.switch.specs.declared.Outcome.{Outcome}
-use Rattle.switch.specs.declared.Outcome.TheVariants.{Done, Refused}
+use Rattle.switch.specs.Outcome.{Outcome}
 
 pub record Result : Type 0 where
   pub outcome : Outcome
@@ -11,7 +11,7 @@ pub record Result : Type 0 where
 
 -- a refusal changes nothing that is lent
 abbrev pub refuses : (r : Refusal) (lent : List ℕ) → Result
-refuses r lent = record { outcome = Refused r; bytes = lent }
+refuses r lent = record { outcome = Err r; bytes = lent }
 
 -- refusals in the order in which they are tried: refused where the test fails, and else what follows
 abbrev pub unless : {A : Type 0} → Bool → A → A → A
@@ -19,8 +19,8 @@ unless fine refused next = cond fine next refused
 
 -- what follows an outcome: one thing for its refusal, another for its counts
 abbrev pub by_outcome : {A : Type 0} → Outcome → (Refusal → A) → (Counts → A) → A
-by_outcome (Done c) refused go = go c
-by_outcome (Refused r) refused go = refused r
+by_outcome (Ok c) refused go = go c
+by_outcome (Err r) refused go = refused r
 
 -- what is read is refused by itself, and else what is done with its counts
 abbrev pub after_reading : (o : Outcome) (lent : List ℕ) (go : Counts → Result) → Result

@@ -5,7 +5,7 @@
 
 ghost use Rattle.std.specs.Prelude.{◌≡◌};
 ghost use Rattle.switch.specs.Editions.{first_edition, second_edition};
-ghost use Rattle.switch.specs.Answer.{refusal_code, refusal_place, refusal_side, no_counts, numbers_of, about_number};
+ghost use Rattle.switch.specs.Answer.{refusal_code, refusal_place, refusal_side, no_counts, blamed, numbers_of, about_number};
 
 // N is 1 to 64.
 pub const PORTS: usize = 64;
@@ -99,7 +99,27 @@ pub enum About {
     Sum,
 }
 
+// A refusal, and what it is about.
+#[derive(Clone, Copy)]
+pub struct Blamed {
+    pub about: About,
+    pub refusal: Refusal,
+}
+
+impl Refusal {
+    // The refusal with what it is about.
+    pub fn about(self, about: About) -> Blamed
+        ensures { result ≡ blamed about self }
+    {
+        Blamed {
+            about,
+            refusal: self,
+        }
+    }
+}
+
 // What a call counted; what does not apply is 0.
+// C's answer has each of the five, as the calls' definitions have, so that none is an Option.
 #[derive(Clone, Copy)]
 pub struct Counts {
     pub records: usize,
@@ -111,13 +131,10 @@ pub struct Counts {
 }
 
 // What a call answers.
-#[derive(Clone, Copy)]
-pub enum Outcome {
-    Done(Counts),
-    Refused(Refusal),
-}
+pub type Outcome = Result<Counts, Refusal>;
 
 // An outcome on paper.
+// C and the lister take numbers alone, and what is not there is 0 for them.
 #[derive(Clone, Copy)]
 pub struct Numbers {
     // 0 where nothing is refused.
@@ -133,13 +150,13 @@ pub fn numbers_of(o: Outcome) -> Numbers
     ensures { result ≡ numbers_of o }
 {
     match o {
-        Outcome::Done(counts) => Numbers {
+        Ok(counts) => Numbers {
             code: 0,
             place: 0,
             side: 0,
             counts,
         },
-        Outcome::Refused(r) => refused(entry_of(r)),
+        Err(r) => refused(entry_of(r)),
     }
 }
 
@@ -196,6 +213,7 @@ fn refused(entry: Entry) -> Numbers
 }
 
 // The number of what a refusal is about.
+// C reads these numbers in an answer.
 pub fn about_number(about: About) -> u64
     ensures { result ≡ about_number about }
 {

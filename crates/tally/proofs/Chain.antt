@@ -11,7 +11,8 @@ use lib.ListN.{get_or}
 use borrow.Author.Tests.{eq-eqb, ne_eqb}
 use Rattle.records.specs.Record.{outputs}
 use Rattle.records.specs.Bytes.{record_at}
-use Rattle.tally.specs.Table.{entry_setting, buckets, bucket_of, last_in, entry_bucket, Chained, Found}
+use Rattle.tally.specs.declared.Entry.{Entry}
+use Rattle.tally.specs.Table.{entry_at, entry_setting, buckets, bucket_of, last_in, entry_bucket, Chained}
 
 -- ---- the last entry of a bucket
 
@@ -58,39 +59,36 @@ last-cong f g b (suc n) h = by (ℕ_discrete (f n) b) (last-cong f g b n (λ e l
 -- ---- looking for a setting
 
 -- the setting of an entry, as the code reads it
-pub read-entry : (W : ℕ) (plan firsts : List ℕ) (e k : ℕ) → k ≡ get_or firsts e 0 → (o : List ℕ) → o ≡ outputs (record_at W plan k) → o ≡ entry_setting W plan firsts e
-read-entry W plan firsts e k q o s = s ∙ ap (λ (i : ℕ). outputs (record_at W plan i)) q
+pub read-entry : (W : ℕ) (plan : List ℕ) (first k : ℕ) → k ≡ first → (o : List ℕ) → o ≡ outputs (record_at W plan k) → o ≡ outputs (record_at W plan first)
+read-entry W plan first k q o s = s ∙ ap (λ (i : ℕ). outputs (record_at W plan i)) q
 
 -- the chain stands before entry link - 1, and no entry from link on has the setting
-pub record Looking (W : ℕ) (plan : List ℕ) (count : ℕ) (firsts setting : List ℕ) (link : ℕ) : Type 0 where
+pub record Looking (W : ℕ) (plan : List ℕ) (count : ℕ) (table : List Entry) (setting : List ℕ) (link : ℕ) : Type 0 where
   pub inside : link ≤ count
-  pub shares : (e : ℕ) → link ≡ suc e → entry_bucket W plan firsts e ≡ bucket_of setting
-  pub passed : (i : ℕ) → link ≤ i → i < count → entry_setting W plan firsts i ≡ setting → ⊥
+  pub shares : (e : ℕ) → link ≡ suc e → entry_bucket W plan table e ≡ bucket_of setting
+  pub passed : (i : ℕ) → link ≤ i → i < count → entry_setting W plan (entry_at table i) ≡ setting → ⊥
 
-module _ (W : ℕ) (plan : List ℕ) (count : ℕ) (heads nexts firsts setting : List ℕ) (c : Chained W plan count heads nexts firsts) where
-  pub look-first : (b link : ℕ) → b ≡ bucket_of setting → b < buckets → link ≡ get_or heads b 0 → Looking W plan count firsts setting link
+module _ (W : ℕ) (plan : List ℕ) (count : ℕ) (heads : List ℕ) (table : List Entry) (setting : List ℕ) (c : Chained W plan count heads table) where
+  pub look-first : (b link : ℕ) → b ≡ bucket_of setting → b < buckets → link ≡ get_or heads b 0 → Looking W plan count table setting link
   look-first b link s l q =
-      let e : link ≡ last_in (entry_bucket W plan firsts) b count = q ∙ c.head b l in
-      let t = last-is (entry_bucket W plan firsts) b count in record {
+      let e : link ≡ last_in (entry_bucket W plan table) b count = q ∙ c.head b l in
+      let t = last-is (entry_bucket W plan table) b count in record {
         inside = omega (arith, t.inside);
         shares = λ e' k. t.shares e' (sym e ∙ k) ∙ s;
         passed = λ i m n k. t.after i (omega arith) n (ap bucket_of k ∙ sym s);
       }
 
-  module _ (link : ℕ) (more : 0 < link) (k : Looking W plan count firsts setting link) where
+  module _ (link : ℕ) (more : 0 < link) (k : Looking W plan count table setting link) where
     pub look-inside : link - 1 < count
     look-inside = omega (arith, k.inside)
 
-    pub look-found : entry_setting W plan firsts (link - 1) ≡ setting → Found W plan count firsts setting (link - 1)
-    look-found s = record { inside = omega (arith, k.inside); here = λ _. s; none = λ q. absurd (let f : ⊥ = omega (arith, k.inside) in f) }
-
-    pub look-next : (entry_setting W plan firsts (link - 1) ≡ setting → ⊥) → (link' : ℕ) → link' ≡ get_or nexts (link - 1) 0
-        → (link' < link) × Looking W plan count firsts setting link'
+    pub look-next : (entry_setting W plan (entry_at table (link - 1)) ≡ setting → ⊥) → (link' : ℕ) → link' ≡ (entry_at table (link - 1)).next
+        → (link' < link) × Looking W plan count table setting link'
     look-next n link' q =
         let l : link ≡ suc (link - 1) = omega arith in
-        let own : entry_bucket W plan firsts (link - 1) ≡ bucket_of setting = k.shares (link - 1) l in
-        let e : link' ≡ last_in (entry_bucket W plan firsts) (entry_bucket W plan firsts (link - 1)) (link - 1) = q ∙ c.next (link - 1) look-inside in
-        let t = last-is (entry_bucket W plan firsts) (entry_bucket W plan firsts (link - 1)) (link - 1) in (
+        let own : entry_bucket W plan table (link - 1) ≡ bucket_of setting = k.shares (link - 1) l in
+        let e : link' ≡ last_in (entry_bucket W plan table) (entry_bucket W plan table (link - 1)) (link - 1) = q ∙ c.next (link - 1) look-inside in
+        let t = last-is (entry_bucket W plan table) (entry_bucket W plan table (link - 1)) (link - 1) in (
           omega (arith, t.inside),
           record {
             inside = omega (arith, t.inside, k.inside);
@@ -100,6 +98,3 @@ module _ (W : ℕ) (plan : List ℕ) (count : ℕ) (heads nexts firsts setting :
                 (λ m. dite (ℕ_discrete i (link - 1)) (λ h. n (rw h at s)) (λ h. k.passed i (omega arith) z s));
           },
         )
-
-  pub look_none : (link : ℕ) → link ≤ 0 → Looking W plan count firsts setting link → Found W plan count firsts setting count
-  look_none link z k = record { inside = omega arith; here = λ l. absurd (let f : ⊥ = omega arith in f); none = λ _ i. k.passed i (omega arith) }

@@ -1,7 +1,6 @@
 pub mod Same
 pub mod Sums
 pub mod Setting
-pub mod Bucket
 pub mod Chain
 pub mod Entries
 pub mod Grants

@@ -1,5 +1,6 @@
 -- What the reader accepts is a schedule: every record passed its tests, so each task rises from the one in front, hence from all before it, and
 -- one that shares a port with it is over when it starts.
+use Rattle.std.specs.Prelude.{Err, Ok}
 use mathlib.Core.Path.{◌≡◌, refl, sym, ap, ◌∙◌}
 use mathlib.Core.Logic.{inl, inr}
 use mathlib.Core.Bool.{Bool, true, false, cond, ◌&&◌, ◌||◌, not}
@@ -10,8 +11,7 @@ use native.Mathlib.Omega.{arith}
 use lib.ListN.{length}
 use lib.Dec.{ltb, leb, eqb}
 use borrow.Author.Tests.{ltb-true, ltb-false, leb-true, eqb-true, lt-ltb, le-ltb, eq-eqb, ne_eqb}
-use Rattle.switch.specs.declared.Outcome.{Outcome}
-use Rattle.switch.specs.declared.Outcome.TheVariants.{Done, Refused}
+use Rattle.switch.specs.Outcome.{Outcome}
 use Rattle.switch.specs.declared.Refusal.{Refusal}
 use Rattle.switch.specs.declared.Counts.{Counts}
 use Rattle.switch.specs.Answer.{plan_counts}
@@ -141,7 +141,7 @@ module _ (N : ℕ) (tasks : List ℕ) where
           here (no r) = deeper (let f : k + suc m ≤ cond true (faulty N tasks m (suc k)) k = rw q at e in omega arith) a (omega arith) (omega arith)
 
   -- a call that is done was refused by no test
-  done : (b : Bool) (r : Refusal) (o : Outcome) (c : Counts) → cond b o (Refused r) ≡ Done c → (b ≡ true) × (o ≡ Done c)
+  done : (b : Bool) (r : Refusal) (o : Outcome) (c : Counts) → cond b o (Err r) ≡ Ok c → (b ≡ true) × (o ≡ Ok c)
   done true r o c e = (refl, e)
   done false r o c e = absurd (let z : ◌≡◌ {A = ℕ} 0 1 = cc in omega arith)
 
@@ -153,7 +153,7 @@ module _ (N : ℕ) (tasks : List ℕ) where
       both true b q = (refl, q)
       both false b q = absurd (false-true q)
 
-  pub accepted : (c : Counts) → reading N tasks ≡ Done c → Accepts N tasks c
+  pub accepted : (c : Counts) → reading N tasks ≡ Ok c → Accepts N tasks c
   unfolding reading reading_in
   accepted c e =
       let m = length tasks / 12 in
@@ -171,5 +171,5 @@ module _ (N : ℕ) (tasks : List ℕ) where
         counts = same (sym j.1) ∙ ap (λ (k : ℕ). plan_counts k 0 (latest (tasks_of tasks))) (sym (tasks-length m 0));
       }
     where
-      same : {x y : Counts} → Done x ≡ Done y → x ≡ y
+      same : {x y : Counts} → ◌≡◌ {A = Outcome} (Ok x) (Ok y) → x ≡ y
       same q = cc

@@ -3,11 +3,11 @@
 use mathlib.Core.Path.{◌≡◌, refl, sym, ap, ◌∙◌}
 use mathlib.Core.Bool.{Bool, true, false, ◌&&◌, ◌||◌, not}
 use mathlib.Core.List.{List}
-use Prim.Native.Nat.{ℕ, zero, suc, ◌+◌, ◌*◌, ◌-◌, ◌≤◌, ◌<◌}
+use Prim.Native.Nat.{ℕ, zero, suc, ◌+◌, ◌≤◌, ◌<◌}
 use native.Mathlib.Decide.{ℕ_discrete, dec_lt}
 use native.Mathlib.Numerals.{add-one}
 use native.Mathlib.Omega.{arith}
-use lib.ListN.{length, get_or, set, take, drop, replicate}
+use lib.ListN.{length, get_or, set, replicate}
 use lib.Seq.{get_or-set_same, get_or-set_other}
 use lib.Dec.{ltb, leb, eqb}
 use borrow.Author.Tests.{ltb-true, ltb-false, lt-ltb, le-ltb, le-leb, eq-eqb, ne_eqb}
@@ -15,7 +15,6 @@ use Rattle.numbers.specs.Word.{word}
 use Rattle.shop_rule.specs.Task.{Task}
 use Rattle.tasks.specs.Bytes.{task_of, record_at}
 use Rattle.tasks.specs.Read.{alone, after, overlaps, overlaps_any, fine, follows, fits}
-use Rattle.tasks.proofs.Read.{part-record}
 
 -- ---- tests of tests
 
@@ -117,11 +116,6 @@ fit_is N b s o ins outs e =
       input-free = ltb-false (word b 4) (get_or ins (get_or b 0 0) 0) r.2;
       output-free = ltb-false (word b 4) (get_or outs (get_or b 1 0) 0) r.3;
     }
-
--- the test of the part that the code takes is that of its record
-pub part-fits : (N : ℕ) (tasks : List ℕ) (k s o : ℕ) (ins outs : List ℕ) (r : Bool) → r ≡ fits N (take (k * 12 + 12 - k * 12) (drop (k * 12) tasks)) s o ins outs
-    → fits N (record_at tasks k) s o ins outs ≡ r
-part-fits N tasks k s o ins outs r e = sym (e ∙ ap (λ (b : List ℕ). fits N b s o ins outs) (part-record tasks k))
 
 -- ---- what is kept decides
 

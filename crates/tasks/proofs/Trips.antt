@@ -1,4 +1,5 @@
 -- A schedule written and read again is the same; one that rises, no port with two tasks at a time, passes the reader with its own counts.
+use Rattle.std.specs.Prelude.{Ok}
 use mathlib.Core.Path.{◌≡◌, refl, sym, ap, ap₂, ◌∙◌, subst}
 use mathlib.Core.Logic.{inl, inr}
 use mathlib.Core.Bool.{Bool, true, false, ◌&&◌, ◌||◌, and-false}
@@ -11,7 +12,6 @@ use lib.Seq.{drop-drop}
 use lib.Dec.{ltb, eqb}
 use borrow.Author.Tests.{lt-ltb, le-ltb, eq-eqb, ne_eqb}
 use Rattle.numbers.specs.Word.{word}
-use Rattle.switch.specs.declared.Outcome.TheVariants.{Done}
 use Rattle.switch.specs.Answer.{plan_counts}
 use Rattle.shop_rule.specs.Task.{Task, Each, none, more, Ordered, nothing, before, Rises, Apart, latest}
 use Rattle.tasks.specs.Bytes.{task_of, encode, bytes, record_at, tasks_from}
@@ -163,9 +163,9 @@ module _ (N : ℕ) where
 
   -- what is written is read with the counts that it was written with
   pub written-reads : (p : List Task) → 0 < N → N ≤ 64 → Each Small p → Each (Fair N) p → Ordered Rises p → Ordered Apart p
-      → reading N (bytes p) ≡ Done (plan_counts (length p) 0 (latest p))
+      → reading N (bytes p) ≡ Ok (plan_counts (length p) 0 (latest p))
   written-reads p some few ss fs rs os =
       let size : length (bytes p) / 12 ≡ length p = omega (arith, bytes-size p) in
       let scan : faulty N (bytes p) (length p) 0 ≡ length p = none-faulty (bytes p) (length p) 0 (λ j l. let w : 0 + j ≡ j = omega arith in rw w (kept_fine N (bytes p) j (all-kept p ss fs rs os j l))) ∙ (let w : 0 + length p ≡ length p = omega arith in w) in
-      sym (subst (λ (m : ℕ). Done (plan_counts m 0 (latest p)) ≡ reading N (bytes p)) size
-      (reading-done N (bytes p) some few (omega (arith, bytes-size p)) (length p) (rw size (sym scan)) (latest p) (omega (arith, size)) (rw size (sym (ap latest (tasks-back ss))))))
+      sym (subst (λ (m : ℕ). Ok (plan_counts m 0 (latest p)) ≡ reading N (bytes p)) size
+      (reading-done N (bytes p) some few (omega (arith, bytes-size p)) (latest p) (rw size (scan, sym (ap latest (tasks-back ss))))))

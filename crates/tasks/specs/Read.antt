@@ -1,17 +1,18 @@
 -- Reading a schedule (§21.7): codes 1 and 9, then 11 for the first record that breaks a field rule or overlaps one before it on a port; else
 -- the number of tasks and the latest end. Definitions only.
+use Rattle.std.specs.Prelude.{Err, Ok}
 use Rattle.std.specs.Prelude.{◌≡◌, Bool, true, false, cond, ◌&&◌, ◌||◌, not, List, ℕ, zero, suc, ◌/◌, ◌%◌, ◌≤◌, ◌<◌, length, get_or, ltb, leb, eqb}
 use Rattle.numbers.specs.Word.{word}
+use Rattle.std.specs.declared.result.Result.{Result}
+use Rattle.switch.specs.declared.Refusal.{Refusal}
 use Rattle.switch.specs.declared.Counts.{Counts}
-use Rattle.switch.specs.declared.Outcome.{Outcome}
-use Rattle.switch.specs.declared.Outcome.TheVariants.{Done, Refused}
+use Rattle.switch.specs.Outcome.{Outcome}
 use Rattle.switch.specs.declared.Refusal.TheVariants.{Ports, Torn, Malformed}
 use Rattle.switch.specs.Answer.{plan_counts}
 use Rattle.switch.specs.Check.{ports_fine}
 use Rattle.switch.specs.Result.{unless}
 use Rattle.shop_rule.specs.Task.{Task, Each, Ordered, Rises, Apart, latest}
 use Rattle.tasks.specs.Bytes.{task_of, record_at, tasks_from, tasks_of}
-use Rattle.tasks.specs.declared.Judged.{Judged}
 
 -- a record's own rules: ports below N, zero bytes, start below end
 unfoldable pub alone : (N : ℕ) (b : List ℕ) → Bool
@@ -46,13 +47,13 @@ faulty N tasks (suc m) k = cond (fine N tasks k) (faulty N tasks m (suc k)) k
 
 -- m records
 unfoldable pub reading_in : (m N : ℕ) (tasks : List ℕ) → Outcome
-reading_in m N tasks = unless (leb m (faulty N tasks m 0)) (Refused (Malformed (faulty N tasks m 0))) (Done (plan_counts m 0 (latest (tasks_from tasks 0 m))))
+reading_in m N tasks = unless (leb m (faulty N tasks m 0)) (Err (Malformed (faulty N tasks m 0))) (Ok (plan_counts m 0 (latest (tasks_from tasks 0 m))))
 
 -- codes 1, 9 and 11; any number of records is read
 unfoldable pub reading : (N : ℕ) (tasks : List ℕ) → Outcome
 reading N tasks =
-    unless (ports_fine 64 N) (Refused Ports)
-    (unless (eqb (length tasks % 12) 0) (Refused (Torn (length tasks / 12)))
+    unless (ports_fine 64 N) (Err Ports)
+    (unless (eqb (length tasks % 12) 0) (Err (Torn (length tasks / 12)))
     (reading_in (length tasks / 12) N tasks))
 
 -- ---- what it means to be read
@@ -84,7 +85,7 @@ unfoldable pub fits : (N : ℕ) (b : List ℕ) (s o : ℕ) (ins outs : List ℕ)
 fits N b s o ins outs =
     alone N b && (follows s o (word b 4) (get_or b 1 0) && not (ltb (word b 4) (get_or ins (get_or b 0 0) 0) || ltb (word b 4) (get_or outs (get_or b 1 0) 0)))
 
--- inner: the first record that breaks a rule, and the latest end where none does
-pub record Judges (N : ℕ) (tasks : List ℕ) (records : ℕ) (r : Judged) : Type 0 where
-  pub first : r.first ≡ faulty N tasks records 0
-  pub latest-is : r.first ≡ records → r.latest ≡ latest (tasks_from tasks 0 records)
+-- inner: the latest end where no record breaks a rule, and else the first that does
+abbrev pub Judges : ℕ → List ℕ → Result ℕ Refusal → Type 0
+Judges N tasks (Ok t) = (faulty N tasks (length tasks / 12) 0 ≡ length tasks / 12) × (t ≡ latest (tasks_from tasks 0 (length tasks / 12)))
+Judges N tasks (Err r) = (r ≡ Malformed (faulty N tasks (length tasks / 12) 0)) × (faulty N tasks (length tasks / 12) 0 < length tasks / 12)

@@ -6,11 +6,11 @@
 
 ghost use Rattle.std.specs.Prelude.{◌≡◌, ◌+◌, ◌*◌, ◌<◌, ◌≤◌, length};
 ghost use Rattle.records.specs.Bytes.{laid};
-ghost use Rattle.tasks.specs.Bytes.{task, four_bytes, encode};
+ghost use Rattle.tasks.specs.Bytes.{task, encode};
 ghost use Rattle.tasks.specs.Read.{alone, follows, fits, reading, Judges};
 
-use numbers::{larger_word, size_of_byte, word_at};
-use switch::{Counts, InputPort, Outcome, OutputPort, Refusal};
+use numbers::word_at;
+use switch::{Counts, InputPort, Outcome, OutputPort, PORTS, Refusal};
 
 // Input, output, two zero bytes, and start and end in four bytes each, low first.
 pub const TASK: usize = 12;
@@ -19,74 +19,57 @@ pub const START: usize = 4;
 
 pub const END: usize = 8;
 
-// What a pass over all records finds.
-#[derive(Clone, Copy)]
-pub struct Judged {
-    pub first: usize,
-    pub latest: u32,
-}
-
 // Reads all tasks for n: refusals 1, 9 and 11, else their number and the latest end.
 pub fn read_tasks(n: usize, tasks: &[u8]) -> Outcome
     ensures { result ≡ reading n tasks.now }
 {
-    if n == 0 {
-        return Outcome::Refused(Refusal::Ports);
-    }
-    if switch::PORTS < n {
-        return Outcome::Refused(Refusal::Ports);
+    if n == 0 || PORTS < n {
+        return Err(Refusal::Ports);
     }
     let records = tasks.len() / TASK;
     if tasks.len() % TASK != 0 {
-        return Outcome::Refused(Refusal::Torn(records));
+        return Err(Refusal::Torn(records));
     }
-    let judged = judge_all(n, tasks, records);
-    if judged.first < records {
-        return Outcome::Refused(Refusal::Malformed(judged.first));
-    }
-    Outcome::Done(Counts {
+    let latest = judge_all(n, tasks)?;
+    Ok(Counts {
         records,
         longest: 0,
-        total: judged.latest as u64,
+        total: u64::from(latest),
         length: 0,
         empty: 0,
     })
 }
 
-// The first record that breaks a rule, or the number of records; and where none does, the latest end. Kept are each port's latest end, and
-// the start and output to rise from.
-fn judge_all(n: usize, tasks: &[u8], records: usize) -> Judged
-    requires { (n ≤ 64) × (records * 12 ≤ length tasks.now) }
-    ensures { Judges n tasks.now records result }
+// The latest end, where no record breaks a rule, and else the first that does. Kept are each port's latest end, and the start and output to
+// rise from.
+fn judge_all(n: usize, tasks: &[u8]) -> Result<u32, Refusal>
+    requires { n ≤ 64 }
+    ensures { Judges n tasks.now result }
 {
-    let mut ins = [0u32; 64];
-    let mut outs = [0u32; 64];
+    let mut ins = [0u32; PORTS];
+    let mut outs = [0u32; PORTS];
     let mut start: u32 = 0;
     let mut least: usize = 0;
     let mut latest: u32 = 0;
-    for k in 0..records {
-        let from = k * TASK;
-        let to = from + TASK;
-        let rec = &tasks[from..to];
+    let (records, _) = tasks.as_chunks::<TASK>();
+    for (k, rec) in records.iter().enumerate() {
         if !fitting(rec, n, start, least, &ins, &outs) {
-            return Judged { first: k, latest };
+            return Err(Refusal::Malformed(k));
         }
-        let i = size_of_byte(rec[0]);
-        let j = size_of_byte(rec[1]);
+        let i = usize::from(rec[0]);
+        let j = usize::from(rec[1]);
         let end = word_at(rec, END);
         ins[i] = end;
         outs[j] = end;
         start = word_at(rec, START);
         least = j + 1;
-        latest = larger_word(latest, end);
+        latest = latest.max(end);
     }
-    Judged {
-        first: records,
-        latest,
-    }
+    Ok(latest)
 }
 
 // Does a record break no rule, where its ports' latest ends are kept in ins and outs, and it must rise from a start and an output?
+// One test after the other here and below: of one chain of && the answer did not follow.
 fn fitting(rec: &[u8], n: usize, start: u32, least: usize, ins: &[u32], outs: &[u32]) -> bool
     requires { (n ≤ 64) × (length rec.now ≡ 12) × (length ins.now ≡ 64) × (length outs.now ≡ 64) }
     ensures { result ≡ fits n rec.now start least ins.now outs.now }
@@ -94,8 +77,8 @@ fn fitting(rec: &[u8], n: usize, start: u32, least: usize, ins: &[u32], outs: &[
     if !fine_alone(rec, n) {
         return false;
     }
-    let i = size_of_byte(rec[0]);
-    let j = size_of_byte(rec[1]);
+    let i = usize::from(rec[0]);
+    let j = usize::from(rec[1]);
     let begin = word_at(rec, START);
     if !rising(start, least, begin, j) {
         return false;
@@ -111,10 +94,10 @@ fn fine_alone(rec: &[u8], n: usize) -> bool
     requires { length rec.now ≡ 12 }
     ensures { result ≡ alone n rec.now }
 {
-    if n <= size_of_byte(rec[0]) {
+    if n <= usize::from(rec[0]) {
         return false;
     }
-    if n <= size_of_byte(rec[1]) {
+    if n <= usize::from(rec[1]) {
         return false;
     }
     if rec[2] != 0 {
@@ -130,13 +113,7 @@ fn fine_alone(rec: &[u8], n: usize) -> bool
 fn rising(s: u32, o: usize, start: u32, output: usize) -> bool
     ensures { result ≡ follows s o start output }
 {
-    if s < start {
-        return true;
-    }
-    if start < s {
-        return false;
-    }
-    o <= output
+    s < start || s == start && o <= output
 }
 
 // Lays one task's record over a schedule from `at` on.
@@ -144,21 +121,9 @@ pub fn put_task(tasks: &mut [u8], at: usize, i: InputPort, j: OutputPort, start:
     requires { (at + 12 ≤ length tasks.old) × (i.0 < 256) × (j.0 < 256) }
     ensures { tasks.new ≡ laid tasks.old at (encode (task i.0 j.0 start end)) }
 {
-    tasks[at] = i.0 as u8;
-    tasks[at + 1] = j.0 as u8;
-    tasks[at + 2] = 0;
-    tasks[at + 3] = 0;
-    put_four(tasks, at + START, start);
-    put_four(tasks, at + END, end);
-}
-
-// Four bytes from `at` on, low first.
-fn put_four(tasks: &mut [u8], at: usize, x: u32)
-    requires { at + 4 ≤ length tasks.old }
-    ensures { tasks.new ≡ laid tasks.old at (four_bytes x) }
-{
-    tasks[at] = (x % 256) as u8;
-    tasks[at + 1] = (x / 256 % 256) as u8;
-    tasks[at + 2] = (x / 65536 % 256) as u8;
-    tasks[at + 3] = (x / 16777216) as u8;
+    let [s0, s1, s2, s3] = start.to_le_bytes();
+    let [e0, e1, e2, e3] = end.to_le_bytes();
+    tasks[at..at + TASK].copy_from_slice(&[
+        i.0 as u8, j.0 as u8, 0, 0, s0, s1, s2, s3, e0, e1, e2, e3,
+    ]);
 }

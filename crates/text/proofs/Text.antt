@@ -1,17 +1,20 @@
 -- Each line is its pieces one after the other, as they are put; and no piece is longer than its numbers are.
-use mathlib.Core.Path.{◌≡◌, refl, sym, ap, ap₂, ◌∙◌}
+use mathlib.Core.Path.{◌≡◌, refl, sym, ap, ◌∙◌}
 use mathlib.Core.List.{List, [], ◌∷◌, ◌++◌, map, append_assoc, append-nil}
-use Prim.Native.Nat.{ℕ, zero, suc, ◌+◌, ◌-◌, ◌^◌, ◌≤◌, ◌<◌}
+use Prim.Native.Nat.{ℕ, zero, suc, ◌+◌, ◌*◌, ◌^◌, ◌≤◌, ◌<◌}
 use native.Mathlib.Numerals.{add-one}
+use native.Mathlib.Nat.{le_of_suc-le-suc}
 use native.Mathlib.Omega.{arith}
-use lib.ListN.{length, get_or, take, drop, length-append, length-take, length-drop, drop_of_length-le}
-use lib.Seq.{drop-cons, get_or-take, get_or-drop}
+use lib.ListN.{length, get_or, take, drop, length-append, drop_of_length-le}
+use lib.Seq.{drop-cons, drop-drop}
 use borrow.Author.Tests.{eq-eqb, ne_eqb}
+use Rattle.std.specs.Simd.{first_chunks}
+use Rattle.switch.specs.Plan.{Record}
 use Rattle.switch.specs.declared.Counts.{Counts}
 use Rattle.switch.specs.declared.Refusal.{Refusal}
 use Rattle.switch.specs.Answer.{refusal_code, refusal_place, refusal_side}
-use Rattle.records.specs.Record.{decoded, outputs}
-use Rattle.records.specs.Bytes.{record_at, plan_from}
+use Rattle.records.specs.Record.{decoded}
+use Rattle.records.specs.Bytes.{plan_from}
 use Rattle.text.specs.Ascii.{ascii}
 use Rattle.text.specs.Decimal.{decimal}
 use Rattle.text.specs.Line.{space, spaced, line}
@@ -57,21 +60,7 @@ pub refused-pieces : (r : Refusal) (code side place : ℕ) → code ≡ refusal_
 unfolding refused_line line spaced
 refused-pieces r code side place a b c = rw (a, b, c) (simp (spaced-more (side_field (refusal_side r)), append_assoc, append-nil))
 
--- the word of a side
-pub no-side : (s : ℕ) → s ≡ 0 → spaced (side_field s) ≡ []
-unfolding spaced
-no-side s e = ap (λ (k : ℕ). spaced (side_field k)) e
-
-pub input-side : (s : ℕ) → s ≡ 1 → spaced (side_field s) ≡ ascii " input"
-unfolding spaced
-input-side s e = ap (λ (k : ℕ). spaced (side_field k)) e
-
-pub output-side : (s : ℕ) → (s ≡ 0 → ⊥) → (s ≡ 1 → ⊥) → spaced (side_field s) ≡ ascii " output"
-unfolding spaced
-output-side zero a b = absurd (a refl)
-output-side (suc zero) a b = absurd (b refl)
-output-side (suc (suc s)) a b = refl
-
+-- the word of a side is short
 pub side-size : (s : ℕ) → length (spaced (side_field s)) ≤ 7
 unfolding spaced
 side-size zero = omega arith
@@ -92,39 +81,39 @@ pub joined-field : (o : ℕ) → (o ≡ 255 → ⊥) → output_field o ≡ deci
 unfolding output_field
 joined-field o e = rw (ne_eqb o 255 e)
 
--- the outputs of the inputs from i on, of the first n
-abbrev pub fields_from : ℕ → List ℕ → ℕ → List ℕ
-fields_from n b i = spaced (map output_field (drop i (take n (outputs b))))
+-- outputs from the i-th on
+abbrev pub fields_from : List ℕ → ℕ → List ℕ
+fields_from o i = spaced (map output_field (drop i o))
 
-module _ (n : ℕ) (b : List ℕ) (fits : n + 4 ≤ length b) where
-  count : length (take n (outputs b)) ≡ n
-  count = simp (length-take, length-drop) (omega arith)
+pub fields-next : (o : List ℕ) (i : ℕ) → i < length o → fields_from o i ≡ (space ∷ output_field (get_or o i 0)) ++ fields_from o (i + 1)
+unfolding spaced
+fields-next o i l = rw (add-one i) (ap (λ (x : List ℕ). spaced (map output_field x)) (drop-cons o i 0 l))
 
-  pub fields-next : (i : ℕ) → i < n → fields_from n b i ≡ (space ∷ output_field (get_or b (4 + i) 0)) ++ fields_from n b (i + 1)
-  unfolding spaced
-  fields-next i l =
-      ap (λ (o : List ℕ). spaced (map output_field o)) (drop-cons (take n (outputs b)) i 0 (omega (arith, count)))
-      ∙ ap₂ (λ (x k : ℕ). spaced (output_field x ∷ map output_field (drop k (take n (outputs b))))) (get_or-take n (outputs b) i 0 l ∙ get_or-drop 4 b i 0) (sym (add-one i))
+pub fields-end : (o : List ℕ) (i : ℕ) → length o ≤ i → fields_from o i ≡ []
+unfolding spaced
+fields-end o i l = ap (λ (x : List ℕ). spaced (map output_field x)) (drop_of_length-le o {i = i} l)
 
-  pub fields-end : fields_from n b n ≡ []
-  unfolding spaced
-  fields-end = ap (λ (o : List ℕ). spaced (map output_field o)) (drop_of_length-le (take n (outputs b)) {i = n} (omega (arith, count)))
+-- the lines of records from the k-th on
+abbrev pub lines_from : ℕ → List (List ℕ) → ℕ → List ℕ
+lines_from n p k = record_lines n (map decoded (drop k p))
 
--- the lines of a plan's records from k on, of the first m
-abbrev pub lines_from : ℕ → List ℕ → ℕ → ℕ → List ℕ
-lines_from n plan m k = record_lines n (plan_from 64 plan k (m - k))
+pub lines_next : (n : ℕ) (p : List (List ℕ)) (k : ℕ) → k < length p → lines_from n p k ≡ record_line n (decoded (get_or p k [])) ++ lines_from n p (k + 1)
+unfolding record_lines
+lines_next n p k l = rw (add-one k) (ap (λ (x : List (List ℕ)). record_lines n (map decoded x)) (drop-cons p k [] l))
 
-module _ (n : ℕ) (plan : List ℕ) (m : ℕ) where
-  pub lines_next : (k : ℕ) → k < m → lines_from n plan m k ≡ record_line n (decoded (record_at 64 plan k)) ++ lines_from n plan m (k + 1)
-  unfolding record_lines plan_from
-  lines_next k l =
-      let e : m - k ≡ suc (m - (k + 1)) = omega arith in
-      ap (λ (j : ℕ). record_lines n (plan_from 64 plan k j)) e
-      ∙ ap (λ (j : ℕ). record_line n (decoded (record_at 64 plan k)) ++ record_lines n (plan_from 64 plan j (m - (k + 1)))) (sym (add-one k))
+pub lines_end : (n : ℕ) (p : List (List ℕ)) (k : ℕ) → length p ≤ k → lines_from n p k ≡ []
+unfolding record_lines
+lines_end n p k l = ap (λ (x : List (List ℕ)). record_lines n (map decoded x)) (drop_of_length-le p {i = k} l)
 
-  pub lines-all : record_lines n (plan_from 64 plan 0 m) ≡ lines_from n plan m 0
-  lines-all = let e : m ≡ m - 0 = omega arith in ap (λ (j : ℕ). record_lines n (plan_from 64 plan 0 j)) e
+-- the pieces of a plan's bytes are its records
+pub pieces-from : (plan : List ℕ) (k m q : ℕ) → m ≤ q → map decoded (take m (first_chunks 68 q (drop (k * 68) plan))) ≡ plan_from 64 plan k m
+unfolding plan_from
+pieces-from plan k zero q l = refl
+pieces-from plan k (suc m) zero l = absurd (omega arith)
+pieces-from plan k (suc m) (suc q) l =
+    let e : k * 68 + 68 ≡ suc k * 68 = omega arith in
+    ap (λ (x : List Record). decoded (take 68 (drop (k * 68) plan)) ∷ x)
+    (ap (λ (x : List ℕ). map decoded (take m (first_chunks 68 q x))) (drop-drop 68 (k * 68) plan ∙ ap (λ (i : ℕ). drop i plan) e) ∙ pieces-from plan (suc k) m q (le_of_suc-le-suc l))
 
-  pub lines_end : lines_from n plan m m ≡ []
-  unfolding record_lines plan_from
-  lines_end = let e : m - m ≡ 0 = omega arith in ap (λ (j : ℕ). record_lines n (plan_from 64 plan m j)) e
+pub pieces : (plan : List ℕ) (m q : ℕ) → m ≤ q → map decoded (take m (first_chunks 68 q plan)) ≡ plan_from 64 plan 0 m
+pieces plan m q l = pieces-from plan 0 m q l

@@ -1,5 +1,6 @@
 -- The quotients' lines times u are at most T and at most u N, so they are few and small; and the plan by a rule is the exact plan of them,
 -- each hold multiplied by u, and then the settings held for what the rule says.
+use Rattle.std.specs.Prelude.{Ok}
 use mathlib.Core.Path.{◌≡◌, sym, ap, ◌∙◌}
 use mathlib.Core.List.{List, ◌++◌, map}
 use Prim.Native.Nat.{ℕ, ◌*◌, ◌≤◌}
@@ -11,7 +12,6 @@ use Rattle.switch.specs.declared.Edition.{Edition}
 use Rattle.switch.specs.Editions.{Bounded}
 use Rattle.switch.specs.Demand.{cell, longest}
 use Rattle.switch.specs.Plan.{Record, total}
-use Rattle.demand.specs.declared.Checked.TheVariants.{Fine}
 use Rattle.demand.specs.Check.{check_demand, Asked}
 use Rattle.demand.specs.Lines.{Sized}
 use Rattle.demand.proofs.Check.{fine-asked}
@@ -25,15 +25,15 @@ use Rattle.turns.specs.Second.{turn, holds_by, doubled_rule, parts, Asks, Splits
 use Rattle.turns.proofs.Holds.{unit-holding, table-turns}
 
 -- cells and holds for the largest switch do for the cells and the settings of a demand that no check refuses
-module _ (most N T : ℕ) (d : List ℕ) (fine : check_demand most N d ≡ Fine T) where
-  pub cells_fit : (w : List ℕ) → most * most ≤ length w → length d ≤ length w
-  cells_fit w l = let a = fine-asked most N T d fine in omega (arith, l, a.size, mul-le-mul a.few a.few)
+module _ (most N T : ℕ) (d : List ℕ) (fine : check_demand most N d ≡ Ok T) where
+  pub cells_fit : (room : ℕ) → most * most ≤ room → length d ≤ room
+  cells_fit room l = let a = fine-asked most N T d fine in omega (arith, l, a.size, mul-le-mul a.few a.few)
 
-  pub holds-fit : (H : List ℕ) → most ≤ length H → N ≤ length H
-  holds-fit H l = omega (arith, l, (fine-asked most N T d fine).few)
+  pub holds-fit : (room : ℕ) → most ≤ room → N ≤ room
+  holds-fit room l = omega (arith, l, (fine-asked most N T d fine).few)
 
 -- a demand that no check refuses, and that asks for something
-module _ {E : Edition} {N T : ℕ} {d : List ℕ} (fine : check_demand E.ports N d ≡ Fine T) (bounded : Bounded E) (some : T ≡ 0 → ⊥) where
+module _ {E : Edition} {N T : ℕ} {d : List ℕ} (fine : check_demand E.ports N d ≡ Ok T) (bounded : Bounded E) (some : T ≡ 0 → ⊥) where
   pub fine-asks : Asks N T d
   fine-asks = let a = fine-asked E.ports N T d fine in record {
     some = a.some;

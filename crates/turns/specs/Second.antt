@@ -1,11 +1,11 @@
 -- Inner: the settings of a doubled plan's second part, how long each rule holds them, what they can be asked for, and what they come to; and a
 -- demand divided by u. Definitions only.
+use Rattle.std.specs.Prelude.{Ok}
 use Rattle.std.specs.Prelude.{◌≡◌, List, ◌++◌, map, ℕ, ◌*◌, ◌-◌, ◌≤◌, ◌<◌, length, get_or}
 use Rattle.switch.specs.declared.Edition.{Edition}
 use Rattle.switch.specs.Editions.{Bounded}
 use Rattle.switch.specs.Plan.{Record, total}
 use Rattle.demand.specs.Check.{check_demand}
-use Rattle.demand.specs.declared.Checked.TheVariants.{Fine}
 use Rattle.rules.specs.Exact.{tab, exact_plan}
 use Rattle.rules.specs.Doubled.{unit, divide, stretch, rotate, opposite, alike, tight, turns, doubled_by}
 use Rattle.turns.specs.declared.Turning.{Turning}
@@ -77,7 +77,7 @@ pub record Measures (N : ℕ) (H : List ℕ) (records sum : ℕ) : Type 0 where
 
 -- a demand that asks for something and that no check refuses, its u, and its cells divided by u
 pub record Divided (E : Edition) (N T u : ℕ) (d q : List ℕ) : Type 0 where
-  pub fine : check_demand E.ports N d ≡ Fine T
+  pub fine : check_demand E.ports N d ≡ Ok T
   pub bounded : Bounded E
   pub some : 0 < T
   pub unit-is : u ≡ unit N T

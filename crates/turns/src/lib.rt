@@ -18,7 +18,7 @@ use switch::{Edition, InputPort, OutputPort};
 // The most outputs of a record.
 const PLACES: usize = 128;
 
-// Which way the settings of the second part turn.
+// Which way the settings of the second part turn. The promises here and above name it by value, and the rule below.
 #[derive(Clone, Copy)]
 pub enum Turning {
     // Rotations: input i to output (i + k) mod N.
@@ -67,8 +67,8 @@ pub fn quotients(cells: &[u32], work: &mut [u32], unit: u32)
     requires { (length work.old ≡ length cells.now) × (0 < unit) }
     ensures { work.new ≡ divide unit cells.now }
 {
-    for k in 0..cells.len() {
-        work[k] = quotient(cells[k], unit);
+    for (k, quotient) in work.iter_mut().enumerate() {
+        *quotient = cells[k] / unit;
     }
 }
 
@@ -79,15 +79,11 @@ pub fn measure(n: usize, holds: &[u16]) -> Part
 {
     let mut records: usize = 0;
     let mut total: u64 = 0;
-    for k in 0..n {
-        let hold = holds[k];
-        records += records_of(hold);
-        total += hold as u64;
+    for hold in &holds[..n] {
+        records += records_of(*hold);
+        total += u64::from(*hold);
     }
-    Part {
-        records: records,
-        total: total,
-    }
+    Part { records, total }
 }
 
 // Lays the settings, as records of an edition, over a plan from `from` on.
@@ -109,21 +105,13 @@ fn unit_of(n: usize, longest: u64) -> u32
     ((longest + (ports - 1)) / ports) as u32
 }
 
-// A cell divided by u, rounded down.
-fn quotient(cell: u32, unit: u32) -> u32
-    requires { 0 < unit }
-    ensures { result ≡ cell / unit }
-{
-    cell / unit
-}
-
 // The settings' holds by the rule, setting k's at k.
 fn fill_holds(rule: Rule, way: Turning, n: usize, cells: &[u32], unit: u32, holds: &mut [u16])
     requires { Holding n unit cells.now × (length holds.old ≡ n) }
     ensures { holds.new ≡ tab n 0 (holds_by rule way n cells.now unit) }
 {
-    for k in 0..n {
-        holds[k] = hold_of(rule, way, n, cells, unit, k);
+    for (k, hold) in holds.iter_mut().enumerate() {
+        *hold = hold_of(rule, way, n, cells, unit, k);
     }
 }
 
@@ -139,6 +127,7 @@ fn hold_of(rule: Rule, way: Turning, n: usize, cells: &[u32], unit: u32, k: usiz
 }
 
 // The largest remainder among the pairs of setting k.
+// i is an input: its output is worked out of it, and no slice holds the pairs.
 fn largest_remainder(way: Turning, n: usize, cells: &[u32], unit: u32, k: usize) -> u32
     requires { Holding n unit cells.now × (k < n) }
     ensures { result ≡ tight n (turn way n) cells.now unit k }
@@ -146,30 +135,16 @@ fn largest_remainder(way: Turning, n: usize, cells: &[u32], unit: u32, k: usize)
     let mut largest: u32 = 0;
     for i in 0..n {
         let at = cell_at(n, InputPort(i), output_of(way, n, k, InputPort(i)));
-        let left = remainder(cells[at], unit);
-        if largest < left {
-            largest = left;
-        }
+        largest = largest.max(cells[at] % unit);
     }
     largest
-}
-
-// What is left of a cell when it is divided by u.
-fn remainder(cell: u32, unit: u32) -> u32
-    requires { 0 < unit }
-    ensures { result ≡ cell % unit }
-{
-    cell % unit
 }
 
 // How many records a setting of that hold is: it is left out where the hold is 0.
 fn records_of(hold: u16) -> usize
     ensures { (W : ℕ) (o : ℕ → ℕ) → result ≡ length (held W hold o) }
 {
-    if 0 < hold {
-        return 1;
-    }
-    0
+    usize::from(0 < hold)
 }
 
 // Setting after setting, each behind those before it. A record has as many outputs as `out`.
@@ -186,8 +161,8 @@ fn lay_all(
     ensures { plan.new ≡ laid plan.old from (bytes edition n (second way (length out.old) n holds.now)) }
 {
     let mut at = from;
-    for k in 0..n {
-        at = lay_one(way, n, k, holds[k], edition, plan, at, out);
+    for (k, hold) in holds.iter().enumerate() {
+        at = lay_one(way, n, k, *hold, edition, plan, at, out);
     }
 }
 
@@ -218,8 +193,8 @@ fn fill_outputs(way: Turning, n: usize, k: usize, out: &mut [u8])
     requires { (0 < n) × (n ≤ 128) × (k < n) }
     ensures { out.new ≡ tab (length out.old) 0 (turn way n k) }
 {
-    for i in 0..out.len() {
-        out[i] = output_byte(way, n, k, i);
+    for (i, output) in out.iter_mut().enumerate() {
+        *output = output_byte(way, n, k, i);
     }
 }
 

@@ -45,9 +45,10 @@ fn find(rt: &impl Print, n: usize, tonight: &[u8], standby: &[u8], slot: u64) ->
     let outcome = found.outcome;
     let about = found.about;
     named(rt, outcome, about)?;
-    show::field(rt, b" plan ", found.plan)?;
-    show::field(rt, b" start ", found.start as u64)?;
-    show::field(rt, b" size ", found.size as u64)
+    print!(rt;
+        " plan {} start {} size {}",
+        found.plan, found.start, found.size
+    )
 }
 
 // A checksum of the part that is lent out.
@@ -65,7 +66,7 @@ fn part<'a>(
 // An answer and what it is about.
 fn named(rt: &impl Print, o: Outcome, about: About) -> io::Result<()> {
     show::answer(rt, o)?;
-    show::field(rt, b" about ", switch::about_number(about))
+    print!(rt; " about {}", switch::about_number(about))
 }
 
 // A carry-over into as many cells as the step says. The number of first records and how many cells were asked and are wished are laid
@@ -130,7 +131,7 @@ fn carry_within(
     size: usize,
 ) -> io::Result<()> {
     let mut cells = [BEFORE; CELLS];
-    let lent = tape::least(size, CELLS);
+    let lent = size.min(CELLS);
     carry_into(rt, n, asked, plan, first, wished, &mut cells[..lent])
 }
 
@@ -153,7 +154,7 @@ fn carry_into(
 // A carry-over's answer: nothing is counted.
 fn carried(rt: &impl Print, answer: Carried) -> io::Result<()> {
     match answer {
-        Carried::Done => named(rt, Outcome::Done(plans::counted(0, 0, 0)), About::Nothing),
-        Carried::Refused(about, r) => named(rt, Outcome::Refused(r), about),
+        Ok(()) => named(rt, Ok(plans::counted(0, 0, 0)), About::Nothing),
+        Err(blamed) => named(rt, Err(blamed.refusal), blamed.about),
     }
 }

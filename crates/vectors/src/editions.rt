@@ -29,10 +29,7 @@ pub fn size_of(letter: u8, records: usize) -> usize
 
 // Is that plan one of the second edition?
 fn is_second(letter: u8) -> bool {
-    match letter {
-        b'2' | b'A'..=b'Z' => true,
-        _ => false,
-    }
+    matches!(letter, b'2' | b'A'..=b'Z')
 }
 
 // Prints a short plan that was written, if it is of the first edition; of the second's the checksum tells enough.

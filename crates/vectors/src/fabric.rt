@@ -22,7 +22,7 @@ pub fn report_written(rt: &impl Print, n: usize, outcome: Outcome, lent: &[u8]) 
 {
     let count = tape::within(switch::numbers_of(outcome).counts.records, lent);
     let size = tape::within(count * RECORD, lent);
-    show::text(rt, b"reported:")?;
+    print!(rt; "reported:")?;
     report(rt, n, &lent[..size], SHORT)
 }
 
@@ -57,8 +57,8 @@ fn numbers(rt: &impl Print, outcome: Outcome, report: &[u8]) -> io::Result<()> {
         return Ok(());
     }
     let count = tape::within(records, report);
-    for k in 0..count {
-        show::field(rt, b" ", show::wide(report[k]))?;
+    for number in &report[..count] {
+        print!(rt; " {number}")?;
     }
     show::end(rt)
 }

@@ -21,10 +21,8 @@ mod tape;
 mod wished;
 
 ghost use Rattle.std.specs.Prelude.{◌≤◌, ◌<◌, length, IfOk};
-ghost use Rattle.vectors.specs.Counts.{IsPrefixLen};
 
 use std::io;
-use std::io::{ErrorKind, Read};
 use tape::Step;
 
 // The most bytes of a tape. With what is laid and lent for a call they must fit a stack of 8 MiB.
@@ -35,39 +33,12 @@ const LAID: usize = 4392073;
 
 fn main(rt: HostRuntime) -> io::Result<()> {
     let mut tape = [0u8; TAPE];
-    let size = read_full(&mut rt.stdin(), &mut tape)?;
+    let size = input::read_full(&mut rt.stdin(), &mut tape)?;
     run_all(&rt, &tape[..size])
 }
 
-// A pipe may deliver in small pieces: it is read until the buffer is full or the input ends. Answers how many bytes came.
-fn read_full(from: &mut impl Read, buf: &mut [u8]) -> io::Result<usize>
-    ensures { IfOk result (λ n. IsPrefixLen n buf.new) }
-{
-    let mut size = 0;
-    while size < buf.len() {
-        let n = read_some(from, &mut buf[size..])?;
-        if n == 0 {
-            break;
-        }
-        size += n;
-    }
-    Ok(size)
-}
-
-// The next bytes; what a signal interrupts is read again.
-fn read_some(from: &mut impl Read, buf: &mut [u8]) -> io::Result<usize>
-    ensures { IfOk result (λ n. n ≤ length buf.new) }
-{
-    for _ in 0..u64::MAX {
-        match from.read(buf) {
-            Err(e) if e.kind() == ErrorKind::Interrupted => {}
-            answer => return answer,
-        }
-    }
-    from.read(buf)
-}
-
 // Call after call, up to the tape's end.
+// A `while`: where the next call starts is known once this one is read.
 fn run_all(rt: &impl Print, tape: &[u8]) -> io::Result<()> {
     let mut at = 0;
     while at < tape.len() {
@@ -108,6 +79,7 @@ fn run_call(rt: &impl Print, tape: &[u8], at: usize, bytes: &mut [u8]) -> io::Re
 }
 
 // The call that the step's letter stands for.
+// Its module matches the letter again: as an enum it would be told from the letter first, and then matched just so.
 fn run(rt: &impl Print, step: Step, laid: &[u8]) -> io::Result<()>
     requires { (step.small ≤ 255) × (step.second ≤ 65535) }
 {
@@ -132,6 +104,6 @@ fn run(rt: &impl Print, step: Step, laid: &[u8]) -> io::Result<()>
         b'o' => schedule::plan(rt, step, laid),
         b'a' => schedule::read(rt, step.first, laid),
         b'v' => saved::rescue(rt, step, laid),
-        _ => show::text(rt, b" no such call\n"),
+        _ => println!(rt; " no such call"),
     }
 }

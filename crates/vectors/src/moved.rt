@@ -34,7 +34,7 @@ fn there_and_back(
     let outcome = move_into(rt, letter, n, plan, lent)?;
     let count = tape::within(switch::numbers_of(outcome).counts.records, lent);
     let size = tape::within(editions::size_of(letter, count), lent);
-    show::text(rt, b"and back:")?;
+    print!(rt; "and back:")?;
     move_within(rt, back(letter), n, &lent[..size], plan.len())
 }
 
@@ -50,7 +50,7 @@ fn back(letter: u8) -> u8 {
 fn move_within(rt: &impl Print, letter: u8, n: usize, plan: &[u8], size: usize) -> io::Result<()> {
     let mut bytes = [0u8; BACK];
     let room = tape::within(size, &bytes);
-    move_into(rt, letter, n, plan, &mut bytes[..room])?;
+    let _ = move_into(rt, letter, n, plan, &mut bytes[..room])?;
     Ok(())
 }
 

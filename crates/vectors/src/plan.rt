@@ -77,10 +77,7 @@ fn plan_into(
 
 // Is the planner that the letter stands for one of the grating fabric?
 fn grates(letter: u8) -> bool {
-    match letter {
-        b'g' | b'u' => true,
-        _ => false,
-    }
+    matches!(letter, b'g' | b'u')
 }
 
 // The planner that the letter stands for.

@@ -13,10 +13,8 @@ const ROOM: usize = 255;
 pub fn read(rt: &impl Print, step: Step, plan: &[u8]) -> io::Result<()> {
     show::line(rt, opened(step.letter, step.first, plan))?;
     let mut at = 0;
-    let mut k = 0;
-    while k < step.second {
+    for _ in 0..step.second {
         at = step_from(rt, step.letter, step.first, plan, at)?;
-        k += 1;
     }
     Ok(())
 }
@@ -58,11 +56,11 @@ fn step_second(rt: &impl Print, n: usize, plan: &[u8], at: usize) -> io::Result<
 // What a step gave.
 fn show_step(rt: &impl Print, step: plans::Step, hold: u16, outputs: &[u8]) -> io::Result<()> {
     match step {
-        plans::Step::Record => show::text(rt, b"record")?,
-        plans::Step::End => show::text(rt, b"end")?,
-        plans::Step::Malformed(k) => show::field(rt, b"malformed ", k as u64)?,
+        plans::Step::Record => print!(rt; "record")?,
+        plans::Step::End => print!(rt; "end")?,
+        plans::Step::Malformed(k) => print!(rt; "malformed {k}")?,
     }
-    show::field(rt, b" hold ", hold as u64)?;
+    print!(rt; " hold {hold}")?;
     show::sum(rt, outputs)?;
     show::end(rt)
 }
@@ -100,26 +98,16 @@ fn write_into(
 // Writing by the call that the letter stands for.
 fn wrote(letter: u8, hold: u16, n: usize, laid: &[u8], lent: &mut [u8]) -> Outcome {
     match letter {
-        b'W' => write_second(hold, n, laid, lent),
-        _ => write_first(hold, n, laid, lent),
+        b'W' => records::write_record_second(hold, n, &outputs_of(laid), lent),
+        _ => records::write_record(hold, n, &outputs_of(laid), lent),
     }
 }
 
-fn write_first(hold: u16, n: usize, laid: &[u8], lent: &mut [u8]) -> Outcome {
-    let mut outputs = [0u8; switch::PORTS];
-    load_outputs(laid, &mut outputs);
-    records::write_record(hold, n, &outputs, lent)
-}
-
-fn write_second(hold: u16, n: usize, laid: &[u8], lent: &mut [u8]) -> Outcome {
-    let mut outputs = [0u8; switch::WIDE_PORTS];
-    load_outputs(laid, &mut outputs);
-    records::write_record_second(hold, n, &outputs, lent)
-}
-
-// The first bytes that are laid, as outputs.
-fn load_outputs(laid: &[u8], outputs: &mut [u8]) {
-    for i in 0..outputs.len() {
-        outputs[i] = tape::byte_at(laid, i);
+// The first bytes that are laid, as the outputs of an edition; 0 where there are fewer.
+fn outputs_of<const W: usize>(laid: &[u8]) -> [u8; W] {
+    let mut outputs = [0u8; W];
+    for (output, byte) in outputs.iter_mut().zip(laid) {
+        *output = *byte;
     }
+    outputs
 }

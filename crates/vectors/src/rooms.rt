@@ -13,6 +13,7 @@ pub fn room(rt: &impl Print, planner: usize, laid: &[u8]) -> io::Result<()> {
 }
 
 // The planners of the first edition, then those of the second.
+// The tape has their numbers, which are matched once, where the calls are.
 fn room_of(planner: usize, n: usize, longest: u64) -> Outcome {
     match planner {
         0 => room::exact_room(n, longest),

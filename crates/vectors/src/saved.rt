@@ -94,8 +94,7 @@ fn rescue_into(
     let answer = rescue::rescue_plan(n, cells, damaged, plan, list);
     let outcome = answer.outcome;
     show::answer(rt, outcome)?;
-    show::field(rt, b" added ", answer.added as u64)?;
-    show::field(rt, b" dropped ", answer.dropped as u64)?;
+    print!(rt; " added {} dropped {}", answer.added, answer.dropped)?;
     show::sum(rt, plan)?;
     show::sum(rt, list)?;
     show::end(rt)?;

@@ -47,7 +47,7 @@ fn plan_into(rt: &impl Print, n: usize, cells: &[u32], d: u16, lent: &mut [u8]) 
     let count = tape::within(switch::numbers_of(outcome).counts.records, lent);
     let size = tape::within(count * TASK, lent);
     print_all(rt, &lent[..size])?;
-    show::text(rt, b"read again:")?;
+    print!(rt; "read again:")?;
     read(rt, n, &lent[..size])
 }
 
@@ -58,23 +58,19 @@ pub fn read(rt: &impl Print, n: usize, bytes: &[u8]) -> io::Result<()> {
 
 // The tasks of a schedule, if they are few, a line each.
 fn print_all(rt: &impl Print, bytes: &[u8]) -> io::Result<()> {
-    let count = bytes.len() / TASK;
-    if SHORT < count {
+    let (all, _) = bytes.as_chunks::<TASK>();
+    if SHORT < all.len() {
         return Ok(());
     }
-    for k in 0..count {
-        let from = k * TASK;
-        let to = from + TASK;
-        print_one(rt, &bytes[from..to])?;
+    for one in all {
+        print_one(rt, one)?;
     }
     Ok(())
 }
 
 // Input, output, start and end.
 fn print_one(rt: &impl Print, one: &[u8]) -> io::Result<()> {
-    show::field(rt, b" ", show::wide(tape::byte_at(one, 0)))?;
-    show::field(rt, b" ", show::wide(tape::byte_at(one, 1)))?;
-    show::field(rt, b" ", tape::word_at(one, START))?;
-    show::field(rt, b" ", tape::word_at(one, END))?;
-    show::end(rt)
+    let (input, output) = (tape::byte_at(one, 0), tape::byte_at(one, 1));
+    let (start, end) = (tape::word_at(one, START), tape::word_at(one, END));
+    println!(rt; " {input} {output} {start} {end}")
 }

@@ -2,19 +2,12 @@
 // How numbers become digits is left to `std`.
 ghost use Rattle.std.specs.Prelude.{◌+◌, ◌≤◌, ◌<◌, length};
 
+use records::{HEAD, IDLE, RECORD};
 use std::io;
-use switch::{Counts, Outcome};
+use switch::{Counts, Outcome, Refusal, Side};
 
 // The most records of a plan that are printed; of a longer one the checksum tells enough.
 const SHORT: usize = 6;
-
-// The bytes of a record, and those before its outputs.
-const RECORD: usize = 68;
-
-const HEAD: usize = 4;
-
-// The byte of an idle input.
-const IDLE: u8 = 255;
 
 // The largest prime below 2^32.
 const PRIME: u64 = 4294967291;
@@ -35,98 +28,74 @@ pub fn written(rt: &impl Print, o: Outcome, lent: &[u8]) -> io::Result<()> {
 // What a call answered: code, place, side, and its counts.
 pub fn answer(rt: &impl Print, o: Outcome) -> io::Result<()> {
     let told = switch::numbers_of(o);
-    field(rt, b" code ", told.code)?;
-    field(rt, b" place ", told.place as u64)?;
-    side(rt, told.side)?;
+    print!(rt; " code {} place {}", told.code, told.place)?;
+    side(rt, o)?;
     let counts = told.counts;
     counted(rt, counts)
 }
 
 fn counted(rt: &impl Print, counts: Counts) -> io::Result<()> {
-    field(rt, b" records ", counts.records as u64)?;
-    field(rt, b" longest ", counts.longest)?;
-    field(rt, b" total ", counts.total)?;
-    field(rt, b" length ", counts.length)?;
-    field(rt, b" empty ", counts.empty)
+    print!(rt; " records {} longest {}", counts.records, counts.longest)?;
+    print!(rt;
+        " total {} length {} empty {}",
+        counts.total, counts.length, counts.empty
+    )
 }
 
-// A side's word, a dash where there is none.
-fn side(rt: &impl Print, number: u64) -> io::Result<()> {
-    if number == 1 {
-        text(rt, b" side input")
-    } else if number == 2 {
-        text(rt, b" side output")
-    } else {
-        text(rt, b" side -")
+// The side of the line that is refused, a dash where none is.
+fn side(rt: &impl Print, o: Outcome) -> io::Result<()> {
+    match o {
+        Err(Refusal::Line(Side::Input(_))) => print!(rt; " side input"),
+        Err(Refusal::Line(Side::Output(_))) => print!(rt; " side output"),
+        _ => print!(rt; " side -"),
     }
 }
 
-// The checksum of bytes.
-pub fn sum(rt: &impl Print, bytes: &[u8]) -> io::Result<()> {
-    field(rt, b" sum ", checksum(bytes))
+// The checksum of bytes, or of cells.
+pub fn sum<T: Copy + Into<u32>>(rt: &impl Print, items: &[T]) -> io::Result<()> {
+    let sum = checksum(items);
+    print!(rt; " sum {sum}")
 }
 
-// A number made of bytes that changes where one byte, or their number, does.
-fn checksum(bytes: &[u8]) -> u64 {
+// A number made of items that changes where one item, or their number, does.
+fn checksum<T: Copy + Into<u32>>(items: &[T]) -> u64 {
     let mut sum = 1;
-    let mut k = 0;
-    while k < bytes.len() {
-        sum = summed(sum, wide(bytes[k]));
-        k += 1;
+    for item in items {
+        let number: u32 = (*item).into();
+        sum = summed(sum, number);
     }
     sum
 }
 
-// The same made of cells.
-pub fn cells_sum(rt: &impl Print, slots: &[u32]) -> io::Result<()> {
-    let mut sum = 1;
-    for k in 0..slots.len() {
-        sum = summed(sum, wide_slots(slots[k]));
-    }
-    field(rt, b" sum ", sum)
-}
-
 // A checksum with one number more, which counts one more than it is, so that zeros count too.
-fn summed(sum: u64, number: u64) -> u64
-    requires { (sum < 4294967291) × (number ≤ 4294967295) }
+fn summed(sum: u64, number: u32) -> u64
+    requires { sum < 4294967291 }
     ensures { result < 4294967291 }
 {
-    (sum * 257 + number + 1) % PRIME
+    (sum * 257 + u64::from(number) + 1) % PRIME
 }
 
 // The records of a plan that was written, if they are few: a line each, hold, then the outputs of the first n inputs.
 pub fn plan(rt: &impl Print, n: usize, o: Outcome, bytes: &[u8]) -> io::Result<()> {
     let count = switch::numbers_of(o).counts.records;
-    if count > SHORT {
+    let (records, _) = bytes.as_chunks::<RECORD>();
+    if count > SHORT || records.len() < count || n > switch::PORTS {
         return Ok(());
     }
-    if bytes.len() < count * RECORD {
-        return Ok(());
-    }
-    if n > switch::PORTS {
-        return Ok(());
-    }
-    let mut k = 0;
-    while k < count {
-        let from = k * RECORD;
-        let to = from + RECORD;
-        record(rt, n, &bytes[from..to])?;
-        k += 1;
+    for bytes in &records[..count] {
+        record(rt, n, bytes)?;
     }
     Ok(())
 }
 
 // One record.
 fn record(rt: &impl Print, n: usize, bytes: &[u8]) -> io::Result<()>
-    requires n_in_bounds { n + 4 ≤ length bytes.now }
-    requires n_bound { n ≤ 64 }
+    requires { n + 4 ≤ length bytes.now }
 {
-    let hold = wide(bytes[0]) + 256 * wide(bytes[1]);
+    let hold = records::hold_of(bytes);
     print!(rt; "{hold}")?;
-    let mut i = 0;
-    while i < n {
-        output(rt, bytes[HEAD + i])?;
-        i += 1;
+    for byte in &bytes[HEAD..HEAD + n] {
+        output(rt, *byte)?;
     }
     end(rt)
 }
@@ -134,50 +103,26 @@ fn record(rt: &impl Print, n: usize, bytes: &[u8]) -> io::Result<()>
 // An output, a dash where the input is idle.
 fn output(rt: &impl Print, byte: u8) -> io::Result<()> {
     if byte == IDLE {
-        text(rt, b" -")
+        print!(rt; " -")
     } else {
-        field(rt, b" ", wide(byte))
+        print!(rt; " {byte}")
     }
 }
 
 // The cells, a space before each.
 pub fn cells(rt: &impl Print, slots: &[u32]) -> io::Result<()> {
-    for k in 0..slots.len() {
-        cell(rt, slots[k])?;
+    for slot in slots {
+        print!(rt; " {slot}")?;
     }
     Ok(())
 }
 
-fn cell(rt: &impl Print, slots: u32) -> io::Result<()> {
-    field(rt, b" ", wide_slots(slots))
-}
-
-// A word and a number.
-pub fn field(rt: &impl Print, word: &[u8], number: u64) -> io::Result<()> {
-    text(rt, word)?;
-    print!(rt; "{number}")
-}
-
 // Ends a line.
 pub fn end(rt: &impl Print) -> io::Result<()> {
-    text(rt, b"\n")
+    println!(rt;)
 }
 
 // Words.
 pub fn text(rt: &impl Print, words: &[u8]) -> io::Result<()> {
     rt.write_all(words)
-}
-
-// A byte as a number that is printed.
-pub fn wide(byte: u8) -> u64
-    ensures { result ≤ 255 }
-{
-    byte as u64
-}
-
-// A cell as a number that is printed.
-fn wide_slots(slots: u32) -> u64
-    ensures { result ≤ 4294967295 }
-{
-    slots as u64
 }

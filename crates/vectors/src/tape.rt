@@ -3,7 +3,7 @@
 // A step `+` lays the bytes that follow it, as often as its first number says; any other step is a call on what is laid, and the
 // bytes that follow it are its name. Any bytes can be read so: past a tape's end everything is 0.
 ghost use Rattle.std.specs.Prelude.{◌≡◌, ◌+◌, ◌-◌, ◌≤◌, ◌<◌, length, get_or};
-ghost use Rattle.vectors.specs.Counts.{IsPrefixLen};
+ghost use Rattle.input.specs.Counts.{IsPrefixLen};
 
 // The bytes of a step before those that follow it.
 const STEP: usize = 8;
@@ -37,6 +37,7 @@ pub struct Call {
 }
 
 // Lays bytes up to the next call of the tape.
+// A `while`: where the next step starts is known once this one is read.
 pub fn next_call(tape: &[u8], at: usize, bytes: &mut [u8]) -> Call
     requires { at < length tape.now }
     ensures prefix_len { IsPrefixLen result.laid bytes.new }
@@ -57,9 +58,9 @@ pub fn next_call(tape: &[u8], at: usize, bytes: &mut [u8]) -> Call
     }
     let name = forward(tape, here, STEP);
     Call {
-        step: step,
-        laid: laid,
-        name: name,
+        step,
+        laid,
+        name,
         next: forward(tape, name, step.size),
     }
 }
@@ -69,11 +70,7 @@ fn forward(tape: &[u8], at: usize, by: usize) -> usize
     requires { at ≤ length tape.now }
     ensures { result ≡ at + by - (at + by - length tape.now) }
 {
-    if by < tape.len() - at {
-        at + by
-    } else {
-        tape.len()
-    }
+    at + by.min(tape.len() - at)
 }
 
 // The step at a place of the tape.
@@ -87,7 +84,7 @@ fn step_at(tape: &[u8], at: usize) -> Step
     let part = &tape[at..];
     Step {
         letter: byte_at(part, 0),
-        small: wide(byte_at(part, 1)),
+        small: usize::from(byte_at(part, 1)),
         first: half_at(part, 2),
         second: half_at(part, 4),
         size: half_at(part, 6),
@@ -102,15 +99,13 @@ fn lay(tape: &[u8], at: usize, size: usize, times: usize, bytes: &mut [u8], laid
     requires laid_in_bounds { laid ≤ length bytes.old }
     ensures { IsPrefixLen result bytes.new }
 {
-    let end = laid + least(times * size, bytes.len() - laid);
-    let mut to = laid;
+    let end = laid + (times * size).min(bytes.len() - laid);
     let mut k = 0;
-    while to < end {
-        bytes[to] = byte_at(tape, at + k);
-        to += 1;
+    for b in &mut bytes[laid..end] {
+        *b = byte_at(tape, at + k);
         k = around(k, size);
     }
-    to
+    end
 }
 
 // The index after k among `size`, and 0 after the last.
@@ -126,39 +121,25 @@ fn around(k: usize, size: usize) -> usize
 pub fn load_cells(bytes: &[u8], cells: &mut [u32]) -> usize
     ensures { IsPrefixLen result cells.new }
 {
-    let count = least(bytes.len() / CELL, cells.len());
-    let mut k = 0;
-    while k < count {
-        cells[k] = wishes::word_at(bytes, CELL * k);
-        k += 1;
+    let (words, _) = bytes.as_chunks::<CELL>();
+    for (cell, word) in cells.iter_mut().zip(words) {
+        *cell = u32::from_le_bytes(*word);
     }
-    k
+    words.len().min(cells.len())
 }
 
 // So many bytes, or all where there are fewer.
 pub fn within(size: usize, bytes: &[u8]) -> usize
     ensures { IsPrefixLen result bytes.now }
 {
-    least(size, bytes.len())
+    size.min(bytes.len())
 }
 
 // Fills lent bytes before a call.
 pub fn blank(bytes: &mut [u8])
     ensures { length bytes.new ≡ length bytes.old }
 {
-    let mut k = 0;
-    while k < bytes.len() {
-        bytes[k] = BLANK;
-        k += 1;
-    }
-}
-
-// The smaller of two numbers.
-pub fn least(a: usize, b: usize) -> usize
-    ensures upper_bound { result ≤ a }
-    ensures upper_bound_2 { result ≤ b }
-{
-    if a < b { a } else { b }
+    bytes.fill(BLANK);
 }
 
 // Eight bytes as a number, low byte first.
@@ -181,18 +162,12 @@ pub fn half_at(bytes: &[u8], at: usize) -> usize
     requires { at ≤ 14 }
     ensures { result ≤ 65535 }
 {
-    wide(byte_at(bytes, at)) + 256 * wide(byte_at(bytes, at + 1))
+    usize::from(byte_at(bytes, at)) + 256 * usize::from(byte_at(bytes, at + 1))
 }
 
 // The byte at a place; 0 past the end.
 pub fn byte_at(bytes: &[u8], at: usize) -> u8
     ensures { result ≡ get_or bytes.now at 0 }
 {
-    if at < bytes.len() { bytes[at] } else { 0 }
-}
-
-fn wide(byte: u8) -> usize
-    ensures { result ≤ 255 }
-{
-    byte as usize
+    bytes.get(at).copied().unwrap_or(0)
 }

@@ -1,6 +1,6 @@
 // Wishes: single patterns of 32 bits, and wish lists into lent cells.
+use crate::show;
 use crate::tape::Step;
-use crate::{show, tape};
 use std::io;
 use switch::Outcome;
 
@@ -19,9 +19,9 @@ const FEW: usize = 4096;
 
 // A line for each whole pattern that is laid: its bits, its code, its slots.
 pub fn patterns(rt: &impl Print, laid: &[u8]) -> io::Result<()> {
-    let count = laid.len() / PATTERN;
-    for k in 0..count {
-        pattern(rt, wishes::word_at(laid, PATTERN * k))?;
+    let (all, _) = laid.as_chunks::<PATTERN>();
+    for bytes in all {
+        pattern(rt, u32::from_le_bytes(*bytes))?;
     }
     Ok(())
 }
@@ -29,15 +29,13 @@ pub fn patterns(rt: &impl Print, laid: &[u8]) -> io::Result<()> {
 fn pattern(rt: &impl Print, bits: u32) -> io::Result<()> {
     let wish = wish::of_bits(bits);
     print!(rt; "{bits:0HEX_DIGITS$x}")?;
-    show::field(rt, b" ", wish::code_of(wish) as u64)?;
-    show::field(rt, b" ", wish::slots_of(wish) as u64)?;
-    show::end(rt)
+    println!(rt; " {} {}", wish::code_of(wish), wish::slots_of(wish))
 }
 
 // Reads the wish list that is laid into as many cells as the step says.
 pub fn read(rt: &impl Print, step: Step, list: &[u8]) -> io::Result<()> {
     let mut cells = [BEFORE; CELLS];
-    let count = tape::least(step.second, CELLS);
+    let count = step.second.min(CELLS);
     read_into(rt, step.letter, step.first, list, &mut cells[..count])
 }
 
@@ -65,7 +63,7 @@ fn wishes_of(letter: u8, n: usize, list: &[u8], cells: &mut [u32]) -> Outcome {
 // The cells, or their checksum where they are many.
 fn show_cells(rt: &impl Print, cells: &[u32]) -> io::Result<()> {
     if FEW < cells.len() {
-        return show::cells_sum(rt, cells);
+        return show::sum(rt, cells);
     }
     show::cells(rt, cells)
 }

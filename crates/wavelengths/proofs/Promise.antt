@@ -1,4 +1,5 @@
 -- The bytes of a report stand at the buffer's start, so each byte written is what it says of its record, and the later ones are as they were.
+use Rattle.std.specs.Prelude.{Ok}
 use mathlib.Core.Path.{◌≡◌, sym, ap, ◌∙◌, subst}
 use mathlib.Core.List.{List, ◌++◌}
 use Prim.Native.Nat.{ℕ, ◌+◌, ◌-◌, ◌<◌, ◌≤◌}
@@ -6,7 +7,6 @@ use native.Mathlib.Omega.{arith}
 use lib.ListN.{length, get_or, drop, get_or-append}
 use lib.Seq.{get_or-append-add, get_or-drop}
 use Rattle.switch.specs.declared.Counts.{Counts}
-use Rattle.switch.specs.declared.Outcome.TheVariants.{Done}
 use Rattle.records.specs.Record.{decoded}
 use Rattle.records.specs.Bytes.{record_at, plan_of, whole, laid}
 use Rattle.switch.specs.Result.{Result}
@@ -34,7 +34,7 @@ module _ (d s : List ℕ) where
       ∙ ap (λ (i : ℕ). get_or d i 0) (let e : 0 + length s + (k - length s) ≡ k = omega arith in e)
 
 -- where nothing is refused
-module _ (E : Edition) (bounds : Bounded E) (N : ℕ) (plan buf : List ℕ) {c : Counts} (fine : Done c ≡ checking E N plan) (room : c.records ≤ length buf) where
+module _ (E : Edition) (bounds : Bounded E) (N : ℕ) (plan buf : List ℕ) {c : Counts} (fine : Ok c ≡ checking E N plan) (room : c.records ≤ length buf) where
   abbrev report : List ℕ
   report = grating_report N (plan_of E.width plan)
 

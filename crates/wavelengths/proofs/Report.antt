@@ -1,20 +1,20 @@
 -- The report case by case: each refusal is given exactly where its test is the first that fails, and else each byte is its record's number.
+use Rattle.std.specs.Prelude.{Err, Ok}
 use mathlib.Core.Path.{◌≡◌, sym, ap, ◌∙◌}
-use mathlib.Core.List.{List}
+use mathlib.Core.List.{List, ◌++◌}
 use Prim.Native.Nat.{ℕ, zero, suc, ◌+◌, ◌<◌, ◌≤◌}
 use native.Mathlib.Omega.{arith}
-use lib.ListN.{length, get_or, set, take, length-map}
+use lib.ListN.{length, get_or, drop, length-map}
+use lib.Seq.{ext_get_or}
 use borrow.Author.Tests.{lt-leb, le-leb}
 use Rattle.switch.specs.declared.Counts.{Counts}
-use Rattle.switch.specs.declared.Outcome.{Outcome}
-use Rattle.switch.specs.declared.Outcome.TheVariants.{Done, Refused}
+use Rattle.switch.specs.Outcome.{Outcome}
 use Rattle.switch.specs.declared.Refusal.{Refusal}
 use Rattle.switch.specs.declared.Refusal.TheVariants.{Room}
 use Rattle.records.specs.Record.{decoded}
 use Rattle.records.specs.Bytes.{record_at, whole, plan_from, laid}
 use Rattle.switch.specs.Result.{refuses, after_reading}
 use Rattle.records.proofs.Part.{whole-fits, record-fits, record-size}
-use Rattle.records.proofs.Laid.{copy-start-more, copy-all}
 use Rattle.switch.specs.declared.Edition.{Edition}
 use Rattle.switch.specs.Editions.{first_edition}
 use Rattle.plans.specs.Read.{checking}
@@ -27,11 +27,11 @@ use Rattle.wavelengths.specs.Report.{reports, report_in, reported}
 
 module _ (E : Edition) (N : ℕ) (plan buf : List ℕ) where
   -- codes 1, 9, 10 and 11
-  pub report-refused : {r : Refusal} → Refused r ≡ checking E N plan → refuses r buf ≡ reported E N plan buf
+  pub report-refused : {r : Refusal} → Err r ≡ checking E N plan → refuses r buf ≡ reported E N plan buf
   unfolding reported
   report-refused e = ap (λ (o : Outcome). after_reading o buf (λ c. report_in E N plan c buf)) e
 
-  module _ {c : Counts} (fine : Done c ≡ checking E N plan) where
+  module _ {c : Counts} (fine : Ok c ≡ checking E N plan) where
     report-fine : report_in E N plan c buf ≡ reported E N plan buf
     unfolding reported
     report-fine = ap (λ (o : Outcome). after_reading o buf (λ c. report_in E N plan c buf)) fine
@@ -46,7 +46,7 @@ module _ (E : Edition) (N : ℕ) (plan buf : List ℕ) where
     report-done l = (let e : reports E N plan c buf ≡ report_in E N plan c buf = rw (le-leb _ _ l) in e) ∙ report-fine
 
 -- what is known of a plan that is not refused
-pub fine-plan : (N : ℕ) (plan : List ℕ) {c : Counts} → Done c ≡ checking first_edition N plan → Checked first_edition N plan c
+pub fine-plan : (N : ℕ) (plan : List ℕ) {c : Counts} → Ok c ≡ checking first_edition N plan → Checked first_edition N plan c
 fine-plan N plan {c} e = checked first_edition N plan first-bounded c e
 
 -- ---- the bytes
@@ -54,6 +54,11 @@ fine-plan N plan {c} e = checked first_edition N plan first-bounded c e
 -- a record has its width and its head
 pub read-size : (W : ℕ) (plan : List ℕ) (k : ℕ) → k < whole W plan → length (record_at W plan k) ≡ W + 4
 read-size W plan k l = record-size W plan k (record-fits W plan k (whole W plan) l (whole-fits W plan))
+
+-- bytes laid at the start, before what follows them
+pub laid-first : (d s : List ℕ) (m : ℕ) → length s ≡ m → s ++ drop m d ≡ laid d 0 s
+unfolding laid
+laid-first d s m size = ap (λ (n : ℕ). s ++ drop n d) (let e : m ≡ 0 + length s = omega (arith, size) in e)
 
 module _ (W N : ℕ) (plan : List ℕ) where
   pub length-report : (k m : ℕ) → length (grating_report N (plan_from W plan k m)) ≡ m
@@ -68,13 +73,10 @@ module _ (W N : ℕ) (plan : List ℕ) where
   report-at a (suc m) (suc k) l =
       report-at (suc a) m k (let h : k < m = omega arith in h) ∙ ap (λ (i : ℕ). most_shared N (decoded (record_at W plan i))) (let e : suc a + k ≡ a + suc k = omega arith in e)
 
-  -- one byte more
-  module _ (m : ℕ) (buf : List ℕ) (room : m ≤ length buf) where
-    pub report-more : (p : List ℕ) (k v : ℕ) → k < m → v ≡ most_shared N (decoded (record_at W plan k)) → p ≡ laid buf 0 (take k (grating_report N (plan_from W plan 0 m)))
-        → set p k v ≡ laid buf 0 (take (k + 1) (grating_report N (plan_from W plan 0 m)))
-    report-more p k v l e q =
-        ap (set p k) (e ∙ ap (λ (i : ℕ). most_shared N (decoded (record_at W plan i))) (let z : k ≡ 0 + k = omega arith in z) ∙ sym (report-at 0 m k l))
-        ∙ copy-start-more buf (grating_report N (plan_from W plan 0 m)) p k (omega arith) (omega (arith, length-report 0 m)) q
-
-    pub report-all : (p : List ℕ) (k : ℕ) → m ≤ k → p ≡ laid buf 0 (take k (grating_report N (plan_from W plan 0 m))) → p ≡ laid buf 0 (grating_report N (plan_from W plan 0 m))
-    report-all p k l q = copy-all buf 0 (grating_report N (plan_from W plan 0 m)) p k (omega (arith, length-report 0 m)) q
+  -- bytes that are each its record's number
+  pub report-each : (m : ℕ) (p : List ℕ) → length p ≡ m → ((k : ℕ) → k < m → get_or p k 0 ≡ most_shared N (decoded (record_at W plan k)))
+      → p ≡ grating_report N (plan_from W plan 0 m)
+  report-each m p size each =
+      ext_get_or 0 p (grating_report N (plan_from W plan 0 m)) (size ∙ sym (length-report 0 m))
+      (λ k l. let h : k < m = omega (arith, size) in
+      each k h ∙ ap (λ (i : ℕ). most_shared N (decoded (record_at W plan i))) (let z : k ≡ 0 + k = omega arith in z) ∙ sym (report-at 0 m k h))

@@ -1,4 +1,7 @@
 -- Going (j - i) mod N on from i leads to j, and nothing else below N does; the most inputs that share a wavelength is one of the counts, or 0.
+use Rattle.std.specs.Prelude.{None, Some}
+use Rattle.std.specs.declared.option.Option.{Option}
+use Rattle.std.specs.Option.{MatchOption, unwrap_or}
 use mathlib.Core.Path.{◌≡◌, sym, ap, ◌∙◌}
 use mathlib.Core.Logic.{◌⊎◌, inl, inr, dite}
 use mathlib.Core.List.{List}
@@ -12,7 +15,7 @@ use borrow.Author.Tests.{lt-ltb, le-ltb}
 use Rattle.counting.specs.Sum.{most}
 use Rattle.counting.specs.Count.{ind, count, δ}
 use Rattle.counting.proofs.Sum.{sum-zero, sum-next, sum-cong, sum_mono, sum-const, sum-none, sum-at}
-use Rattle.counting.proofs.Most.{most-at, most-le, most-one, most-cong}
+use Rattle.counting.proofs.Most.{most-zero, most-at, most-le, most-one, most-cong}
 use Rattle.counting.proofs.Count.{ind-le, δ-same, δ-other}
 use Rattle.switch.specs.Plan.{Record, output}
 use Rattle.switch.specs.Demand.{Blank}
@@ -166,3 +169,10 @@ unfolding most_shared
 most-counted N r s c =
     ap (λ (n : ℕ). most n (λ k. get_or (take N s) k 0)) (length-take-le N s c.room)
     ∙ most-cong N (λ k. get_or (take N s) k 0) (sharing N r) (λ w lw. get_or-take N s w 0 lw ∙ c.is w lw)
+
+-- ---- the largest of some numbers: one of them, and none is above it
+
+pub largest-most : (n : ℕ) (f : ℕ → ℕ) (o : Option ℕ) → MatchOption o (n ≡ 0) (λ m. (k : ℕ) → k < n → f k ≤ m)
+    → MatchOption o (n ≡ 0) (λ m. (k : ℕ) × (k < n) × (f k ≡ m)) → unwrap_or o 0 ≡ most n f
+largest-most n f None z _ = rw z (sym (most-zero f))
+largest-most n f (Some m) no_more k = omega (arith, k.2, most-at n f k.0 k.1, most-le n m f no_more)

@@ -1,7 +1,7 @@
 -- What the report of a plan answers, and the report buffer's bytes afterwards (§13.3, §13.4). Definitions only.
+use Rattle.std.specs.Prelude.{Ok}
 use Rattle.std.specs.Prelude.{List, ℕ, length, leb}
 use Rattle.switch.specs.declared.Counts.{Counts}
-use Rattle.switch.specs.declared.Outcome.TheVariants.{Done}
 use Rattle.switch.specs.declared.Refusal.TheVariants.{Room}
 use Rattle.records.specs.Bytes.{plan_of, laid}
 use Rattle.switch.specs.Result.{Result, refuses, unless, after_reading}
@@ -11,7 +11,7 @@ use Rattle.wavelengths.specs.Shared.{grating_report}
 
 -- one byte for each record from the buffer's start on, and nothing else touched; the counts are those of the plan read
 abbrev pub reports : (E : Edition) (N : ℕ) (plan : List ℕ) (c : Counts) (buf : List ℕ) → Result
-reports E N plan c buf = record { outcome = Done c; bytes = laid buf 0 (grating_report N (plan_of E.width plan)) }
+reports E N plan c buf = record { outcome = Ok c; bytes = laid buf 0 (grating_report N (plan_of E.width plan)) }
 
 -- code 5: the report has fewer bytes than the plan has records
 unfoldable pub report_in : (E : Edition) (N : ℕ) (plan : List ℕ) (c : Counts) (buf : List ℕ) → Result

@@ -13,7 +13,6 @@ ghost use Rattle.switch.specs.Demand.{Blank};
 ghost use Rattle.wavelengths.specs.Shared.{wavelength, most_shared, grating_report, Shares};
 ghost use Rattle.wavelengths.specs.Report.{reported};
 
-use numbers::size_of_byte;
 use plans::{check_plan, record_at};
 use records::{HEAD, OUTPUTS};
 use switch::{InputPort, Outcome, OutputPort, Refusal, first_edition};
@@ -25,25 +24,22 @@ const PLACES: usize = 128;
 pub fn grating_report(n: usize, plan: &[u8], report: &mut [u8]) -> Outcome
     ensures { Gives (reported first_edition n plan.now report.old) result report.new }
 {
-    let checked = check_plan(n, plan, first_edition());
-    let Outcome::Done(counts) = checked else {
-        return checked;
-    };
+    let counts = check_plan(n, plan, first_edition())?;
     let records = counts.records;
     if report.len() < records {
-        return Outcome::Refused(Refusal::Room(records));
+        return Err(Refusal::Room(records));
     }
-    report_records(n, plan, OUTPUTS, records, report);
-    checked
+    report_records(n, plan, OUTPUTS, &mut report[..records]);
+    Ok(counts)
 }
 
-// One byte for each record, in order, from the report's start on.
-fn report_records(n: usize, plan: &[u8], width: usize, records: usize, report: &mut [u8])
-    requires { (0 < n) × (n ≤ width) × (width ≤ 128) × (records ≤ whole width plan.now) × (records ≤ length report.old) }
-    ensures { report.new ≡ laid report.old 0 (grating_report n (plan_from width plan.now 0 records)) }
+// One byte for each of a plan's first records, in order.
+fn report_records(n: usize, plan: &[u8], width: usize, report: &mut [u8])
+    requires { (0 < n) × (n ≤ width) × (width ≤ 128) × (length report.old ≤ whole width plan.now) }
+    ensures { report.new ≡ grating_report n (plan_from width plan.now 0 (length report.old)) }
 {
-    for k in 0..records {
-        report[k] = most_shared(n, record_at(plan, width, k));
+    for (k, most) in report.iter_mut().enumerate() {
+        *most = most_shared(n, record_at(plan, width, k));
     }
 }
 
@@ -63,7 +59,7 @@ fn count_inputs(n: usize, rec: &[u8], shares: &mut [u8])
     ensures { Shares n (decoded rec.now) shares.new }
 {
     for i in 0..n {
-        let j = size_of_byte(rec[HEAD + i]);
+        let j = usize::from(rec[HEAD + i]);
         if j < n {
             let w = wavelength_of(n, InputPort(i), OutputPort(j));
             shares[w] += 1;
@@ -83,12 +79,5 @@ pub fn wavelength_of(n: usize, i: InputPort, j: OutputPort) -> usize
 fn largest(numbers: &[u8]) -> u8
     ensures { result ≡ most (length numbers.now) (λ k. get_or numbers.now k 0) }
 {
-    let mut most: u8 = 0;
-    for k in 0..numbers.len() {
-        let x = numbers[k];
-        if most < x {
-            most = x;
-        }
-    }
-    most
+    numbers.iter().copied().max().unwrap_or(0)
 }

@@ -1,4 +1,5 @@
 -- What is computed is what §4 asks, and nothing else is: each case of `wish_of` meets its rule, and a wish meets one rule alone.
+use Rattle.std.specs.Prelude.{Err, Ok}
 use Prim.Native.Nat.{ℕ, ◌*◌, ◌<◌, ◌≤◌}
 use native.Mathlib.Nat.{mul-le-mul_right}
 use native.Mathlib.Omega.{arith}
@@ -11,21 +12,21 @@ use lib.Ieee.{Float, nan, inf, fin, up, down}
 use lib.Ieee.Fits.{down_pos}
 use Rattle.wish.specs.Wish.{most_slots, ceil, worth, finite, wish_of}
 use Rattle.wish.specs.Meaning.{Answers, a-nan, an-infinity, below-zero, above_most, its-slots}
-use Rattle.wish.specs.declared.Wish.{Wish}
-use Rattle.wish.specs.declared.Wish.TheVariants.{Slots, BelowZero, AboveMost}
+use Rattle.wish.specs.Wish.{Wish}
+use Rattle.wish.specs.declared.Unfit.TheVariants.{BelowZero, AboveMost}
 use Rattle.wish.proofs.Ceiling.{least-le, least-unique, ceil-least}
 
 -- ---- the finite wish num / den, case by case
 
-finite-below : (num den : ℕ) → 0 < num → finite true num den ≡ BelowZero
+finite-below : (num den : ℕ) → 0 < num → finite true num den ≡ Err BelowZero
 unfolding finite
 finite-below num den h = rw (lt-ltb 0 num h)
 
-finite-above : (num den : ℕ) → most_slots * den < num → finite false num den ≡ AboveMost
+finite-above : (num den : ℕ) → most_slots * den < num → finite false num den ≡ Err AboveMost
 unfolding finite
 finite-above num den h = rw (lt-ltb (most_slots * den) num h)
 
-finite-slots : (s : Bool) (num den : ℕ) → (s ≡ true → num ≡ 0) → num ≤ most_slots * den → finite s num den ≡ Slots (worth (ceil num den))
+finite-slots : (s : Bool) (num den : ℕ) → (s ≡ true → num ≡ 0) → num ≤ most_slots * den → finite s num den ≡ Ok (worth (ceil num den))
 unfolding finite
 finite-slots true num den z h = rw (le-ltb 0 num (omega (arith, z refl)), le-ltb (most_slots * den) num h)
 finite-slots false num den z h = rw (le-ltb (most_slots * den) num h)
@@ -33,7 +34,7 @@ finite-slots false num den z h = rw (le-ltb (most_slots * den) num h)
 -- ---- each wish has one answer
 
 -- a wish that is neither below zero nor above the most is to be answered by the slots of its ceiling
-pub slots-said : (s : Bool) (m : ℕ) (e : ℤ) → (s ≡ true → m * up e ≡ 0) → m * up e ≤ most_slots * down e → Answers (fin s m e) (Slots (worth (ceil (m * up e) (down e))))
+pub slots-said : (s : Bool) (m : ℕ) (e : ℤ) → (s ≡ true → m * up e ≡ 0) → m * up e ≤ most_slots * down e → Answers (fin s m e) (Ok (worth (ceil (m * up e) (down e))))
 slots-said s m e z h =
     let l = ceil-least (m * up e) (down e) (down_pos e) in
     its-slots z l (least-le (m * up e) (down e) (ceil (m * up e) (down e)) most_slots l h)

@@ -1,4 +1,5 @@
 -- Over whole numbers each comparison that `classify` makes is one of the rules of §4, so each way out has the answer that is asked for.
+use Rattle.std.specs.Prelude.{Err, Ok}
 use Prim.Native.Nat.{ℕ, ◌*◌}
 use native.Mathlib.Nat.{le_trans, mul-one, zero-mul, add-zero, mul-le-mul_right}
 use native.Mathlib.Omega.{arith}
@@ -11,23 +12,23 @@ use lib.Ieee.{Float, nan, inf, fin, up, down, lt, eq, ne, is_nan}
 use lib.Ieee.Compare.{differs_from_itself}
 use Rattle.wish.specs.Wish.{most_slots, worth, ceil_of, wish_of, InRange, code_of}
 use Rattle.wish.specs.Meaning.{Answers, a-nan, an-infinity, below-zero, above_most, its-slots}
-use Rattle.wish.specs.declared.Wish.{Wish}
-use Rattle.wish.specs.declared.Wish.TheVariants.{Slots, NotFinite, BelowZero, AboveMost}
+use Rattle.wish.specs.Wish.{Wish}
+use Rattle.wish.specs.declared.Unfit.TheVariants.{NotFinite, BelowZero, AboveMost}
 use Rattle.wish.proofs.Answer.{only, said, slots-said}
 
 -- ---- no number, or an infinity
 
-pub at-nan : (x : Float) → ne x x ≡ true → NotFinite ≡ wish_of x
+pub at-nan : (x : Float) → ne x x ≡ true → Err NotFinite ≡ wish_of x
 unfolding wish_of
 at-nan x h = rw (differs_from_itself x (subst T (sym h) tt))
 
-pub of_nan : (x : Float) → is_nan x ≡ true → NotFinite ≡ wish_of x
+pub of_nan : (x : Float) → is_nan x ≡ true → Err NotFinite ≡ wish_of x
 unfolding wish_of is_nan
 of_nan nan h = refl
 of_nan (inf s) h = absurd (true≢false (sym h))
 of_nan (fin s m e) h = absurd (true≢false (sym h))
 
-pub at-inf : (x : Float) (s : Bool) → eq x (inf s) ≡ true → NotFinite ≡ wish_of x
+pub at-inf : (x : Float) (s : Bool) → eq x (inf s) ≡ true → Err NotFinite ≡ wish_of x
 unfolding wish_of eq
 at-inf nan s h = refl
 at-inf (inf t) s h = refl
@@ -67,13 +68,13 @@ unfolding lt
 above true m e = refl
 above false m e = simp mul-one
 
-pub at-below-zero : (x : Float) → Finite x → lt x nought ≡ true → BelowZero ≡ wish_of x
+pub at-below-zero : (x : Float) → Finite x → lt x nought ≡ true → Err BelowZero ≡ wish_of x
 at-below-zero nan f h = absurd (not-nan f)
 at-below-zero (inf s) f h = absurd (not-inf s f)
 at-below-zero (fin true m e) f h = only (below-zero (ltb-true 0 (m * up e) (sym (below-nought true m e) ∙ h)))
 at-below-zero (fin false m e) f h = absurd (true≢false (sym h ∙ below-nought false m e))
 
-pub at-above-most : (x : Float) → Finite x → lt most x ≡ true → AboveMost ≡ wish_of x
+pub at-above-most : (x : Float) → Finite x → lt most x ≡ true → Err AboveMost ≡ wish_of x
 at-above-most nan f k = absurd (not-nan f)
 at-above-most (inf s) f k = absurd (not-inf s f)
 at-above-most (fin true m e) f k = absurd (true≢false (sym k ∙ above true m e))
@@ -89,7 +90,7 @@ in-range (fin true m e) f h k =
     (λ p. none, omega arith)
 in-range (fin false m e) f h k = (λ p. absurd (true≢false (sym p)), ltb-false (most_slots * down e) (m * up e) (sym (above false m e) ∙ k))
 
-pub at_slots : (x : Float) → InRange x → Slots (worth (ceil_of x)) ≡ wish_of x
+pub at_slots : (x : Float) → InRange x → Ok (worth (ceil_of x)) ≡ wish_of x
 unfolding ceil_of
 at_slots nan r = absurd r
 at_slots (inf s) r = absurd r

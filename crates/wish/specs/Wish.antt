@@ -3,8 +3,14 @@
 use Rattle.std.specs.Prelude.{ℕ, zero, suc, ◌+◌, ◌-◌, ◌*◌, ◌/◌, ◌≤◌, max, Bool, true, ◌&&◌, cond, ◌≡◌, ltb, Float}
 use Rattle.std.specs.Float.{nan, inf, fin, binary32}
 use Rattle.std.specs.Float.Ieee.{up, down, of_bits}
-use Rattle.wish.specs.declared.Wish.{Wish}
-use Rattle.wish.specs.declared.Wish.TheVariants.{Slots, NotFinite, BelowZero, AboveMost}
+use Rattle.std.specs.Prelude.{Ok, Err}
+use Rattle.std.specs.declared.result.Result.{Result}
+use Rattle.wish.specs.declared.Unfit.{Unfit}
+use Rattle.wish.specs.declared.Unfit.TheVariants.{NotFinite, BelowZero, AboveMost}
+
+-- what a wish comes to: its slots, or why it is refused
+abbrev pub Wish : Type 0
+Wish = Result ℕ Unfit
 
 -- a wish above this is code 8
 abbrev pub most_slots : ℕ
@@ -22,14 +28,14 @@ worth (suc k) = max 2 (suc k)
 -- the finite wish num / den, negated where s is true; minus zero is not below zero
 unfoldable pub finite : (s : Bool) (num den : ℕ) → Wish
 finite s num den =
-    cond (s && ltb 0 num) BelowZero
-    (cond (ltb (most_slots * den) num) AboveMost
-    (Slots (worth (ceil num den))))
+    cond (s && ltb 0 num) (Err BelowZero)
+    (cond (ltb (most_slots * den) num) (Err AboveMost)
+    (Ok (worth (ceil num den))))
 
 -- the wish x
 unfoldable pub wish_of : Float → Wish
-wish_of nan = NotFinite
-wish_of (inf s) = NotFinite
+wish_of nan = Err NotFinite
+wish_of (inf s) = Err NotFinite
 wish_of (fin s m e) = finite s (m * up e) (down e)
 
 -- the wish of 32 bits, whatever they are: of_bits reads every NaN's pattern as nan
@@ -38,17 +44,15 @@ wish_bits b = wish_of (of_bits binary32 b)
 
 -- the code of a wish (§4.4), 0 where nothing is refused
 abbrev pub code_of : Wish → ℕ
-code_of (Slots k) = 0
-code_of NotFinite = 6
-code_of BelowZero = 7
-code_of AboveMost = 8
+code_of (Ok k) = 0
+code_of (Err NotFinite) = 6
+code_of (Err BelowZero) = 7
+code_of (Err AboveMost) = 8
 
 -- a wish's slots, 0 where it is refused
 abbrev pub slots_of : Wish → ℕ
-slots_of (Slots k) = k
-slots_of NotFinite = 0
-slots_of BelowZero = 0
-slots_of AboveMost = 0
+slots_of (Ok k) = k
+slots_of (Err u) = 0
 
 -- x is finite and from 0 to the most slots
 abbrev pub InRange : Float → Type 0

@@ -17,11 +17,9 @@ const UNSIGNED: u32 = 0x8000_0000;
 // 2^23, from which on a binary32 has no digit for a fraction: added to a wish and taken off again, it leaves the nearest whole number.
 const NO_FRACTION: f32 = 8388608.0;
 
-// What a wish comes to.
+// Why a wish is refused.
 #[derive(Clone, Copy)]
-pub enum Wish {
-    // The slots that it is given.
-    Slots(u32),
+pub enum Unfit {
     // Code 6: a NaN or an infinity.
     NotFinite,
     // Code 7: below zero.
@@ -30,37 +28,40 @@ pub enum Wish {
     AboveMost,
 }
 
+// What a wish comes to: the slots that it is given, or why it is refused.
+pub type Wish = Result<u32, Unfit>;
+
 // The wish of 32 bits. A NaN's are told by their number, since no float may be made of them.
 pub fn of_bits(bits: u32) -> Wish
     ensures { result ≡ wish_bits bits }
 {
     if INFINITE < bits % UNSIGNED {
-        return Wish::NotFinite;
+        return Err(Unfit::NotFinite);
     }
     classify(f32::from_bits(bits))
 }
 
-// The wish x. A NaN is tested for first, since every comparison below is false of it.
+// The wish x. A NaN is tested for first, since every comparison below is false of it: it alone differs from itself.
 pub fn classify(x: f32) -> Wish
     ensures { result ≡ wish_of x }
 {
     if x != x {
-        return Wish::NotFinite;
+        return Err(Unfit::NotFinite);
     }
     let infinite: f32 = 1.0 / 0.0;
     if x == infinite {
-        return Wish::NotFinite;
+        return Err(Unfit::NotFinite);
     }
     if x == -infinite {
-        return Wish::NotFinite;
+        return Err(Unfit::NotFinite);
     }
     if x < 0.0 {
-        return Wish::BelowZero;
+        return Err(Unfit::BelowZero);
     }
     if x > MOST_SLOTS {
-        return Wish::AboveMost;
+        return Err(Unfit::AboveMost);
     }
-    Wish::Slots(worth_of(rounded_up(x)))
+    Ok(worth_of(rounded_up(x)))
 }
 
 // The slots of 32 bits whose wish is not refused: a caller who has judged them need not have them judged again.
@@ -72,14 +73,15 @@ pub fn slots_given(bits: u32) -> u32
 }
 
 // The code of a wish, 0 where nothing is refused.
+// C has no Result: it is told a code and slots, each a number.
 pub fn code_of(wish: Wish) -> u8
     ensures { result ≡ code_of wish }
 {
     match wish {
-        Wish::Slots(_) => 0,
-        Wish::NotFinite => 6,
-        Wish::BelowZero => 7,
-        Wish::AboveMost => 8,
+        Ok(_) => 0,
+        Err(Unfit::NotFinite) => 6,
+        Err(Unfit::BelowZero) => 7,
+        Err(Unfit::AboveMost) => 8,
     }
 }
 
@@ -87,12 +89,7 @@ pub fn code_of(wish: Wish) -> u8
 pub fn slots_of(wish: Wish) -> u32
     ensures { result ≡ slots_of wish }
 {
-    match wish {
-        Wish::Slots(slots) => slots,
-        Wish::NotFinite => 0,
-        Wish::BelowZero => 0,
-        Wish::AboveMost => 0,
-    }
+    wish.unwrap_or(0)
 }
 
 // The least whole number not below x: the nearest one, or the next where that is below x.

@@ -1,4 +1,5 @@
 -- The call's answer, way by way: each refusal is given exactly where its test is the first that fails.
+use Rattle.std.specs.Prelude.{Err}
 use Prim.Native.Nat.{ℕ, ◌*◌, ◌/◌, ◌%◌}
 use mathlib.Core.Path.{◌≡◌, sym, ap}
 use mathlib.Core.Bool.{true, false}
@@ -7,9 +8,8 @@ use lib.ListN.{length}
 use borrow.Author.Tests.{eq-eqb, ne_eqb}
 use Rattle.switch.specs.Check.{ports_fine}
 use Rattle.switch.specs.declared.Refusal.TheVariants.{Ports, Cells, Torn}
-use Rattle.switch.specs.declared.Outcome.{Outcome}
-use Rattle.switch.specs.declared.Outcome.TheVariants.{Refused}
-use Rattle.wishes.specs.declared.Fault.{Fault}
+use Rattle.switch.specs.Outcome.{Outcome}
+use Rattle.wishes.specs.Fault.{Fault}
 use Rattle.wishes.specs.Fault.{first_fault}
 use Rattle.wishes.specs.Wishes.{of_fault, outcome, cells_of, cells_after}
 
@@ -22,17 +22,17 @@ unfolding cells_after
 result most N s cells o h = (sym h, ap (cells_of N s cells) (sym h))
 
 module _ (most N : ℕ) (s : List ℕ) (len : ℕ) where
-  pub bad-ports : ports_fine most N ≡ false → outcome most N s len ≡ Refused Ports
+  pub bad-ports : ports_fine most N ≡ false → outcome most N s len ≡ Err Ports
   unfolding outcome
   bad-ports p = rw p
 
   module _ (p : ports_fine most N ≡ true) where
-    pub bad-cells : (len ≡ N * N → ⊥) → outcome most N s len ≡ Refused (Cells (N * N))
+    pub bad-cells : (len ≡ N * N → ⊥) → outcome most N s len ≡ Err (Cells (N * N))
     unfolding outcome
     bad-cells h = rw (p, ne_eqb len (N * N) h)
 
     module _ (e : len ≡ N * N) where
-      pub torn : (length s % 8 ≡ 0 → ⊥) → outcome most N s len ≡ Refused (Torn (length s / 8))
+      pub torn : (length s % 8 ≡ 0 → ⊥) → outcome most N s len ≡ Err (Torn (length s / 8))
       unfolding outcome
       torn h = rw (p, eq-eqb len (N * N) e, ne_eqb (length s % 8) 0 h)
 

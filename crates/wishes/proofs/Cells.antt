@@ -1,4 +1,5 @@
 -- Each record writes one cell, and no later one writes it again: two records without a fault name different pairs.
+use Rattle.std.specs.Prelude.{Ok}
 use Prim.Native.Nat.{ℕ, zero, suc, ◌+◌, ◌*◌, ◌/◌, ◌%◌, ◌<◌, ◌≤◌}
 use native.Mathlib.Nat.{le_refl, le_of_suc-le-suc, eq-or-lt_of_le, zero-mul, mod-lt, div-add-mod', div-lt_iff_lt-mul}
 use native.Mathlib.Numerals.{add-one}
@@ -13,17 +14,12 @@ use lib.Seq.{ext_get_or, get_or-set_same, get_or-set_other}
 use Rattle.switch.specs.Demand.{cell}
 use Rattle.switch.proofs.Demand.{index-inj}
 use Rattle.wish.specs.Wish.{wish_bits, slots_of}
-use Rattle.wishes.specs.declared.Fault.TheVariants.{Nothing}
 use Rattle.wishes.specs.declared.WishRecord.{WishRecord}
 use Rattle.wishes.specs.Record.{record_at}
 use Rattle.wishes.specs.Fault.{named, NamedBy, first_fault}
 use Rattle.wishes.specs.Wishes.{put, demand_of, Demanded}
 use Rattle.wishes.proofs.Faults.{Inside, inside, all_sound}
 use Rattle.wishes.proofs.Pairs.{named-later, by-named, named_by}
-
--- a list of n zeros is told by its elements
-pub zeros : (l : List ℕ) (n : ℕ) → length l ≡ n → ((k : ℕ) → k < n → get_or l k 0 ≡ 0) → l ≡ replicate n 0
-zeros l n e h = ext_get_or 0 l (replicate n 0) (e ∙ sym (length-replicate n 0)) (λ i b. let b' : i < n = rw e at b in h i b' ∙ sym (get_or-replicate n i 0 0 b'))
 
 -- ---- one record's slots put in
 
@@ -52,7 +48,7 @@ module _ (N : ℕ) (s : List ℕ) where
   demand-length zero = length-replicate (N * N) 0
   demand-length (suc m) = simp length-set (demand-length m)
 
-  module _ (count : ℕ) (fine : first_fault N s count ≡ Nothing) where
+  module _ (count : ℕ) (fine : first_fault N s count ≡ Ok tt) where
     placed : (k : ℕ) → k < count → Inside N (record_at s k)
     placed k l = inside N (record_at s k) (all_sound N s count k fine l).formed
 

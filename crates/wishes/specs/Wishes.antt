@@ -1,4 +1,5 @@
 -- What the call on a wish list answers, and what the cells are then (§4.6). Definitions only.
+use Rattle.std.specs.Prelude.{Err, Ok}
 use Rattle.std.specs.Prelude.{ℕ, zero, suc, ◌+◌, ◌*◌, ◌/◌, ◌%◌, ◌<◌, List, ◌≡◌, eqb, length, set, replicate}
 use Rattle.switch.specs.Check.{ports_fine}
 use Rattle.switch.specs.Answer.{plan_counts}
@@ -6,12 +7,10 @@ use Rattle.switch.specs.Result.{Result, unless}
 use Rattle.switch.specs.Demand.{cell}
 use Rattle.switch.specs.declared.Refusal.TheVariants.{Ports, Cells, Torn}
 use Rattle.switch.specs.declared.Edition.{Edition}
-use Rattle.switch.specs.declared.Outcome.{Outcome}
-use Rattle.switch.specs.declared.Outcome.TheVariants.{Done, Refused}
+use Rattle.switch.specs.Outcome.{Outcome}
 use Rattle.wish.specs.Wish.{wish_bits, slots_of}
 use Rattle.wishes.specs.declared.WishRecord.{WishRecord}
-use Rattle.wishes.specs.declared.Fault.{Fault}
-use Rattle.wishes.specs.declared.Fault.TheVariants.{At, Nothing}
+use Rattle.wishes.specs.Fault.{Fault}
 use Rattle.wishes.specs.Record.{record_at}
 use Rattle.wishes.specs.Fault.{NamedBy, first_fault}
 
@@ -32,20 +31,20 @@ pub record Demanded (N : ℕ) (s : List ℕ) (m : ℕ) (d : List ℕ) : Type 0 w
 
 -- the number of wish records, or the first fault (§9.2)
 abbrev pub of_fault : ℕ → Fault → Outcome
-of_fault count Nothing = Done (plan_counts count 0 0)
-of_fault count (At r) = Refused r
+of_fault count (Ok u) = Ok (plan_counts count 0 0)
+of_fault count (Err r) = Err r
 
 -- codes 1, 2 and 9, then the first fault (§9.9); for a list s and len cells, of a switch of up to `most` ports
 unfoldable pub outcome : (most N : ℕ) (s : List ℕ) (len : ℕ) → Outcome
 outcome most N s len =
-    unless (ports_fine most N) (Refused Ports)
-    (unless (eqb len (N * N)) (Refused (Cells (N * N)))
-    (unless (eqb (length s % 8) 0) (Refused (Torn (length s / 8))) (of_fault (length s / 8) (first_fault N s (length s / 8)))))
+    unless (ports_fine most N) (Err Ports)
+    (unless (eqb len (N * N)) (Err (Cells (N * N)))
+    (unless (eqb (length s % 8) 0) (Err (Torn (length s / 8))) (of_fault (length s / 8) (first_fault N s (length s / 8)))))
 
 -- a refusal changes no cell
 abbrev pub cells_of : ℕ → List ℕ → List ℕ → Outcome → List ℕ
-cells_of N s cells (Done c) = demand_of N s (length s / 8)
-cells_of N s cells (Refused r) = cells
+cells_of N s cells (Ok c) = demand_of N s (length s / 8)
+cells_of N s cells (Err r) = cells
 
 -- the cells after the call
 unfoldable pub cells_after : (most N : ℕ) (s cells : List ℕ) → List ℕ

@@ -4,7 +4,7 @@
 // What one wish is worth is the crate `wish`'s matter, and whether the lines are too long is for whoever plans the demand.
 #![tactic(auto)]
 
-ghost use Rattle.std.specs.Prelude.{◌≡◌, true, ◌+◌, ◌*◌, ◌≤◌, ◌<◌, length, replicate};
+ghost use Rattle.std.specs.Prelude.{◌≡◌, true, ◌+◌, ◌*◌, ◌≤◌, ◌<◌, length};
 ghost use Rattle.switch.specs.Editions.{first_edition, second_edition};
 ghost use Rattle.switch.specs.Result.{Gives};
 ghost use Rattle.wishes.specs.Record.{record_at, well_formed};
@@ -14,9 +14,9 @@ ghost use Rattle.wishes.specs.Seen.{Empty, Marks, seen_pair};
 ghost use Rattle.wishes.specs.Wishes.{put, demand_of, outcome, cells_after, wishing};
 
 pub use numbers::word_at;
-use sets::Label;
+use sets::{Label, NumberSet};
 use switch::{Counts, InputPort, Outcome, OutputPort, Refusal};
-use wish::Wish;
+use wish::{Unfit, Wish};
 
 // A wish record and where its parts stand (§4.5).
 const RECORD: usize = 8;
@@ -46,86 +46,63 @@ pub struct WishRecord {
     pub bits: u32,
 }
 
-// What is wrong with a record.
-#[derive(Clone, Copy)]
-pub enum Fault {
-    At(Refusal),
-    Nothing,
-}
-
 // Makes a demand of a wish list.
 pub fn wishes(n: usize, list: &[u8], cells: &mut [u32]) -> Outcome
     ensures { Gives (wishing first_edition n list.now cells.old) result cells.new }
 {
-    let mut marks = [0u64; WORDS];
-    list_to_demand(n, switch::PORTS, list, cells, &mut marks)
+    list_to_demand::<WORDS>(n, switch::PORTS, list, cells)
 }
 
 // The same in the second edition.
 pub fn wishes_second(n: usize, list: &[u8], cells: &mut [u32]) -> Outcome
     ensures { Gives (wishing second_edition n list.now cells.old) result cells.new }
 {
-    let mut marks = [0u64; WIDE_WORDS];
-    list_to_demand(n, switch::WIDE_PORTS, list, cells, &mut marks)
+    list_to_demand::<WIDE_WORDS>(n, switch::WIDE_PORTS, list, cells)
 }
 
-// The same for a switch of up to `most` ports; `marks` is room for a bit for each pair.
-fn list_to_demand(
-    n: usize,
-    most: usize,
-    list: &[u8],
-    cells: &mut [u32],
-    marks: &mut [u64],
-) -> Outcome
-    requires { (most ≤ 128) × Empty most marks.old }
+// The same for a switch of up to `most` ports; `M` words have a bit for each pair.
+fn list_to_demand<const M: usize>(n: usize, most: usize, list: &[u8], cells: &mut [u32]) -> Outcome
+    requires { (most ≤ 128) × (most * most ≤ 64 * M) × (M ≤ 256) }
     ensures { (result ≡ outcome most n list.now (length cells.old)) × (cells.new ≡ cells_after most n list.now cells.old) }
 {
     if n == 0 {
-        return Outcome::Refused(Refusal::Ports);
+        return Err(Refusal::Ports);
     }
     if most < n {
-        return Outcome::Refused(Refusal::Ports);
+        return Err(Refusal::Ports);
     }
     let square = n * n;
     if cells.len() != square {
-        return Outcome::Refused(Refusal::Cells(square));
+        return Err(Refusal::Cells(square));
     }
     let count = list.len() / RECORD;
     if list.len() % RECORD != 0 {
-        return Outcome::Refused(Refusal::Torn(count));
+        return Err(Refusal::Torn(count));
     }
-    let fault = first_fault(n, list, count, marks);
-    match fault {
-        Fault::At(refusal) => Outcome::Refused(refusal),
-        Fault::Nothing => {
-            fill(n, list, count, cells);
-            Outcome::Done(Counts {
-                records: count,
-                longest: 0,
-                total: 0,
-                length: 0,
-                empty: 0,
-            })
-        }
-    }
+    let mut marks = [0u64; M];
+    first_fault(n, list, count, &mut marks)?;
+    fill(n, list, count, cells);
+    Ok(Counts {
+        records: count,
+        longest: 0,
+        total: 0,
+        length: 0,
+        empty: 0,
+    })
 }
 
 // The fault of the first faulty record of the first `count`. Each record is looked at once: the pairs named so far are marked.
-fn first_fault(n: usize, list: &[u8], count: usize, marks: &mut [u64]) -> Fault
+// k names the record in a refusal.
+fn first_fault(n: usize, list: &[u8], count: usize, marks: &mut [u64]) -> Result<(), Refusal>
     requires { (8 * count ≤ length list.now) × (n ≤ 128) × Empty n marks.old }
     ensures { result ≡ first_fault n list.now count }
 {
-    let mut k: usize = 0;
-    while k < count {
+    for k in 0..count {
         let wanted = record_at(list, k);
-        let fault = fault_of(n, wanted, k, marks);
-        if let Fault::At(refusal) = fault {
-            return Fault::At(refusal);
-        }
+        fault_of(n, wanted, k, marks)?;
         mark(n, wanted.input, wanted.output, marks);
-        k += 1;
     }
-    Fault::Nothing
+    Ok(())
 }
 
 // Record k of the list.
@@ -135,8 +112,8 @@ fn record_at(list: &[u8], k: usize) -> WishRecord
 {
     let at = RECORD * k;
     WishRecord {
-        input: InputPort(list[at] as usize),
-        output: OutputPort(list[at + OUTPUT] as usize),
+        input: InputPort(usize::from(list[at])),
+        output: OutputPort(usize::from(list[at + OUTPUT])),
         spare0: list[at + SPARE0],
         spare1: list[at + SPARE1],
         bits: word_at(list, at + VALUE),
@@ -144,33 +121,25 @@ fn record_at(list: &[u8], k: usize) -> WishRecord
 }
 
 // The fault of record k, the first of 11, 12, 6, 7, 8 that it has.
-fn fault_of(n: usize, wanted: WishRecord, k: usize, marks: &[u64]) -> Fault
+fn fault_of(n: usize, wanted: WishRecord, k: usize, marks: &[u64]) -> Result<(), Refusal>
     requires { (n ≤ 128) × (n * n ≤ 64 * length marks.now) }
     ensures { result ≡ fault_of n k (seen_pair n marks.now wanted.input.0 wanted.output.0) wanted }
 {
     if !well_formed(n, wanted) {
-        return Fault::At(Refusal::Malformed(k));
+        return Err(Refusal::Malformed(k));
     }
     if seen(n, wanted.input, wanted.output, marks) {
-        return Fault::At(Refusal::Named(k));
+        return Err(Refusal::Named(k));
     }
     wish_fault(wish::of_bits(wanted.bits), k)
 }
 
 // Are both ports below n, and both spare bytes zero?
+#[tactic(auto, unfolding(crate::specs::Record::well_formed))]
 fn well_formed(n: usize, wanted: WishRecord) -> bool
     ensures { result ≡ well_formed n wanted }
 {
-    if n <= wanted.input.0 {
-        return false;
-    }
-    if n <= wanted.output.0 {
-        return false;
-    }
-    if wanted.spare0 != 0 {
-        return false;
-    }
-    wanted.spare1 == 0
+    wanted.input.0 < n && wanted.output.0 < n && wanted.spare0 == 0 && wanted.spare1 == 0
 }
 
 // Was the pair marked?
@@ -195,38 +164,26 @@ fn mark(n: usize, i: InputPort, j: OutputPort, marks: &mut [u64])
 }
 
 // Codes 6, 7 and 8, for the wish of record k.
-fn wish_fault(asked: Wish, k: usize) -> Fault
+// A match: `map_err` would have the same three cases, in a closure.
+fn wish_fault(asked: Wish, k: usize) -> Result<(), Refusal>
     ensures { result ≡ wish_fault k asked }
 {
     match asked {
-        Wish::Slots(_) => Fault::Nothing,
-        Wish::NotFinite => Fault::At(Refusal::NotFinite(k)),
-        Wish::BelowZero => Fault::At(Refusal::BelowZero(k)),
-        Wish::AboveMost => Fault::At(Refusal::AboveMost(k)),
+        Ok(_) => Ok(()),
+        Err(Unfit::NotFinite) => Err(Refusal::NotFinite(k)),
+        Err(Unfit::BelowZero) => Err(Refusal::BelowZero(k)),
+        Err(Unfit::AboveMost) => Err(Refusal::AboveMost(k)),
     }
 }
 
 // Puts the slots of the first `count` records into their cells, and 0 into every other.
 fn fill(n: usize, list: &[u8], count: usize, cells: &mut [u32])
-    requires { (8 * count ≤ length list.now) × (n ≤ 128) × (length cells.old ≡ n * n) × (first_fault n list.now count ≡ Fault.Nothing) }
+    requires { (8 * count ≤ length list.now) × (n ≤ 128) × (length cells.old ≡ n * n) × (first_fault n list.now count ≡ Ok tt) }
     ensures { cells.new ≡ demand_of n list.now count }
 {
-    clear(cells);
-    let mut k: usize = 0;
-    while k < count {
+    cells.fill(0);
+    for k in 0..count {
         put(n, record_at(list, k), cells);
-        k += 1;
-    }
-}
-
-// Makes every cell 0.
-fn clear(cells: &mut [u32])
-    ensures { cells.new ≡ replicate (length cells.old) 0 }
-{
-    let mut at: usize = 0;
-    while at < cells.len() {
-        cells[at] = 0;
-        at += 1;
     }
 }
 

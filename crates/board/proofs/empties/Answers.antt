@@ -26,7 +26,7 @@ pub bounds-cells-at-2 : goal.bounds-cells-at-2
 bounds-cells-at-2 c = let p = c.requires in omega (arith, c.cell_at-at.ensures, index_in _ _ _ _ p.sized p.input p.output)
 
 pub returns-then-left-ne0 : goal.returns-then-left-ne0
-returns-then-left-ne0 c = taken-some _ _ _ _ _ _ _ c.requires _ c.cell_at-at.ensures (λ z. omega (arith, c.if-left-ne0.true))
+returns-then-left-ne0 c = taken-some _ _ _ _ _ _ c.requires _ c.cell_at-at.ensures (λ z. omega (arith, c.if-left-ne0.true))
 
 pub returns : goal.returns
-returns c = taken-all _ _ _ _ _ _ _ c.requires _ c.cell_at-at.ensures (omega (arith, c.if-left-ne0.false)) _ _ _ _ c.row_of-row.ensures c.without.ensures c.put_row.ensures
+returns c = taken-all _ _ _ _ _ _ c.requires _ c.cell_at-at.ensures (omega (arith, c.if-left-ne0.false)) _ _ _ c.row_of-row.ensures c.without.ensures c.put_row.ensures

@@ -17,7 +17,7 @@ pub overflow_add-cells : goal.overflow_add-cells
 unfolding cell
 overflow_add-cells c =
     let a = c.args in
-    omega (arith, c.smaller_word-more.ensures, c.requires.fits, ap (λ (k : ℕ). get_or a.cells.now k 0) c.cell_at-at.ensures)
+    omega (arith, c.min-more.ensures, c.requires.fits, ap (λ (k : ℕ). get_or a.cells.now k 0) c.cell_at-at.ensures)
 
 pub bounds-cells-at-2 : goal.bounds-cells-at-2
 bounds-cells-at-2 c = let p = c.requires in omega (arith, c.cell_at-at.ensures, index_in _ _ _ _ p.sized p.input p.output)
@@ -30,7 +30,7 @@ unfolding cell
 returns c =
     let a = c.args in
     let e = c.cell_at-at.ensures in
-    let m = c.smaller_word-more.ensures in (
+    let m = c.min-more.ensures in (
       ap₂ (λ (k v : ℕ). set a.cells.now k (get_or a.cells.now k 0 + v)) e m,
       ap (λ (v : ℕ). set (set a.lacking.now a.i.0 (get_or a.lacking.now a.i.0 0 - v)) (a.n + a.j.0) (get_or a.lacking.now (a.n + a.j.0) 0 - v)) m,
     )

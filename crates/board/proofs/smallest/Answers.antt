@@ -38,7 +38,7 @@ loop-i-preserved c =
     let a = c.args in
     let n = least-next (λ k. cell a.n a.cells.now k (out_of a.out.now k)) l.i l.invariant.1 in
     let v = at-cell _ _ _ c.requires l.i c.loop-i-test.true _ c.used-at.ensures in
-    (omega arith, omega arith, omega (arith, c.smaller_word-hold.ensures))
+    (omega arith, omega arith, omega (arith, c.min-hold.ensures))
 
 pub returns : goal.returns
 returns c =

@@ -7,8 +7,7 @@ use lib.ListN.{set}
 use lib.Dec.{eqb}
 use borrow.Author.Tests.{eqb-true, eqb-false}
 use Rattle.switch.specs.Demand.{cell}
-use Rattle.labels.specs.declared.Inputs.{Inputs}
-use Rattle.labels.specs.Ports.{inputs_of}
+use Rattle.labels.specs.Ports.{Inputs, inputs_of}
 use Rattle.rules.specs.Peel.{peel_to}
 use Rattle.rules.proofs.Peel.{peel_to-zero}
 use Rattle.board.specs.Level.{Uses, out_of}

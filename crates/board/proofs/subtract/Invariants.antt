@@ -8,7 +8,7 @@ use Rattle.board.specs.Labelled.{Labelled, Emptied}
 use Rattle.board.proofs.subtract.Given as goal
 
 abbrev pub invariant-loop-i : goal.invariant-loop-i
-invariant-loop-i l = (l.i ≤ l.n) × (l.cells ≡ peel_to l.n l.hold (out_of l.out) l.initial.cells l.i) × Labelled l.n l.cells l.lows l.highs × Emptied l.n l.cells l.out (inputs_of l.emptied) l.i
+invariant-loop-i l = (l.i ≤ l.n) × (l.cells ≡ peel_to l.n l.hold (out_of l.out) l.initial.cells l.i) × Labelled l.n l.cells l.rows × Emptied l.n l.cells l.out (inputs_of l.emptied) l.i
 
 abbrev pub decreases-loop-i : goal.decreases-loop-i
 decreases-loop-i l = l.n - l.i

@@ -27,4 +27,4 @@ bounds-cells-at-2 c = let p = c.requires in omega (arith, c.cell_at-at.ensures, 
 
 pub returns : goal.returns
 returns c =
-    taken _ _ _ _ _ _ _ c.requires _ c.cell_at-at.ensures _ _ _ _ c.row_of-row.ensures c.without_if.ensures c.put_row.ensures
+    taken _ _ _ _ _ _ c.requires _ c.cell_at-at.ensures _ _ _ c.row_of-row.ensures c.without_if.ensures c.put_row.ensures

@@ -1,10 +1,12 @@
 -- Code 3 comes with its name.
-use mathlib.Core.Path.{sym, ◌∙◌}
-use Rattle.carry.proofs.Carry.{lines-faulty, lines-fine}
+use Rattle.std.proofs.Common.{rules}
+use Rattle.carry.specs.Carry.{lines_of}
 use Rattle.carry.proofs.lines_of.Goals as goal
 
-pub returns-in-Faulty : goal.returns-in-Faulty
-returns-in-Faulty c = lines-faulty _ _ _ (sym c.in-Faulty.is ∙ c.check_lines.ensures)
+pub returns-in_err-map_err : goal.returns-in_err-map_err
+unfolding lines_of
+returns-in_err-map_err c = search rules
 
-pub returns-in-Fine : goal.returns-in-Fine
-returns-in-Fine c = lines-fine _ _ _ (sym c.in-Fine.is ∙ c.check_lines.ensures)
+pub returns : goal.returns
+unfolding lines_of
+returns c = search rules

@@ -1,34 +1,41 @@
 -- Each return is the case of the definition whose tests led there; a pass that came to the end has granted what the plan grants.
-use mathlib.Core.Path.{sym, ◌∙◌}
+use Rattle.std.specs.Prelude.{Ok}
+use mathlib.Core.Path.{◌≡◌, sym, ◌∙◌}
+use native.Mathlib.Nat.{mul-le-mul}
 use native.Mathlib.Omega.{arith}
+use Rattle.std.proofs.Common.{rules}
+use Rattle.std.proofs.lemmas.Result.{err_from_is_err_and}
+use Rattle.switch.specs.Plan.{total}
+use Rattle.switch.proofs.Demand.{blank-zeros}
 use Rattle.plans.proofs.Reading.{reading-refused, reading-malformed, readable}
+use Rattle.checker.proofs.Cover.{answers}
 use Rattle.checker.proofs.Check.{check-met}
 use Rattle.checker.proofs.check_records.Goals as goal
 
-pub returns-in_default : goal.returns-in_default
-returns-in_default c = c.in_default.is ∙ reading-refused _ _ _ _ (sym c.in_default.is ∙ c.open-opened.ensures)
+pub returns-in_err-records : goal.returns-in_err-records
+returns-in_err-records g c =
+    let p = err_from_is_err_and c.from_residual.result c.from_residual.ensures.1 in
+    rw (p.1, p.2) (reading-refused _ _ _ _ (sym c.in_err-records.was ∙ c.open.ensures))
 
-pub grant_plan-granted-requires : goal.grant_plan-granted-requires
-grant_plan-granted-requires c = (readable _ _ _ _ c.requires.0 (sym c.in-Done.is ∙ c.open-opened.ensures), record { room = omega (arith, c.requires.1, c.requires.2.room); clear = c.requires.2.clear })
+pub grant_plan-requires : goal.grant_plan-requires
+grant_plan-requires g c =
+    let r = readable _ _ _ _ c.requires.0 (sym c.in_ok-records.was ∙ c.open.ensures) in
+    let z = blank-zeros g.row.GRANTS in
+    (r, record { room = omega (arith, c.requires.1, z.room, mul-le-mul r.few r.few); clear = z.clear })
 
-pub returns-then-granted-records : goal.returns-then-granted-records
-returns-then-granted-records c =
-    let o = sym c.in-Done.is ∙ c.open-opened.ensures in
-    reading-malformed _ _ _ _ o _ _ c.grant_plan-granted.ensures.0 (omega arith)
+pub returns-in_err-total : goal.returns-in_err-total
+returns-in_err-total g c =
+    let p = err_from_is_err_and c.from_residual-in_err-total.result c.from_residual-in_err-total.ensures.1 in
+    rw (p.1, p.2) (reading-malformed _ _ _ _ total (sym c.in_ok-records.was ∙ c.open.ensures) (sym c.in_err-total.was ∙ c.grant_plan.ensures.told))
 
-pub meet-requires : goal.meet-requires
-meet-requires c =
-    let r = readable _ _ _ _ c.requires.0 (sym c.in-Done.is ∙ c.open-opened.ensures) in
-    (omega (arith, r.few, c.requires.0.ports, c.requires.0.width), c.requires.1, c.grant_plan-granted.ensures.1.room)
+pub returns-in_err-empty : goal.returns-in_err-empty
+returns-in_err-empty g c =
+    let e : c.from_residual-in_err-empty.result ≡ answers c.in_ok-records.field-0.records c.args.longest c.in_ok-total.total c.meet.result = search rules in
+    let done = sym c.in_ok-total.was ∙ c.grant_plan.ensures.told in
+    e ∙ check-met _ _ _ _ _ _ _ (sym c.in_ok-records.was ∙ c.open.ensures) _ done c.grant_plan.ensures.granted _ c.meet.ensures
 
-pub returns-in-Misses : goal.returns-in-Misses
-returns-in-Misses c =
-    let o = sym c.in-Done.is ∙ c.open-opened.ensures in
-    let p = c.grant_plan-granted.ensures in
-    check-met _ _ _ _ _ _ _ o _ _ p.0 c.if-granted-records.false p.1 _ (sym c.in-Misses.is ∙ c.meet.ensures)
-
-pub returns-in-Meets : goal.returns-in-Meets
-returns-in-Meets c =
-    let o = sym c.in-Done.is ∙ c.open-opened.ensures in
-    let p = c.grant_plan-granted.ensures in
-    check-met _ _ _ _ _ _ _ o _ _ p.0 c.if-granted-records.false p.1 _ (sym c.in-Meets.is ∙ c.meet.ensures)
+pub returns : goal.returns
+returns g c =
+    let e : c.meet.result ≡ Ok c.in_ok-empty.empty = search rules in
+    let done = sym c.in_ok-total.was ∙ c.grant_plan.ensures.told in
+    check-met _ _ _ _ _ _ _ (sym c.in_ok-records.was ∙ c.open.ensures) _ done c.grant_plan.ensures.granted _ (sym e ∙ c.meet.ensures)

@@ -7,7 +7,6 @@ use Rattle.counting.proofs.Most.{most-zero, most-next}
 use Rattle.switch.specs.Demand.{line}
 use Rattle.switch.proofs.Demand.{longest-is}
 use Rattle.demand.proofs.longest_line.Goals as goal
-use Rattle.demand.proofs.longest_line.Goals.{then-longest-sum, else-longest-sum}
 
 pub loop-k-init : goal.loop-k-init
 loop-k-init c = (refl, omega arith, sym (most-zero _))
@@ -16,9 +15,7 @@ pub loop-k-preserved : goal.loop-k-preserved
 loop-k-preserved c =
     let a = c.args in
     let l = c.loop-k in
-    let m = most-next l.k (line a.n a.cells.now) in
-    let s = c.line_sum-sum.ensures in
-    (refl, omega arith, elim c.if-longest-sum.branch [ then-longest-sum w ↦ omega arith | else-longest-sum w ↦ omega arith ])
+    (refl, omega arith, omega (arith, c.line_sum.ensures, most-next l.k (line a.n a.cells.now)))
 
 pub returns : goal.returns
 returns c =

@@ -12,7 +12,7 @@ use Rattle.turns.specs.Second.{doubled_rule}
 use Rattle.doubled.proofs.doubled_plan_every_rotation.Goals as goal
 
 pub plan_for-requires : goal.plan_for-requires
-plan_for-requires c = rw c.first_edition.ensures (first-bounded, omega arith, omega arith)
+plan_for-requires c = rw c.first_edition.ensures (first-bounded, omega arith, omega arith, omega arith, omega arith)
 
 pub returns : goal.returns
 unfolding every_rotation_plan

@@ -1,9 +1,9 @@
 -- Nothing asked for is the empty plan; else there is a u of at least 1 to divide by, and the rotations' holds by the rule make its second part.
+use Rattle.std.specs.Prelude.{Ok}
 use mathlib.Core.Path.{ap, ◌∙◌, subst}
 use lib.ListN.{length}
 use Rattle.rules.proofs.Peels.{length-tab}
 use Rattle.rules.specs.Doubled.{Doubled}
-use Rattle.demand.specs.declared.Checked.TheVariants.{Fine}
 use Rattle.turns.specs.declared.Turning.TheVariants.{Forward}
 use Rattle.turns.proofs.Divided.{fine-asks, divided, asked, wide, holding, rule-parts}
 use Rattle.doubled.proofs.Promise.{either-rule}
@@ -11,7 +11,7 @@ use Rattle.doubled.proofs.Answer.{empty-answer}
 use Rattle.doubled.proofs.plan_fine.Goals as goal
 
 pub returns-then-longest-eq0 : goal.returns-then-longest-eq0
-returns-then-longest-eq0 c = empty-answer c.args.rule c.args.e _ _ _ (c.requires.0 ∙ ap Fine c.if-longest-eq0.true)
+returns-then-longest-eq0 c = empty-answer c.args.rule c.args.e _ _ _ (c.requires.0 ∙ ap Ok c.if-longest-eq0.true)
 
 pub split-unit-requires : goal.split-unit-requires
 split-unit-requires c =

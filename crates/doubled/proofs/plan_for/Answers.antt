@@ -1,37 +1,43 @@
 -- A demand that is refused by itself changes nothing; the rest is decided on a working copy of as many cells and a table of N holds.
-use mathlib.Core.Path.{refl, sym, ◌∙◌}
+use mathlib.Core.Path.{◌≡◌, refl, sym, ◌∙◌}
+use Prim.Native.Nat.{ℕ, ◌≤◌}
+use native.Mathlib.Omega.{arith}
+use lib.ListN.{length, take, replicate, length-replicate}
 use lib.Seq.{length-take-le}
 use Rattle.switch.proofs.Result.{gives}
 use Rattle.planner.proofs.Planned.{planned-faulty}
 use Rattle.turns.specs.declared.Turning.TheVariants.{Forward}
 use Rattle.turns.specs.Second.{doubled_rule}
 use Rattle.turns.proofs.Divided.{cells_fit, holds-fit}
+use Rattle.std.proofs.lemmas.Result.{err_from_is_err_and}
 use Rattle.doubled.proofs.plan_for.Goals as goal
 
-pub slice_bounds-plan_fine-end : goal.slice_bounds-plan_fine-end
-slice_bounds-plan_fine-end c = cells_fit _ _ _ _ (sym c.check_demand.ensures ∙ c.in-Fine.is) c.args.work.now c.requires.1
+-- so many of an array's zeros
+front : (room n : ℕ) → n ≤ room → length {A = ℕ} (take n (replicate room 0)) ≡ n
+front room n l = length-take-le n (replicate room 0) (omega (arith, length-replicate {A = ℕ} room 0))
 
-pub slice_bounds-plan_fine-end-in-Fine : goal.slice_bounds-plan_fine-end-in-Fine
-slice_bounds-plan_fine-end-in-Fine c = sym (length-take-le _ c.args.work.now (cells_fit _ _ _ _ (sym c.check_demand.ensures ∙ c.in-Fine.is) c.args.work.now c.requires.1))
+pub whole_as_front-plan_fine : goal.whole_as_front-plan_fine
+whole_as_front-plan_fine g c = (cells_fit _ _ _ _ (sym c.check_demand.ensures ∙ c.in_ok-longest.was) g.row.C c.requires.1, omega arith)
 
-pub slice_bounds-plan_fine-end-in-Fine-2 : goal.slice_bounds-plan_fine-end-in-Fine-2
-slice_bounds-plan_fine-end-in-Fine-2 c = holds-fit _ _ _ _ (sym c.check_demand.ensures ∙ c.in-Fine.is) c.args.holds.now c.requires.2
-
-pub slice_bounds-plan_fine-end-in-Fine-3 : goal.slice_bounds-plan_fine-end-in-Fine-3
-slice_bounds-plan_fine-end-in-Fine-3 c = sym (length-take-le _ c.args.holds.now (holds-fit _ _ _ _ (sym c.check_demand.ensures ∙ c.in-Fine.is) c.args.holds.now c.requires.2))
+pub whole_as_front-plan_fine-2 : goal.whole_as_front-plan_fine-2
+whole_as_front-plan_fine-2 g c = (holds-fit _ _ _ _ (sym c.check_demand.ensures ∙ c.in_ok-longest.was) g.row.P c.requires.2, omega arith)
 
 pub plan_fine-requires : goal.plan_fine-requires
-plan_fine-requires c =
+plan_fine-requires g c =
     let p = c.requires in
-    let e = sym c.check_demand.ensures ∙ c.in-Fine.is in (
+    let e = sym c.check_demand.ensures ∙ c.in_ok-longest.was in (
       e,
       p.0,
-      length-take-le _ c.args.work.now (cells_fit _ _ _ _ e c.args.work.now p.1),
-      length-take-le _ c.args.holds.now (holds-fit _ _ _ _ e c.args.holds.now p.2),
+      front g.row.C (length c.args.cells.now) (cells_fit _ _ _ _ e g.row.C p.1),
+      front g.row.P c.args.n (holds-fit _ _ _ _ e g.row.P p.2),
     )
 
-pub returns-in-Faulty : goal.returns-in-Faulty
-returns-in-Faulty c =
+pub returns-in_err-longest : goal.returns-in_err-longest
+returns-in_err-longest g c =
     let a = c.args in
-    let q = planned-faulty a.e a.n a.cells.now (doubled_rule a.rule Forward a.e.width a.n a.cells.now) a.plan.now _ (sym c.check_demand.ensures ∙ c.in-Faulty.is) in
-    gives q refl refl
+    let q = planned-faulty a.e a.n a.cells.now (doubled_rule a.rule Forward a.e.width a.n a.cells.now) a.plan.now _ (sym c.check_demand.ensures ∙ c.in_err-longest.was) in
+    let p = err_from_is_err_and c.from_residual.result c.from_residual.ensures.1 in
+    rw (p.1, p.2) (gives q refl refl)
+
+pub returns : goal.returns
+returns g c = c.plan_fine.ensures

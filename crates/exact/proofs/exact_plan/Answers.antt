@@ -9,7 +9,7 @@ use Rattle.planner.specs.Planned.{planned}
 use Rattle.exact.proofs.exact_plan.Goals as goal
 
 pub plan_for-requires : goal.plan_for-requires
-plan_for-requires c = rw c.first_edition.ensures (first-bounded, omega arith)
+plan_for-requires c = rw c.first_edition.ensures (first-bounded, omega arith, omega arith)
 
 pub returns : goal.returns
 returns c =

@@ -9,7 +9,7 @@ use Rattle.planner.specs.Planned.{planned}
 use Rattle.exact.proofs.exact_plan_second.Goals as goal
 
 pub plan_for-requires : goal.plan_for-requires
-plan_for-requires c = rw c.second_edition.ensures (second-bounded, omega arith)
+plan_for-requires c = rw c.second_edition.ensures (second-bounded, omega arith, omega arith)
 
 pub returns : goal.returns
 returns c =

@@ -9,27 +9,27 @@ use Rattle.exact.proofs.lay_or_refuse.Goals as goal
 pub copy-requires : goal.copy-requires
 copy-requires c = let p = c.requires in omega (arith, (asked _ p.1 _ _ _ p.0).size)
 
-pub short_of-need-requires : goal.short_of-need-requires
-short_of-need-requires c =
+pub short_of-requires : goal.short_of-requires
+short_of-requires c =
     let p = c.requires in
     copied-cells _ p.1 _ _ _ _ (asked _ p.1 _ _ _ p.0) _ c.copy.ensures
 
-pub returns-then-need-ne0 : goal.returns-then-need-ne0
-returns-then-need-ne0 c =
+pub returns-in-Some : goal.returns-in-Some
+returns-in-Some c =
     let p = c.requires in
-    refuses-room _ p.1 _ _ _ p.0 _ _ _ c.copy.ensures _ c.short_of-need.ensures c.if-need-ne0.true
+    refuses-room _ p.1 _ _ _ p.0 _ _ _ c.copy.ensures _ (rw c.in-Some.is at c.short_of.ensures)
 
 pub copy-requires-2 : goal.copy-requires-2
 copy-requires-2 c =
     let p = c.requires in
-    omega (arith, (asked _ p.1 _ _ _ p.0).size, c.short_of-need.auto, c.copy.auto)
+    omega (arith, (asked _ p.1 _ _ _ p.0).size, c.short_of.auto, c.copy.auto)
 
 pub lay-records-requires : goal.lay-records-requires
 lay-records-requires c =
     let p = c.requires in
     let a = asked _ p.1 _ _ _ p.0 in
     let k = c.copy-2.ensures in
-    let e = enough _ p.1 _ _ _ p.0 c.args.plan.now _ _ c.copy.ensures _ c.short_of-need.ensures c.if-need-ne0.false in
+    let e = enough _ p.1 _ _ _ p.0 c.args.plan.now _ _ c.copy.ensures (rw c.in_default.is at c.short_of.ensures) in
     (copied-cells _ p.1 _ _ _ _ a _ k, place _ p.1 _ _ _ _ a _ k c.args.plan.now e)
 
 pub empty_slots-requires : goal.empty_slots-requires
@@ -42,5 +42,5 @@ pub returns : goal.returns
 returns c =
     let p = c.requires in
     let l = c.lay-records.ensures in
-    writes-plan _ p.1 _ _ _ p.0 _ _ _ c.copy.ensures _ c.short_of-need.ensures c.if-need-ne0.false
+    writes-plan _ p.1 _ _ _ p.0 _ _ _ c.copy.ensures (enough _ p.1 _ _ _ p.0 c.args.plan.now _ _ c.copy.ensures (rw c.in_default.is at c.short_of.ensures))
     _ _ c.copy-2.ensures _ l.0 _ l.1 _ c.empty_slots.ensures

@@ -13,13 +13,12 @@ use Rattle.records.specs.Bytes.{bytes}
 use Rattle.records.specs.Laying.{laid_if}
 use Rattle.records.proofs.Filling.{filling-none, filling-all, filling-room, filling-next}
 use Rattle.peel.specs.Standing.{left}
-use Rattle.peel.proofs.Left.{record-long}
 use Rattle.peel.proofs.Starting.{standing}
 use Rattle.exact.proofs.Turn.{parts-small, turn-within, turn-left, turn_small, turn-most, turn-less, turn-counted, one_fewer, goes-room, more-stretched}
 use Rattle.exact.proofs.peel_off.Goals as goal
 
 pub start-requires : goal.start-requires
-start-requires c = let p = c.requires in (p.0, p.1.low, p.1.high)
+start-requires c = let p = c.requires in (p.0, p.1.each)
 
 pub nobody-seats-requires : goal.nobody-seats-requires
 nobody-seats-requires c = c.requires.0.few
@@ -29,7 +28,7 @@ loop-remains-init c =
     let a = c.args.job in
     let p = c.requires in
     let b = c.start.ensures in
-    let s = standing _ _ _ _ _ _ _ _ _ b p.1.free p.1.idle c.nobody-seats.ensures.0 in (
+    let s = standing _ _ _ _ _ _ _ _ b p.1.free p.1.idle c.nobody-seats.ensures.0 in (
       s.1,
       s.0,
       omega arith,
@@ -57,9 +56,6 @@ overflow_cast-hold c = Fits-le (parts-small _ _ _ c.args.job.unit _ c.take_off-s
 
 pub slice_bounds-put_if-end : goal.slice_bounds-put_if-end
 slice_bounds-put_if-end c = omega (arith, c.requires.2.narrow, c.take_off-s.ensures.standing.seating.good.outputs)
-
-pub slice_bounds-put_if-end-in-loop-remains : goal.slice_bounds-put_if-end-in-loop-remains
-slice_bounds-put_if-end-in-loop-remains c = sym (record-long _ c.requires.2.narrow c.take_off-s.ensures.standing)
 
 pub put_if-next-requires : goal.put_if-next-requires
 put_if-next-requires c =

@@ -9,7 +9,7 @@ use Rattle.peel.specs.Standing.{left, rest, Standing}
 use Rattle.exact.proofs.peel_off.Given as goal
 
 abbrev pub invariant-loop-remains : goal.invariant-loop-remains
-invariant-loop-remains l = Standing l.job.n l.work l.lows l.highs l.by l.out l.seats × (l.remains ≡ left l.job.n l.work) × (l.records + l.remains ≤ l.job.longest) × (left l.job.n l.work * l.job.unit ≤ 65535)
+invariant-loop-remains l = Standing l.job.n l.work l.rows l.pairs.by l.pairs.out l.seats × (l.remains ≡ left l.job.n l.work) × (l.records + l.remains ≤ l.job.longest) × (left l.job.n l.work * l.job.unit ≤ 65535)
     × (length l.work ≡ length l.initial.work) × ((W : ℕ) → l.job.n ≤ W → W ≤ 128 → l.records + length (rest W l.job.n l.work) ≡ length (rest W l.job.n l.initial.work))
     × Filling l.job.writes l.job.edition l.job.n (map (stretch l.job.unit) (rest l.job.width l.job.n l.initial.work)) l.initial.plan l.job.at (map (stretch l.job.unit) (rest l.job.width l.job.n l.work)) l.plan l.next
 

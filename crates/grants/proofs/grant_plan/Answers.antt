@@ -2,9 +2,10 @@
 use mathlib.Core.Path.{◌≡◌, refl, ◌∙◌}
 use native.Mathlib.Omega.{arith}
 use Rattle.records.specs.Bytes.{plan_from}
-use Rattle.plans.proofs.Pass.{through-none, pass-end, read-size, pass-stop, pass-more}
+use Rattle.plans.proofs.Pass.{through-none, pass-end, read-size, pass-stop, pass-more, pass-all, pass-holds, pass-damaged}
 use Rattle.grants.proofs.Grant.{grants-none, grants-more, grants-small}
-use Rattle.std.proofs.Common.{ap, not}
+use Rattle.switch.specs.Plan.{total}
+use Rattle.std.proofs.Common.{ap, not, ◌≤◌}
 use Rattle.grants.proofs.grant_plan.Goals as goal
 
 pub loop-k-init : goal.loop-k-init
@@ -19,13 +20,18 @@ record_fine-requires c =
     let p = c.requires.0 in
     (omega (arith, p.few, p.bounded.ports, p.bounded.width), omega (arith, p.few, p.bounded.ports, read-size _ _ _ _ p _ 0 (omega arith) _ c.record_at-rec.ensures))
 
-pub returns-then-not-record_fine : goal.returns-then-not-record_fine
-returns-then-not-record_fine c =
+pub returns-then-not-record_fine-clause-told : goal.returns-then-not-record_fine-clause-told
+returns-then-not-record_fine-clause-told c =
     let l = c.loop-k in
-    rw c.counted.ensures (pass-stop _ _ _ _ c.requires.0 _ _ (omega arith) _ c.record_at-rec.ensures l.invariant.0 _ c.record_fine.ensures (ap not c.if-not-record_fine.true), l.invariant.2)
+    pass-stop _ _ _ _ c.requires.0 _ _ (omega arith) _ c.record_at-rec.ensures l.invariant.0 _ c.record_fine.ensures total (ap not c.if-not-record_fine.true)
 
-pub hold_of-hold-requires : goal.hold_of-hold-requires
-hold_of-hold-requires c = omega (arith, read-size _ _ _ _ c.requires.0 _ 0 (omega arith) _ c.record_at-rec.ensures)
+pub returns-then-not-record_fine-clause-granted : goal.returns-then-not-record_fine-clause-granted
+returns-then-not-record_fine-clause-granted c =
+    let l = c.loop-k in
+    rw (pass-damaged _ _ _ _ c.requires.0 _ _ (omega arith) _ c.record_at-rec.ensures l.invariant.0 _ c.record_fine.ensures (ap not c.if-not-record_fine.true)) l.invariant.2
+
+pub hold_of-requires : goal.hold_of-requires
+hold_of-requires c = omega (arith, read-size _ _ _ _ c.requires.0 _ 0 (omega arith) _ c.record_at-rec.ensures)
 
 pub grant_record-requires : goal.grant_record-requires
 grant_record-requires c =
@@ -46,14 +52,20 @@ loop-k-preserved c =
     let p = c.requires.0 in
     let l = c.loop-k in
     let is = c.record_at-rec.ensures in
-    let h = c.hold_of-hold.ensures in (
-      pass-more _ _ _ _ p _ _ (omega arith) _ is l.invariant.0 _ c.record_fine.ensures (ap not c.if-not-record_fine.false) _ h (omega arith),
+    let h = c.from-hold.ensures ∙ c.hold_of.ensures in (
+      rw c.from-total.ensures (pass-more _ _ _ _ p _ _ (omega arith) _ is l.invariant.0 _ c.record_fine.ensures (ap not c.if-not-record_fine.false) _ h (omega arith)),
       c.grant_record.ensures.size ∙ l.invariant.1,
       grants-more _ _ _ l.k _ is _ h _ _ l.invariant.2 c.grant_record.ensures,
     )
 
-pub returns : goal.returns
-returns c =
+pub returns-clause-told : goal.returns-clause-told
+returns-clause-told c =
+    let l = c.loop-k in
+    let end : c.args.records ≤ l.k = omega arith in
+    pass-end _ _ _ _ c.requires.0 total l.k _ end l.invariant.0 _ (pass-holds _ _ _ _ c.requires.0 l.k _ end l.invariant.0)
+
+pub returns-clause-granted : goal.returns-clause-granted
+returns-clause-granted c =
     let l = c.loop-k in
     let e : l.k ≡ c.args.records = omega (arith, l.invariant.0.inside) in
-    rw c.counted-2.ensures (pass-end _ _ _ _ c.requires.0 l.k _ (omega arith) l.invariant.0, rw e at l.invariant.2)
+    rw (pass-all _ _ _ _ c.requires.0 l.k _ (omega arith) l.invariant.0, ← e) l.invariant.2

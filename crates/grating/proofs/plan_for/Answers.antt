@@ -1,35 +1,41 @@
 -- A demand that is refused by itself changes nothing; the rest is decided on as many quotients as there are cells, and a table of N holds.
-use mathlib.Core.Path.{sym, ◌∙◌}
+use mathlib.Core.Path.{◌≡◌, sym, ◌∙◌, subst}
+use Prim.Native.Nat.{ℕ, ◌+◌, ◌/◌, ◌≤◌}
+use native.Mathlib.Omega.{arith}
+use lib.ListN.{length, take, replicate, length-replicate}
 use lib.Seq.{length-take-le}
+use Rattle.std.proofs.lemmas.Result.{err_from_is_err_and}
 use Rattle.turns.proofs.Divided.{cells_fit, holds-fit}
 use Rattle.grating.proofs.Answer.{faulty-answer}
 use Rattle.grating.proofs.plan_for.Goals as goal
 
-pub slice_bounds-plan_fine-end : goal.slice_bounds-plan_fine-end
-slice_bounds-plan_fine-end c = cells_fit _ _ _ _ (sym c.check_demand.ensures ∙ c.in-Fine.is) c.args.quotients.now c.requires.divided
+-- so many of an array's zeros, and all of them
+front : (room n : ℕ) → n ≤ room → length {A = ℕ} (take n (replicate room 0)) ≡ n
+front room n l = length-take-le n (replicate room 0) (omega (arith, length-replicate {A = ℕ} room 0))
 
-pub slice_bounds-plan_fine-end-in-Fine : goal.slice_bounds-plan_fine-end-in-Fine
-slice_bounds-plan_fine-end-in-Fine c = sym (length-take-le _ c.args.quotients.now (cells_fit _ _ _ _ (sym c.check_demand.ensures ∙ c.in-Fine.is) c.args.quotients.now c.requires.divided))
+pub whole_as_front-plan_fine : goal.whole_as_front-plan_fine
+whole_as_front-plan_fine g c = (cells_fit _ _ _ _ (sym c.check_demand.ensures ∙ c.in_ok-longest.was) g.row.C c.requires.divided, omega (arith, c.requires.few.0))
 
-pub slice_bounds-plan_fine-end-in-Fine-2 : goal.slice_bounds-plan_fine-end-in-Fine-2
-slice_bounds-plan_fine-end-in-Fine-2 c = holds-fit _ _ _ _ (sym c.check_demand.ensures ∙ c.in-Fine.is) c.args.holds.now c.requires.held
-
-pub slice_bounds-plan_fine-end-in-Fine-3 : goal.slice_bounds-plan_fine-end-in-Fine-3
-slice_bounds-plan_fine-end-in-Fine-3 c = sym (length-take-le _ c.args.holds.now (holds-fit _ _ _ _ (sym c.check_demand.ensures ∙ c.in-Fine.is) c.args.holds.now c.requires.held))
+pub whole_as_front-plan_fine-2 : goal.whole_as_front-plan_fine-2
+whole_as_front-plan_fine-2 g c = (holds-fit _ _ _ _ (sym c.check_demand.ensures ∙ c.in_ok-longest.was) g.row.P c.requires.held, omega (arith, c.requires.few.1))
 
 pub plan_fine-requires : goal.plan_fine-requires
-plan_fine-requires c =
+plan_fine-requires g c =
     let p = c.requires in
-    let e = sym c.check_demand.ensures ∙ c.in-Fine.is in (
+    let e = sym c.check_demand.ensures ∙ c.in_ok-longest.was in (
       e,
       p.bounded,
-      length-take-le _ c.args.quotients.now (cells_fit _ _ _ _ e c.args.quotients.now p.divided),
-      p.copied,
-      length-take-le _ c.args.holds.now (holds-fit _ _ _ _ e c.args.holds.now p.held),
-      p.parted,
+      front g.row.C (length c.args.cells.now) (cells_fit _ _ _ _ e g.row.C p.divided),
+      (p.divided, omega (arith, p.few.0)),
+      front g.row.P c.args.n (holds-fit _ _ _ _ e g.row.P p.held),
+      subst (λ (m : ℕ). c.args.e.ports ≤ m / (c.args.e.width + 4)) (sym (length-replicate {A = ℕ} g.row.F 0)) p.parted,
     )
 
-pub returns-in-Faulty : goal.returns-in-Faulty
-returns-in-Faulty c =
+pub returns-in_err-longest : goal.returns-in_err-longest
+returns-in_err-longest g c =
     let a = c.args in
-    faulty-answer a.e a.n a.cells.now a.plan.now _ (sym c.check_demand.ensures ∙ c.in-Faulty.is)
+    let p = err_from_is_err_and c.from_residual.result c.from_residual.ensures.1 in
+    rw (p.1, p.2) (faulty-answer a.e a.n a.cells.now a.plan.now _ (sym c.check_demand.ensures ∙ c.in_err-longest.was))
+
+pub returns : goal.returns
+returns g c = c.plan_fine.ensures

@@ -1,12 +1,9 @@
 -- Each turn lays the pieces of one sum more behind those before it.
-use Prim.Native.Nat.{◌-◌, ◌≤◌}
-use Rattle.tally.specs.Table.{entries_from}
+use lib.ListN.{drop}
+use Rattle.tally.specs.Table.{entry_sums}
 use Rattle.joining.specs.Join.{cut}
 use Rattle.records.proofs.Laying.{Laying}
 use Rattle.joining.proofs.lay_sums.Given as goal
 
-abbrev pub invariant-loop-e : goal.invariant-loop-e
-invariant-loop-e l = (l.e ≤ l.count) × Laying l.edition l.n l.initial.buffer 0 (cut (entries_from l.width l.plan l.firsts l.totals 0 l.count)) l.buffer l.at (cut (entries_from l.width l.plan l.firsts l.totals l.e (l.count - l.e)))
-
-abbrev pub decreases-loop-e : goal.decreases-loop-e
-decreases-loop-e l = l.count - l.e
+abbrev pub invariant-loop-entry : goal.invariant-loop-entry
+invariant-loop-entry l = Laying l.e.byte l.n l.initial.buffer 0 (cut (entry_sums l.e.width l.plan l.table)) l.buffer l.at (cut (entry_sums l.e.width l.plan (drop l.entry-index l.table)))

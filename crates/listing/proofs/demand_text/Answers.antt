@@ -18,29 +18,29 @@ buffer-size : length buffer ≡ 15368
 buffer-size = length-replicate {A = ℕ} 15368 0
 
 pub overflow_mul-end : goal.overflow_mul-end
-overflow_mul-end c = let done : (let a = c.args in Written a.n a.cells.now c.in-Done.counts c.exact_plan-outcome.new.plan) = demand-done _ _ buffer c.requires.1 buffer-size _ _ (sym (sym c.exact_plan-outcome.ensures.outcome ∙ c.in-Done.is)) c.exact_plan-outcome.ensures.bytes in
+overflow_mul-end c = let done : (let a = c.args in Written a.n a.cells.now c.in-Ok.counts c.exact_plan-outcome.new.plan) = demand-done _ _ buffer c.requires.1 buffer-size _ _ (sym (sym c.exact_plan-outcome.ensures.outcome ∙ c.in-Ok.is)) c.exact_plan-outcome.ensures.bytes in
     omega (arith, done.few)
 
 pub slice_bounds-plan-end : goal.slice_bounds-plan-end
-slice_bounds-plan-end c = let done : (let a = c.args in Written a.n a.cells.now c.in-Done.counts c.exact_plan-outcome.new.plan) = demand-done _ _ buffer c.requires.1 buffer-size _ _ (sym (sym c.exact_plan-outcome.ensures.outcome ∙ c.in-Done.is)) c.exact_plan-outcome.ensures.bytes in
+slice_bounds-plan-end c = let done : (let a = c.args in Written a.n a.cells.now c.in-Ok.counts c.exact_plan-outcome.new.plan) = demand-done _ _ buffer c.requires.1 buffer-size _ _ (sym (sym c.exact_plan-outcome.ensures.outcome ∙ c.in-Ok.is)) c.exact_plan-outcome.ensures.bytes in
     done.room
 
 pub slice_bounds-put_plan-end : goal.slice_bounds-put_plan-end
-slice_bounds-put_plan-end c = let done : (let a = c.args in Written a.n a.cells.now c.in-Done.counts c.exact_plan-outcome.new.plan) = demand-done _ _ buffer c.requires.1 buffer-size _ _ (sym (sym c.exact_plan-outcome.ensures.outcome ∙ c.in-Done.is)) c.exact_plan-outcome.ensures.bytes in
+slice_bounds-put_plan-end c = let done : (let a = c.args in Written a.n a.cells.now c.in-Ok.counts c.exact_plan-outcome.new.plan) = demand-done _ _ buffer c.requires.1 buffer-size _ _ (sym (sym c.exact_plan-outcome.ensures.outcome ∙ c.in-Ok.is)) c.exact_plan-outcome.ensures.bytes in
     sym (length-take-le _ _ done.room)
 
 pub put_plan-requires : goal.put_plan-requires
 put_plan-requires c =
-    let done : (let a = c.args in Written a.n a.cells.now c.in-Done.counts c.exact_plan-outcome.new.plan) = demand-done _ _ buffer c.requires.1 buffer-size _ _ (sym (sym c.exact_plan-outcome.ensures.outcome ∙ c.in-Done.is)) c.exact_plan-outcome.ensures.bytes in
+    let done : (let a = c.args in Written a.n a.cells.now c.in-Ok.counts c.exact_plan-outcome.new.plan) = demand-done _ _ buffer c.requires.1 buffer-size _ _ (sym (sym c.exact_plan-outcome.ensures.outcome ∙ c.in-Ok.is)) c.exact_plan-outcome.ensures.bytes in
     let w = done in
     (omega arith, le_of_eq (sym (length-take-le _ _ w.room)), rw w.text (omega (arith, w.fits, c.requires.3)))
 
-pub returns-in-Refused : goal.returns-in-Refused
-returns-in-Refused c =
-    let e = demand-refused _ _ buffer c.requires.1 buffer-size _ (sym (sym c.exact_plan-outcome.ensures.outcome ∙ c.in-Refused.is)) in
+pub returns-in-Err : goal.returns-in-Err
+returns-in-Err c =
+    let e = demand-refused _ _ buffer c.requires.1 buffer-size _ (sym (sym c.exact_plan-outcome.ensures.outcome ∙ c.in-Err.is)) in
     subst (λ (x : List ℕ). Put x c.args.text.now 0 c.put_refusal.new.text c.put_refusal.result) e c.put_refusal.ensures
 
-pub returns-in-Done : goal.returns-in-Done
-returns-in-Done c =
-    let done : (let a = c.args in Written a.n a.cells.now c.in-Done.counts c.exact_plan-outcome.new.plan) = demand-done _ _ buffer c.requires.1 buffer-size _ _ (sym (sym c.exact_plan-outcome.ensures.outcome ∙ c.in-Done.is)) c.exact_plan-outcome.ensures.bytes in
+pub returns-in-Ok : goal.returns-in-Ok
+returns-in-Ok c =
+    let done : (let a = c.args in Written a.n a.cells.now c.in-Ok.counts c.exact_plan-outcome.new.plan) = demand-done _ _ buffer c.requires.1 buffer-size _ _ (sym (sym c.exact_plan-outcome.ensures.outcome ∙ c.in-Ok.is)) c.exact_plan-outcome.ensures.bytes in
     subst (λ (x : List ℕ). Put x c.args.text.now 0 c.put_plan.new.text c.put_plan.result) done.text c.put_plan.ensures

@@ -1,7 +1,8 @@
 -- No port, or too many, is code 1; any other number of ports has room for its cells.
 use mathlib.Core.Path.{◌≡◌, sym, ap, ◌∙◌, subst}
+use mathlib.Core.Logic.{⊎_elim}
 use mathlib.Core.List.{List}
-use Prim.Native.Nat.{ℕ, ◌*◌, ◌≤◌}
+use Prim.Native.Nat.{ℕ, ◌*◌, ◌<◌, ◌≤◌}
 use native.Mathlib.Nat.{mul-le-mul}
 use native.Mathlib.Omega.{arith}
 use lib.ListN.{length, take, replicate}
@@ -21,13 +22,10 @@ cells-lent n l = length-take-le (n * n) (replicate 256 0) (square n l)
 
 pub returns-then-n-eq0 : goal.returns-then-n-eq0
 returns-then-n-eq0 c =
+    let n = c.ports_of-n.result in
+    let unfit = ⊎_elim (λ (e : n ≡ 0). no-ports 16 n e) (λ (e : (n ≡ 0 → ⊥) × (16 < n)). many-ports 16 n e.1) c.then-n-eq0.either in
     subst (λ (x : List ℕ). Put x c.args.text.now 0 c.put_refusal.new.text c.put_refusal.result)
-    (wish-ports c.ports_of-n.result c.args.list.now (no-ports 16 c.ports_of-n.result c.if-n-eq0.true) ∙ ap (λ (m : ℕ). wish_text m c.args.list.now) c.ports_of-n.ensures) c.put_refusal.ensures
-
-pub returns-then-n-gt-PORTS : goal.returns-then-n-gt-PORTS
-returns-then-n-gt-PORTS c =
-    subst (λ (x : List ℕ). Put x c.args.text.now 0 c.put_refusal-then-n-gt-PORTS.new.text c.put_refusal-then-n-gt-PORTS.result)
-    (wish-ports c.ports_of-n.result c.args.list.now (many-ports 16 c.ports_of-n.result c.if-n-gt-PORTS.true) ∙ ap (λ (m : ℕ). wish_text m c.args.list.now) c.ports_of-n.ensures) c.put_refusal-then-n-gt-PORTS.ensures
+    (wish-ports n c.args.list.now unfit ∙ ap (λ (m : ℕ). wish_text m c.args.list.now) c.ports_of-n.ensures) c.put_refusal.ensures
 
 pub overflow_mul-square : goal.overflow_mul-square
 overflow_mul-square c = omega (arith, square c.ports_of-n.result (omega arith))

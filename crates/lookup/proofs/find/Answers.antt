@@ -1,27 +1,18 @@
 -- A record in force is one of a plan's, so that its place does not wrap.
-use mathlib.Core.Path.{◌≡◌, sym, ap, ap₂, ◌∙◌, subst}
+use mathlib.Core.Path.{sym, ap, ◌∙◌, subst}
 use Rattle.switch.specs.declared.Edition.{Edition}
 use Rattle.switch.specs.Editions.{first_edition, Bounded}
 use Rattle.switch.proofs.Editions.{first-bounded}
-use Rattle.lookup.specs.Lookup.{spot_of, Inside, found_of}
+use Rattle.lookup.specs.Lookup.{spot_of, Inside}
 use Rattle.lookup.proofs.Lookup.{spot-few}
 use Rattle.lookup.proofs.find.Goals as goal
 
-pub spot_of-requires : goal.spot_of-requires
-spot_of-requires c = subst Bounded (sym c.first_edition-e.ensures) first-bounded
-
 pub found_of-requires : goal.found_of-requires
 found_of-requires c =
-    let found : let a = c.args in c.spot_of.result ≡ spot_of first_edition a.n a.tonight.now a.standby.now a.slot = let a = c.args in
-    c.spot_of.ensures ∙ ap (λ (e : Edition). spot_of e a.n a.tonight.now a.standby.now a.slot) c.first_edition-e.ensures in
     let a = c.args in
+    let found = c.spot_of.ensures ∙ ap (λ (e : Edition). spot_of e a.n a.tonight.now a.standby.now a.slot) c.first_edition-e.ensures in
     let e = sym c.first_edition-e.ensures in (
       subst Bounded e first-bounded,
       subst (λ (E : Edition). Inside E.records E.records c.spot_of.result) e
-          (subst (Inside 8192 8192) (sym found) (spot-few _ a.n a.tonight.now a.standby.now a.slot first-bounded)),
+          (subst (Inside 8192 8192) (sym found) (spot-few first_edition a.n a.tonight.now a.standby.now a.slot first-bounded)),
     )
-
-pub returns : goal.returns
-returns c = let found : let a = c.args in c.spot_of.result ≡ spot_of first_edition a.n a.tonight.now a.standby.now a.slot = let a = c.args in
-    c.spot_of.ensures ∙ ap (λ (e : Edition). spot_of e a.n a.tonight.now a.standby.now a.slot) c.first_edition-e.ensures in
-    c.found_of.ensures ∙ ap₂ found_of c.first_edition-e.ensures found

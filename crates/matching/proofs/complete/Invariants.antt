@@ -9,7 +9,7 @@ use Rattle.matching.specs.Chosen.{Seating}
 use Rattle.matching.proofs.complete.Given as goal
 
 abbrev pub invariant-loop-i : goal.invariant-loop-i
-invariant-loop-i l = Seating 128 (length l.lows) (Allowed l.lows l.highs) l.by l.out (outputs_of l.known) (inputs_of l.rest) × Sub (inputs_of l.rest) (inputs_of l.initial.rest) × Around (length l.lows) l.initial.by l.initial.out (tried_of l.fixed) l.by l.out
+invariant-loop-i l = Seating 128 (length l.rows) (Allowed l.rows) l.pairs.by l.pairs.out (outputs_of l.seats.held) (inputs_of l.seats.waiting) × Sub (inputs_of l.seats.waiting) (inputs_of l.initial.seats.waiting) × Around (length l.rows) l.initial.pairs.by l.initial.pairs.out (tried_of l.fixed) l.pairs.by l.pairs.out
 
 abbrev pub decreases-loop-i : goal.decreases-loop-i
-decreases-loop-i l = 128 - absent 128 (inputs_of l.rest)
+decreases-loop-i l = 128 - absent 128 (inputs_of l.seats.waiting)

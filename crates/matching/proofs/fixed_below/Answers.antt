@@ -22,11 +22,11 @@ pub loop-i-preserved : goal.loop-i-preserved
 loop-i-preserved c =
     let l = c.loop-i in (
       omega arith,
-      fixed_more c.args.out.now l.i (tried_of l.fixed) (tried_of c.mark-fixed.result) l.invariant.1
+      fixed_more c.args.pairs.now.out l.i (tried_of l.fixed) (tried_of c.mark-fixed.result) l.invariant.1
           (subst (λ (k : ℕ). Marked (tried_of l.fixed) k (tried_of c.mark-fixed.result)) c.output_of.ensures c.mark-fixed.ensures),
     )
 
 pub returns : goal.returns
 returns c =
     let l = c.loop-i in
-    subst (λ (i : ℕ). Fixed c.args.out.now i (tried_of l.fixed)) (le_antisymm l.invariant.0 c.loop-i-test.false) l.invariant.1
+    subst (λ (i : ℕ). Fixed c.args.pairs.now.out i (tried_of l.fixed)) (le_antisymm l.invariant.0 c.loop-i-test.false) l.invariant.1

@@ -5,8 +5,8 @@ use Rattle.search.specs.Tables.{Allowed}
 use Rattle.matching.proofs.Firm.{Firm}
 use Rattle.matching.proofs.next_setting.Given as goal
 
-abbrev pub invariant-loop-s : goal.invariant-loop-s
-invariant-loop-s l = Firm 128 (length l.lows) (Allowed l.lows l.highs) l.initial.out l.initial.firm l.by l.out (outputs_of l.s.held) (inputs_of l.s.waiting) l.firm
+abbrev pub invariant-loop-pairs : goal.invariant-loop-pairs
+invariant-loop-pairs l = Firm 128 (length l.rows) (Allowed l.rows) l.initial.pairs.out l.initial.firm l.pairs.by l.pairs.out (outputs_of l.now.held) (inputs_of l.now.waiting) l.firm
 
-abbrev pub decreases-loop-s : goal.decreases-loop-s
-decreases-loop-s l = l.firm
+abbrev pub decreases-loop-pairs : goal.decreases-loop-pairs
+decreases-loop-pairs l = l.firm

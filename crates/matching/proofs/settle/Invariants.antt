@@ -7,7 +7,7 @@ use Rattle.matching.proofs.Settling.{Lower}
 use Rattle.matching.proofs.settle.Given as goal
 
 abbrev pub invariant-loop-lowest : goal.invariant-loop-lowest
-invariant-loop-lowest l = Lower 128 (length l.lows) (Allowed l.lows l.highs) l.initial.out l.by l.out (tried_of l.fixed) (tried_of l.dead) l.own.0 l.i.0
+invariant-loop-lowest l = Lower 128 (length l.rows) (Allowed l.rows) l.initial.pairs.out l.pairs.by l.pairs.out (tried_of l.fixed) (tried_of l.dead) l.own.0 l.i.0
 
 abbrev pub decreases-loop-lowest : goal.decreases-loop-lowest
 decreases-loop-lowest l = l.own.0 + absent 128 (tried_of l.dead)

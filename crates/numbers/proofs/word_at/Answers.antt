@@ -1,8 +1,8 @@
--- Four bytes, low first, make less than 2^32.
+-- The word of four bytes, spelled out.
 use Rattle.std.proofs.Common.{arith}
 use Rattle.numbers.specs.Word.{word}
 use Rattle.numbers.proofs.word_at.Goals as goal
 
 pub returns : goal.returns
 unfolding word
-returns c = omega arith
+returns c = omega (arith, c.from_le_bytes.ensures)

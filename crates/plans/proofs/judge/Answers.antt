@@ -1,7 +1,8 @@
 -- All records before k are well formed, and their holds are summed.
-use Rattle.std.proofs.Common.{ap, not}
+use Rattle.std.proofs.Common.{ap, not, ◌≤◌}
 use native.Mathlib.Omega.{arith}
-use Rattle.plans.proofs.Pass.{through-none, pass-end, read-size, pass-stop, pass-more}
+use Rattle.plans.proofs.Pass.{through-none, pass-end, read-size, pass-stop, pass-more, pass-holds}
+use Rattle.switch.specs.Plan.{total}
 use Rattle.plans.proofs.judge.Goals as goal
 
 pub loop-k-init : goal.loop-k-init
@@ -19,7 +20,7 @@ pub returns-then-not-record_fine : goal.returns-then-not-record_fine
 returns-then-not-record_fine c =
     let l = c.loop-k in
     let p = c.requires in
-    rw c.counted.ensures (pass-stop _ _ _ _ p _ _ (omega arith) _ c.record_at-rec.ensures l.invariant _ c.record_fine.ensures (ap not c.if-not-record_fine.true))
+    pass-stop _ _ _ _ p _ _ (omega arith) _ c.record_at-rec.ensures l.invariant _ c.record_fine.ensures total (ap not c.if-not-record_fine.true)
 
 pub hold_of-requires : goal.hold_of-requires
 hold_of-requires c = omega (arith, read-size _ _ _ _ c.requires _ 0 (omega arith) _ c.record_at-rec.ensures)
@@ -31,9 +32,10 @@ pub loop-k-preserved : goal.loop-k-preserved
 loop-k-preserved c =
     let l = c.loop-k in
     let is = c.record_at-rec.ensures in
-    pass-more _ _ _ _ c.requires _ _ (omega arith) _ is l.invariant _ c.record_fine.ensures (ap not c.if-not-record_fine.false) _ c.hold_of.ensures (omega arith)
+    rw c.from-total.ensures (pass-more _ _ _ _ c.requires _ _ (omega arith) _ is l.invariant _ c.record_fine.ensures (ap not c.if-not-record_fine.false) _ c.hold_of.ensures (omega arith))
 
 pub returns : goal.returns
 returns c =
     let l = c.loop-k in
-    rw c.counted-2.ensures (pass-end _ _ _ _ c.requires l.k _ (omega arith) l.invariant)
+    let end : c.args.records ≤ l.k = omega arith in
+    pass-end _ _ _ _ c.requires total l.k _ end l.invariant _ (pass-holds _ _ _ _ c.requires l.k _ end l.invariant)

@@ -17,4 +17,4 @@ pub returns-then-e-records : goal.returns-then-e-records
 returns-then-e-records c = opening-many _ _ _ (omega arith) c.if-e-n.false c.if-plan-size-ne0.false c.if-e-records.true
 
 pub returns : goal.returns
-returns c = opening-done c.args.e _ _ (omega arith) c.if-e-n.false c.if-plan-size-ne0.false c.if-e-records.false
+returns c = rw c.counted.ensures (opening-done c.args.e _ _ (omega arith) c.if-e-n.false c.if-plan-size-ne0.false c.if-e-records.false)

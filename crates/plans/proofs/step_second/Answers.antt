@@ -1,11 +1,11 @@
--- The second edition keeps to the bounds of every edition, and the lent outputs are idle.
-use mathlib.Core.Path.{refl}
+-- The second edition keeps to the bounds of every edition.
+use Rattle.std.proofs.Common.{refl, lit<}
 use Rattle.switch.proofs.Editions.{second-bounded}
-use Rattle.plans.proofs.Read.{takes}
+use Rattle.plans.proofs.Read.{took}
 use Rattle.plans.proofs.step_second.Goals as goal
 
-pub step_for-taken-requires : goal.step_for-taken-requires
-step_for-taken-requires c = rw c.second_edition.ensures (second-bounded, refl)
+pub step_for-requires : goal.step_for-requires
+step_for-requires c = rw c.second_edition.ensures (lit< tt, (second-bounded, refl))
 
 pub returns : goal.returns
-returns c = takes (rw c.second_edition.ensures at c.step_for-taken.ensures)
+returns c = took _ _ _ c.second_edition.ensures c.step_for.ensures

@@ -8,21 +8,9 @@ use Rattle.rules.specs.Quick.{quick_plan}
 use Rattle.planner.specs.Planned.{planned_up_to}
 use Rattle.quick.proofs.quick_plan.Goals as goal
 
-pub slice_bounds-plan_for-end : goal.slice_bounds-plan_for-end
-slice_bounds-plan_for-end c = refl
-
-pub slice_bounds-plan_for-end-2 : goal.slice_bounds-plan_for-end-2
-slice_bounds-plan_for-end-2 c = refl
-
-pub slice_bounds-plan_for-end-3 : goal.slice_bounds-plan_for-end-3
-slice_bounds-plan_for-end-3 c = refl
-
-pub slice_bounds-plan_for-end-4 : goal.slice_bounds-plan_for-end-4
-slice_bounds-plan_for-end-4 c = refl
-
 pub plan_for-requires : goal.plan_for-requires
 plan_for-requires c = rw c.first_edition.ensures
-    (record { bounded = first-bounded; cells = omega arith; low = omega arith; high = omega arith; wide = omega arith })
+    (record { bounded = first-bounded; squared = omega arith; few = omega arith; each = omega arith; wide = refl })
 
 pub returns : goal.returns
 returns c =

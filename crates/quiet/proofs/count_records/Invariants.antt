@@ -5,8 +5,11 @@ use Rattle.quiet.specs.Taking.{leftover}
 use Rattle.quiet.proofs.Running.{Running}
 use Rattle.quiet.proofs.count_records.Given as goal
 
-abbrev pub invariant-loop-out : goal.invariant-loop-out
-invariant-loop-out l = Running l.n l.limit (leftover l.n l.limit l.initial.work) l.work l.lows l.highs l.records × (length l.work ≡ length l.initial.work) × (length l.lows ≡ length l.initial.lows) × (length l.highs ≡ length l.initial.highs) × (length l.out ≡ 64)
+abbrev pub invariant-loop-records : goal.invariant-loop-records
+invariant-loop-records l = record {
+  running : Running l.n l.limit (leftover l.n l.limit l.initial.work) l.work l.rows l.records;
+  long : length l.out ≡ 64;
+}
 
-abbrev pub decreases-loop-out : goal.decreases-loop-out
-decreases-loop-out l = length (leftover l.n l.limit l.work)
+abbrev pub decreases-loop-records : goal.decreases-loop-records
+decreases-loop-records l = length (leftover l.n l.limit l.work)

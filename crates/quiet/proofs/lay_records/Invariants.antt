@@ -5,9 +5,12 @@ use Rattle.quiet.specs.Taking.{leftover}
 use Rattle.quiet.proofs.Running.{Running, Laying}
 use Rattle.quiet.proofs.lay_records.Given as goal
 
-abbrev pub invariant-loop-out : goal.invariant-loop-out
-invariant-loop-out l = Running l.n l.limit (leftover l.n l.limit l.initial.work) l.work l.lows l.highs l.records × Laying l.n l.limit (leftover l.n l.limit l.initial.work) l.initial.plan l.work l.plan l.records l.at l.held
-    × (length l.plan ≡ length l.initial.plan) × (length l.work ≡ length l.initial.work) × (length l.lows ≡ length l.initial.lows) × (length l.highs ≡ length l.initial.highs) × (length l.out ≡ 64)
+abbrev pub invariant-loop-hold : goal.invariant-loop-hold
+invariant-loop-hold l = record {
+  running : Running l.n l.limit (leftover l.n l.limit l.initial.work) l.work l.rows l.laid.records;
+  laying : Laying l.n l.limit (leftover l.n l.limit l.initial.work) l.initial.plan l.work l.plan l.laid.records l.at l.laid.total;
+  long : length l.out ≡ 64;
+}
 
-abbrev pub decreases-loop-out : goal.decreases-loop-out
-decreases-loop-out l = length (leftover l.n l.limit l.work)
+abbrev pub decreases-loop-hold : goal.decreases-loop-hold
+decreases-loop-hold l = length (leftover l.n l.limit l.work)

@@ -24,7 +24,7 @@ pub loop-i-preserved : goal.loop-i-preserved
 loop-i-preserved c =
     let l = c.loop-i in
     let g = c.give.ensures in
-    (omega arith, g.copy, peeled-next c.args.n c.args.hold c.args.work.now c.args.out.now c.requires.0.sized.room l.work l.i l.invariant.2 _ _ _ g)
+    (omega arith, g.copy, peeled-next c.args.n c.args.hold c.args.work.now c.args.out.now c.requires.0.sized.room l.work l.i l.invariant.2 _ _ g)
 
 pub returns : goal.returns
 returns c =

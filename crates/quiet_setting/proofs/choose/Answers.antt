@@ -9,7 +9,7 @@ pub loop-i-init : goal.loop-i-init
 loop-i-init c =
     let a = c.args in (
       omega arith,
-      visit-first a.n a.limit a.lows.now _ _ _ c.requires.0 c.requires.1.few (omega (arith, c.requires.2, c.idle_all.auto)) (omega (arith, c.requires.1.few, (blank-zeros 64).room)) c.idle_all.ensures (blank-zeros 64).clear c.none.ensures c.none-2.ensures,
+      visit-first a.n a.limit a.rows.now _ _ _ c.requires.0 c.requires.1.few (omega (arith, c.requires.2, c.idle_all.auto)) (omega (arith, c.requires.1.few, (blank-zeros 64).room)) c.idle_all.ensures (blank-zeros 64).clear c.none.ensures c.none-2.ensures,
       refl,
       refl,
     )

@@ -6,7 +6,7 @@ use Rattle.quiet_setting.specs.Choosing.{Choosing}
 use Rattle.quiet_setting.proofs.choose.Given as goal
 
 abbrev pub invariant-loop-i : goal.invariant-loop-i
-invariant-loop-i l = (l.i ≤ l.n) × Choosing l.n l.limit l.lows l.i l.out l.counts l.busy × (length l.out ≡ length l.initial.out) × (length l.counts ≡ 64)
+invariant-loop-i l = (l.i ≤ l.n) × Choosing l.n l.limit l.rows l.i l.out l.counts l.busy × (length l.out ≡ length l.initial.out) × (length l.counts ≡ 64)
 
 abbrev pub decreases-loop-i : goal.decreases-loop-i
 decreases-loop-i l = l.n - l.i

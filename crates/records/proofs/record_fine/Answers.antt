@@ -13,8 +13,8 @@ use Rattle.records.proofs.record_fine.Goals as goal
 pub returns-then-hold_of-eq0 : goal.returns-then-hold_of-eq0
 returns-then-hold_of-eq0 c = sym (no-hold _ _ _ _ (sym c.hold_of.ensures ∙ c.if-hold_of-eq0.true))
 
-pub returns-then-size_of_byte-n : goal.returns-then-size_of_byte-n
-returns-then-size_of_byte-n c = sym (bad-ports _ _ _ _ (λ q. c.if-size_of_byte-n.true (c.size_of_byte.ensures.0 ∙ q)))
+pub returns-then-from-n : goal.returns-then-from-n
+returns-then-from-n c = sym (bad-ports _ _ _ _ (λ q. c.if-from-n.true (c.from.ensures ∙ q)))
 
 pub returns-then-rec-edition : goal.returns-then-rec-edition
 returns-then-rec-edition c = sym (bad-edition _ _ _ _ c.if-rec-edition.true)
@@ -29,5 +29,5 @@ returns c =
     ∙ ap (λ (w : ℕ). outputs_fine w n (drop 4 b)) (length-drop 4 b)
     ∙ sym (outputs-decide _ _ n b
     (λ q. c.if-hold_of-eq0.false (c.hold_of.ensures ∙ q))
-    (sym c.size_of_byte.ensures.0 ∙ c.if-size_of_byte-n.false)
+    (sym c.from.ensures ∙ c.if-from-n.false)
     c.if-rec-edition.false)

@@ -37,4 +37,4 @@ pub returns : goal.returns
 returns c =
     let a = c.args in
     let w = asked-fine a.e a.hold a.n a.outputs.now a.plan.now c.if-hold-eq0.false c.requires.1 c.outputs_fine.ensures ∙ c.if-not-outputs_fine.false in
-    gives (sym (write_done a.e a.hold a.n a.outputs.now a.plan.now (omega arith) c.if-e-n.false c.if-plan-e.false w)) refl c.put_record.ensures
+    rw c.from.ensures (gives (sym (write_done a.e a.hold a.n a.outputs.now a.plan.now (omega arith) c.if-e-n.false c.if-plan-e.false w)) refl c.put_record.ensures)

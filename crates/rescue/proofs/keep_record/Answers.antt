@@ -40,7 +40,7 @@ returns c =
     let p = c.requires in
     let is = c.record_at-read.ensures in
     let fine = c.record_fine.ensures in
-    let granted = c.grant_record.ensures in (
-      keeping-more _ _ _ _ p.0 _ p.1 _ is _ _ p.2 _ fine (ap not c.if-not-record_fine.false) _ c.hold_of-hold.ensures (omega arith) _ granted,
+    let granted = rw c.from.ensures at c.grant_record.ensures in (
+      rw c.from-2.ensures (keeping-more _ _ _ _ p.0 _ p.1 _ is _ _ p.2 _ fine (ap not c.if-not-record_fine.false) _ c.hold_of-hold.ensures (omega arith) _ granted),
       granted.size,
     )

@@ -13,7 +13,7 @@ bounds-grants-k-in-loop-k c = omega (arith, c.loop-k.invariant.2.size, c.require
 pub loop-k-preserved : goal.loop-k-preserved
 loop-k-preserved c =
     let l = c.loop-k in
-    (l.invariant.0, omega arith, leaving-more _ _ _ l.k (omega (arith, c.requires)) l.invariant.2 _ c.word_less.ensures)
+    (l.invariant.0, omega arith, leaving-more _ _ _ l.k (omega (arith, c.requires)) l.invariant.2 _ c.saturating_sub.ensures)
 
 pub returns : goal.returns
 returns c = leaving-all _ _ _ _ (omega arith) c.loop-k.invariant.2

@@ -15,13 +15,13 @@ loop-k-init c = (refl, omega arith, sym (sum-zero _), omega arith)
 pub overflow_add-empty : goal.overflow_add-empty
 overflow_add-empty c =
     let p = c.requires in
-    omega (arith, c.loop-k.invariant.3, c.word_less.ensures, mul-le-mul p.0 p.0)
+    omega (arith, c.loop-k.invariant.3, c.from-empty.ensures, c.saturating_sub.ensures, mul-le-mul p.0 p.0)
 
 pub loop-k-preserved : goal.loop-k-preserved
 loop-k-preserved c =
     let a = c.args in
     let l = c.loop-k in
-    (l.invariant.0, omega arith, omega (arith, l.invariant.2, c.word_less.ensures, sum-next l.k (λ x. get_or a.grants.now x 0 - get_or a.cells.now x 0)), omega (arith, l.invariant.3))
+    (l.invariant.0, omega arith, omega (arith, l.invariant.2, c.from-empty.ensures, c.saturating_sub.ensures, sum-next l.k (λ x. get_or a.grants.now x 0 - get_or a.cells.now x 0)), omega (arith, l.invariant.3))
 
 pub returns : goal.returns
 returns c =

@@ -14,10 +14,6 @@ overflow_add-most c = let f = c.requires.0 in omega (arith, mul-le-mul f f)
 pub overflow_sub-most : goal.overflow_sub-most
 overflow_sub-most c = twice-small _
 
-pub returns-then-longest-most : goal.returns-then-longest-most
-unfolding exact_room
-returns-then-longest-most c = omega (arith, c.if-longest-most.true)
-
 pub returns : goal.returns
 unfolding exact_room
-returns c = omega (arith, c.if-longest-most.false)
+returns c = omega (arith, c.min.ensures)

@@ -3,10 +3,6 @@ use native.Mathlib.Omega.{arith}
 use Rattle.room.specs.Room.{quick_room}
 use Rattle.room.proofs.quick_records.Goals as goal
 
-pub returns-then-longest-eq0 : goal.returns-then-longest-eq0
-unfolding quick_room
-returns-then-longest-eq0 c = omega (arith, c.if-longest-eq0.true)
-
 pub returns : goal.returns
 unfolding quick_room
 returns c = omega arith

@@ -11,13 +11,13 @@ word_leads_to-low-requires c = (c.requires.0, c.requires.1, omega arith)
 pub word_leads_to-requires : goal.word_leads_to-requires
 word_leads_to-requires c = (c.requires.0, c.requires.1, omega arith)
 
-pub returns-in-At : goal.returns-in-At
-returns-in-At c =
+pub returns-in-Some : goal.returns-in-Some
+returns-in-Some c =
     let a = c.args in
-    low-leads (Allowed a.lows.now a.highs.now) a.by.now a.wave.0.high.0 a.wave.0.low.0 (omega (arith, c)) (outputs_of c.none.result) (outputs_of c.word_leads_to-low.result.outputs) c.word_leads_to-low.result.free c.in-At.is c.word_leads_to-low.ensures
+    low-leads (Allowed a.rows.now) a.pairs.now.by a.wave.numbers.high.0 a.wave.numbers.low.0 (omega (arith, c)) (outputs_of c.none.result) (outputs_of c.word_leads_to-low.result.outputs) c.word_leads_to-low.result.free c.in-Some.is c.word_leads_to-low.ensures
 
-pub returns-in-Nothing : goal.returns-in-Nothing
-returns-in-Nothing c =
+pub returns-in-None : goal.returns-in-None
+returns-in-None c =
     let a = c.args in
-    high-leads (Allowed a.lows.now a.highs.now) a.by.now a.wave.0.high.0 a.wave.0.low.0 (omega (arith, c)) (outputs_of c.none.result) (outputs_of c.word_leads_to-low.result.outputs) (outputs_of c.word_leads_to.result.outputs) c.word_leads_to-low.result.free c.word_leads_to.result.free
-    c.none.ensures c.in-Nothing.is c.word_leads_to-low.ensures c.word_leads_to.ensures
+    high-leads (Allowed a.rows.now) a.pairs.now.by a.wave.numbers.high.0 a.wave.numbers.low.0 (omega (arith, c)) (outputs_of c.none.result) (outputs_of c.word_leads_to-low.result.outputs) (outputs_of c.word_leads_to.result.outputs) c.word_leads_to-low.result.free c.word_leads_to.result.free
+    c.none.ensures c.in-None.is c.word_leads_to-low.ensures c.word_leads_to.ensures

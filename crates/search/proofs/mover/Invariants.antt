@@ -8,7 +8,7 @@ use Rattle.search.proofs.mover.Given as goal
 
 -- what is looked for is left
 abbrev pub invariant-loop-j : goal.invariant-loop-j
-invariant-loop-j l = Sub (outputs_of l.rest) (outputs_of l.initial.rest) × ((j : ℕ) → Mover (Allowed l.lows l.highs) l.by (outputs_of l.initial.rest) l.wanted.0 j → In (outputs_of l.rest) j)
+invariant-loop-j l = Sub (outputs_of l.rest) (outputs_of l.initial.rest) × ((j : ℕ) → Mover (Allowed l.rows) l.pairs.by (outputs_of l.initial.rest) l.wanted.0 j → In (outputs_of l.rest) j)
 
 abbrev pub decreases-loop-j : goal.decreases-loop-j
 decreases-loop-j l = 128 - absent 128 (outputs_of l.rest)

@@ -7,7 +7,7 @@ use Rattle.search.proofs.Waves.{Part}
 use Rattle.search.proofs.word_leads_to.Given as goal
 
 abbrev pub invariant-loop-j : goal.invariant-loop-j
-invariant-loop-j l = Part (Allowed l.lows l.highs) l.by l.initial.rest.0 l.base (outputs_of l.initial.outputs) l.rest.0 (outputs_of l.outputs)
+invariant-loop-j l = Part (Allowed l.rows) l.pairs.by l.initial.rest.0 l.base (outputs_of l.initial.outputs) l.rest.0 (outputs_of l.outputs)
 
 abbrev pub decreases-loop-j : goal.decreases-loop-j
 decreases-loop-j l = 64 - absent 64 l.rest.0

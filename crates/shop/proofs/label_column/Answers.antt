@@ -2,8 +2,7 @@
 use mathlib.Core.Path.{◌≡◌, sym, subst, ◌∙◌}
 use Prim.Native.Nat.{ℕ, ◌+◌}
 use native.Mathlib.Omega.{arith}
-use Rattle.shop.specs.declared.InputSet.{InputSet}
-use Rattle.shop.specs.Sets.{numbers_of}
+use Rattle.shop.specs.Sets.{InputSet, numbers_of}
 use Rattle.shop.specs.Kept.{Column}
 use Rattle.shop.proofs.Follows.{pair-in, pair-cell}
 use Rattle.shop.proofs.Columns.{column-none, column-mark, column-skip}

@@ -1,25 +1,25 @@
 -- After j turns it is the next finish of the first j outputs.
-use mathlib.Core.Path.{◌≡◌, ap, ◌∙◌}
+use mathlib.Core.Path.{ap, ap₂, ◌∙◌}
 use Prim.Native.Nat.{ℕ}
 use native.Mathlib.Omega.{arith}
-use lib.ListN.{get_or}
+use lib.ListN.{get_or, length-take}
+use Rattle.std.proofs.lemmas.List.{get_or-take}
 use Rattle.shop_rule.specs.Shop.{sooner, next}
 use Rattle.shop.proofs.Scans.{next-none, next_more}
-use Rattle.std.proofs.Common.{rules}
 use Rattle.shop.proofs.next_finish.Goals as goal
 
-pub loop-j-init : goal.loop-j-init
-loop-j-init c = (search rules, next-none _ _)
+pub loop-end-init : goal.loop-end-init
+loop-end-init c = next-none _ _
 
-pub loop-j-preserved : goal.loop-j-preserved
-loop-j-preserved c =
+pub loop-end-preserved : goal.loop-end-preserved
+loop-end-preserved c =
     let a = c.args in
-    let l = c.loop-j in
-    (omega arith, c.sooner_of-soonest.ensures ∙ ap (λ (m : ℕ). sooner a.t m (get_or a.outs.now l.j 0)) l.invariant.1 ∙ next_more l.j a.t _)
+    let l = c.loop-end in
+    c.sooner_of-soonest.ensures
+    ∙ ap₂ (sooner a.t) l.invariant (get_or-take a.n a.outs.now l.end-index 0 (omega (arith, c.loop-end-test.true, length-take a.n a.outs.now)))
+    ∙ next_more l.end-index a.t (λ (k : ℕ). get_or a.outs.now k 0)
 
 pub returns : goal.returns
 returns c =
-    let l = c.loop-j in
     let a = c.args in
-    let e : l.j ≡ a.n = omega arith in
-    l.invariant.1 ∙ ap (λ (m : ℕ). next m a.t (λ (k : ℕ). get_or a.outs.now k 0)) e
+    c.loop-end.invariant ∙ ap (λ (m : ℕ). next m a.t (λ (k : ℕ). get_or a.outs.now k 0)) (omega (arith, c.loop-end-test.false, c.loop-end.auto.end-index-end, length-take a.n a.outs.now))

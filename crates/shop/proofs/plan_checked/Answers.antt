@@ -29,4 +29,4 @@ run-begun-requires c =
 pub returns : goal.returns
 returns c =
     let a = c.args in
-    gives-done a.n a.d a.cells.now a.tasks.now _ _ (omega (arith, c.if-tasks-need.false, c.count_tasks-need.ensures ∙ count-is a.n a.d a.cells.now c.requires.0 c.requires.1)) c.run-begun.ensures
+    rw c.from.ensures (gives-done a.n a.d a.cells.now a.tasks.now _ _ (omega (arith, c.if-tasks-need.false, c.count_tasks-need.ensures ∙ count-is a.n a.d a.cells.now c.requires.0 c.requires.1)) c.run-begun.ensures)

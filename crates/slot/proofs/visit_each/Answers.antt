@@ -9,25 +9,25 @@ use Rattle.slot.proofs.Around.{ahead-next}
 use Rattle.slot.proofs.visit_each.Goals as goal
 
 pub loop-i-init : goal.loop-i-init
-loop-i-init c = let p = c.requires in record { copy = p.0; waits = p.2; work = refl; long = refl; rest = λ _ _ _ _ _ k. k }
+loop-i-init c = let p = c.requires in record { copy = p.0; waits = p.2; work = refl; long = refl; rest = λ _ _ _ _ k. k }
 
-pub returns-in_default : goal.returns-in_default
-returns-in_default c =
+pub returns : goal.returns
+returns c =
     let l = c.loop-i in
-    l.invariant.rest _ _ _ _ _ (none c.in_default.ensures)
+    l.invariant.rest _ _ _ _ (none c.in_default.ensures)
 
 pub visit-turn-requires : goal.visit-turn-requires
 visit-turn-requires c =
-    let low : LowestAt 128 (inputs_of c.loop-i.ahead) c.in-At.i.0 = c.in-At.ensures in
+    let low : LowestAt 128 (inputs_of c.loop-i.ahead) c.in-Some.i.0 = c.in-Some.ensures in
     let g = c.loop-i.invariant in
     let w = g.waits _ low.here in
     (g.copy, w.0, omega (arith, c.requires.1, g.long), w.1)
 
 pub loop-i-smaller : goal.loop-i-smaller
-loop-i-smaller c = let l : LowestAt 128 (inputs_of c.loop-i.ahead) c.in-At.i.0 = c.in-At.ensures in fewer 128 _ _ _ l.small l.here (c.without_lowest-ahead.ensures.cleared _ l.here l.past)
+loop-i-smaller c = let l : LowestAt 128 (inputs_of c.loop-i.ahead) c.in-Some.i.0 = c.in-Some.ensures in fewer 128 _ _ _ l.small l.here (c.without_lowest-ahead.ensures.cleared _ l.here l.past)
 
 pub loop-i-preserved : goal.loop-i-preserved
 loop-i-preserved c =
-    let l : LowestAt 128 (inputs_of c.loop-i.ahead) c.in-At.i.0 = c.in-At.ensures in
-    ahead-next _ _ _ _ _ _ _ _ _ _ _ _ _ c.loop-i.invariant _ _ l (c.without_lowest-ahead.ensures.cleared _ l.here l.past)
-    c.visit-turn.new.work c.visit-turn.new.lows c.visit-turn.new.highs c.visit-turn.new.out c.visit-turn.result c.visit-turn.ensures c.visit-turn.auto.work
+    let l : LowestAt 128 (inputs_of c.loop-i.ahead) c.in-Some.i.0 = c.in-Some.ensures in
+    ahead-next _ _ _ _ _ _ _ _ _ _ _ c.loop-i.invariant _ _ l (c.without_lowest-ahead.ensures.cleared _ l.here l.past)
+    c.visit-turn.new.work c.visit-turn.new.rows c.visit-turn.new.out c.visit-turn.result c.visit-turn.ensures c.visit-turn.auto.work

@@ -3,7 +3,7 @@ use Rattle.tally.proofs.Chain.{Looking}
 use Rattle.tally.proofs.entry_of.Given as goal
 
 abbrev pub invariant-loop-link : goal.invariant-loop-link
-invariant-loop-link l = Looking l.width l.plan l.count l.firsts l.setting l.link
+invariant-loop-link l = Looking l.width l.plan l.count l.entries l.setting l.link
 
 abbrev pub decreases-loop-link : goal.decreases-loop-link
 decreases-loop-link l = l.link

@@ -1,22 +1,23 @@
--- Each turn of the loop lays one byte more behind those before it.
-use mathlib.Core.Path.{refl}
+-- What is copied over a part of the text is laid there.
+use mathlib.Core.Path.{refl, ap, ◌∙◌}
+use mathlib.Core.List.{List, ◌++◌}
+use Prim.Native.Nat.{ℕ, ◌+◌}
 use native.Mathlib.Omega.{arith}
-use lib.ListN.{length-set}
-use Rattle.records.proofs.Laid.{copy-none, copy_more, copy-all}
-use Rattle.std.proofs.Common.{rules}
+use lib.ListN.{length, take, drop}
+use lib.Seq.{take_all}
+use Rattle.std.proofs.lemmas.Slice.{put_mid-paste}
+use Rattle.records.specs.Bytes.{laid}
 use Rattle.text.proofs.put_bytes.Goals as goal
 
-pub loop-i-init : goal.loop-i-init
-loop-i-init c = (search rules, refl, search rules, refl, copy-none _ _ c.args.bytes.now)
-
-pub loop-i-preserved : goal.loop-i-preserved
-loop-i-preserved c =
-    let l = c.loop-i in
-    let a = c.args in
-    (omega arith, refl, l.invariant.2, rw length-set l.invariant.3, copy_more _ a.at a.bytes.now l.text l.i (omega arith) (omega arith) l.invariant.4)
-
 pub returns : goal.returns
+unfolding laid
 returns c =
-    let l = c.loop-i in
-    let a = c.args in
-    record { place = refl; text = copy-all _ a.at a.bytes.now l.text l.i (omega arith) l.invariant.4 }
+    let d = c.args.text.now in
+    let at = c.args.at in
+    let s = c.args.bytes.now in
+    record {
+      place = refl;
+      text =
+          put_mid-paste at _ d _ s (length s) c.copy_from_slice.ensures.after (omega arith) refl
+          ∙ ap (λ (x : List ℕ). take at d ++ x ++ drop (at + length s) d) (take_all (length s) s (omega arith));
+    }

@@ -12,7 +12,7 @@ pub returns-then-output-eq-IDLE : goal.returns-then-output-eq-IDLE
 returns-then-output-eq-IDLE c = rw (idle-field _ c.if-output-eq-IDLE.true) c.put_bytes.ensures
 
 pub put_number-requires : goal.put_number-requires
-put_number-requires c = omega (arith, ap length (joined-field _ c.if-output-eq-IDLE.false))
+put_number-requires c = rw c.from.ensures (omega (arith, ap length (joined-field _ c.if-output-eq-IDLE.false)))
 
 pub returns : goal.returns
-returns c = rw (joined-field _ c.if-output-eq-IDLE.false) c.put_number.ensures
+returns c = rw (joined-field _ c.if-output-eq-IDLE.false, ← c.from.ensures) c.put_number.ensures

@@ -1,22 +1,18 @@
--- Side 0 has no word, 1 the word input, and any other the word output.
-use mathlib.Core.Path.{ap}
-use native.Mathlib.Omega.{arith}
-use lib.ListN.{length}
+-- A line has the word of its side, and what is no line has none.
+use Rattle.std.proofs.Common.{◌≡◌, [], refl}
+use Rattle.switch.specs.declared.Side.{Side}
+use Rattle.switch.specs.declared.Refusal.{Refusal}
+use Rattle.switch.specs.declared.Refusal.TheVariants.{Line}
+use Rattle.switch.specs.Answer.{refusal_side}
+use Rattle.text.specs.Line.{spaced}
+use Rattle.text.specs.Text.{side_field}
 use Rattle.text.proofs.Put.{put-none}
-use Rattle.text.proofs.Text.{no-side, input-side, output-side}
 use Rattle.text.proofs.put_side.Goals as goal
 
-pub returns-then-side-eq0 : goal.returns-then-side-eq0
-returns-then-side-eq0 c = rw (no-side _ c.if-side-eq0.true) (put-none _ _)
+no_side : (r : Refusal) → ((s : Side) → r ≡ Line s → ⊥) → spaced (side_field (refusal_side r)) ≡ []
+unfolding spaced
+no_side (Line s) h = absurd (h s refl)
+no_side _ h = refl
 
-pub put_bytes-requires : goal.put_bytes-requires
-put_bytes-requires c = omega (arith, ap length (input-side _ c.if-side-eq1.true))
-
-pub returns-then-side-eq1 : goal.returns-then-side-eq1
-returns-then-side-eq1 c = rw (input-side _ c.if-side-eq1.true) c.put_bytes.ensures
-
-pub put_bytes-requires-2 : goal.put_bytes-requires-2
-put_bytes-requires-2 c = omega (arith, ap length (output-side _ c.if-side-eq0.false c.if-side-eq1.false))
-
-pub returns : goal.returns
-returns c = rw (output-side _ c.if-side-eq0.false c.if-side-eq1.false) c.put_bytes-2.ensures
+pub returns-in_default : goal.returns-in_default
+returns-in_default c = rw (no_side c.args.refusal c.in_default.not-Line) (put-none _ _)

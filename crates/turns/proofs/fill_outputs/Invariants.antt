@@ -1,6 +1,5 @@
 -- After i turns the first i outputs are the setting's.
 use mathlib.Core.Path.{◌≡◌}
-use Prim.Native.Nat.{◌-◌, ◌≤◌}
 use lib.ListN.{length, take}
 use Rattle.rules.specs.Exact.{tab}
 use Rattle.records.specs.Bytes.{laid}
@@ -8,7 +7,4 @@ use Rattle.turns.specs.Second.{turn}
 use Rattle.turns.proofs.fill_outputs.Given as goal
 
 abbrev pub invariant-loop-i : goal.invariant-loop-i
-invariant-loop-i l = (l.i ≤ length l.initial.out) × (l.i-end ≡ length l.initial.out) × (length l.out ≡ length l.initial.out) × (l.out ≡ laid l.initial.out 0 (take l.i (tab (length l.initial.out) 0 (turn l.way l.n l.k))))
-
-abbrev pub decreases-loop-i : goal.decreases-loop-i
-decreases-loop-i l = length l.initial.out - l.i
+invariant-loop-i l = (l.out ≡ laid l.initial.out 0 (take l.i (tab (length l.initial.out) 0 (turn l.way l.n l.k))))

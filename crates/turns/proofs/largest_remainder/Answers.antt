@@ -8,7 +8,6 @@ use Rattle.rules.specs.Doubled.{tight}
 use Rattle.turns.proofs.Holds.{pair_inside, pair-cell}
 use Rattle.turns.proofs.largest_remainder.Invariants.{left}
 use Rattle.turns.proofs.largest_remainder.Goals as goal
-use Rattle.turns.proofs.largest_remainder.Goals.{then-largest-left, else-largest-left}
 
 pub loop-i-init : goal.loop-i-init
 loop-i-init c = (omega arith, sym (most-zero _))
@@ -26,17 +25,14 @@ bounds-cells-at c =
     let h = c.requires.0 in
     pair_inside h _ _ c.cell_at-at.ensures c.loop-i-test.true c.output_of.ensures.1
 
-pub remainder-left-requires : goal.remainder-left-requires
-remainder-left-requires c = c.requires.0.least
-
 pub loop-i-preserved : goal.loop-i-preserved
 loop-i-preserved c =
     let a = c.args in
     let l = c.loop-i in
     let m = most-next l.i (left a.way a.n a.cells.now a.unit a.k) in
     let cell-is = pair-cell c.requires.0 _ _ c.cell_at-at.ensures c.output_of.ensures.0 in
-    let v = c.remainder-left.ensures ∙ ap (λ x. x % a.unit) cell-is in
-    (omega arith, elim c.if-largest-left.branch [ then-largest-left w ↦ omega arith | else-largest-left w ↦ omega arith ])
+    let v = ap (λ x. x % a.unit) cell-is in
+    (omega arith, omega (arith, c.max-largest.ensures, v, m, l.invariant.1))
 
 pub returns : goal.returns
 unfolding tight

@@ -7,7 +7,7 @@ pub slice_bounds-read_full-end : goal.slice_bounds-read_full-end
 slice_bounds-read_full-end c = sym (length-replicate {A = ℕ} 1572864 0)
 
 pub slice_bounds-tape-end : goal.slice_bounds-tape-end
-slice_bounds-tape-end c = c.in_ok-size.ensures.0
+slice_bounds-tape-end c = c.in_ok-size.ensures.within.0
 
 pub slice_bounds-run_all-end : goal.slice_bounds-run_all-end
-slice_bounds-run_all-end c = c.in_ok-size.ensures.1
+slice_bounds-run_all-end c = c.in_ok-size.ensures.within.1

@@ -11,7 +11,7 @@ use Rattle.wishes.proofs.fill.Goals as goal
 
 pub loop-k-init : goal.loop-k-init
 loop-k-init c =
-    (omega arith, c.clear.ensures ∙ ap (λ (m : ℕ). replicate m 0) c.requires.2 ∙ sym (demand-none _ _))
+    (omega arith, c.fill.ensures.after (λ y e. e) ∙ ap (λ (m : ℕ). replicate m 0) c.requires.2 ∙ sym (demand-none _ _))
 
 pub put-requires : goal.put-requires
 put-requires c =

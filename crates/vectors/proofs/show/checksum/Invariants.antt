@@ -1,9 +1,6 @@
--- The sum stays below the prime, so that it never wraps; the measure is how many bytes are still to come.
-use Rattle.std.proofs.Common.{length, ◌-◌, ◌≤◌, ◌<◌}
+-- The sum stays below the prime, so that it never wraps.
+use Rattle.std.proofs.Common.{◌<◌}
 use Rattle.vectors.proofs.show.checksum.Given as goal
 
-abbrev pub invariant-loop-k : goal.invariant-loop-k
-invariant-loop-k l = (l.k ≤ length l.bytes) × (l.sum < 4294967291)
-
-abbrev pub decreases-loop-k : goal.decreases-loop-k
-decreases-loop-k l = length l.bytes - l.k
+abbrev pub invariant-loop-item : goal.invariant-loop-item
+invariant-loop-item g l = l.sum < 4294967291

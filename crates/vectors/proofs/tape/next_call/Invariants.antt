@@ -1,6 +1,6 @@
 -- A step that is laid is passed, so what is left of the tape falls; the place reached never leaves the tape.
 use Rattle.std.proofs.Common.{length, ◌-◌, ◌≡◌, ◌≤◌}
-use Rattle.vectors.specs.Counts.{IsPrefixLen}
+use Rattle.input.specs.Counts.{IsPrefixLen}
 use Rattle.vectors.proofs.tape.next_call.Given as goal
 
 abbrev pub invariant-loop-here : goal.invariant-loop-here
