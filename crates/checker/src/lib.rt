@@ -34,7 +34,7 @@ pub fn check_plan_second(n: usize, cells: &[u32], plan: &[u8]) -> Outcome
 
 // The checker for an edition, with a grant for each pair of its largest switch.
 pub fn check_for<const GRANTS: usize>(n: usize, cells: &[u32], plan: &[u8], e: Edition) -> Outcome
-    requires { Bounded e × (e.ports * e.ports ≡ GRANTS) }
+    requires { Bounded e × (e.ports * e.ports ≤ GRANTS) × (GRANTS ≤ 16384) }
     ensures { result ≡ check_plan e n cells.now plan.now }
 {
     let longest = demand::check_demand(n, e.ports, cells)?;
@@ -49,17 +49,18 @@ fn check_records<const GRANTS: usize>(
     plan: &[u8],
     e: Edition,
 ) -> Outcome
-    requires { Bounded e × (e.ports * e.ports ≡ GRANTS) × (length cells.now ≡ n * n) }
+    requires { Bounded e × (e.ports * e.ports ≤ GRANTS) × (GRANTS ≤ 16384) × (length cells.now ≡ n * n) }
     ensures { result ≡ reading e n plan.now (covering longest n cells.now) }
 {
     let records = plans::open(n, plan, e)?.records;
     let mut grants = [0u32; GRANTS];
-    let total = grants::grant_plan(n, plan, e, records, &mut grants)?;
+    let pass = grants::grant_plan(n, plan, e, records, &mut grants);
+    pass.end?;
     let empty = meet(n, cells, &grants).map_err(Refusal::Uncovered)?;
     Ok(Counts {
         records,
         longest,
-        total,
+        total: pass.total,
         length: 0,
         empty,
     })

@@ -15,31 +15,36 @@ ghost use Rattle.grants.specs.Grants.{Grants, Granting, Granted};
 use records::HEAD;
 use switch::{Edition, InputPort, OutputPort, Refusal};
 
+// What a pass over a plan's records came to: the holds that were granted, summed, and the refusal where a damaged record stopped it.
+#[derive(Clone, Copy)]
+pub struct Pass {
+    pub total: u64,
+    pub end: Result<(), Refusal>,
+}
+
 // One pass over a plan's first records, up to the first that is not well formed: each hold goes to the total and to the pairs that the record
 // joins.
 // k names the record in a refusal.
-pub fn grant_plan(
-    n: usize,
-    plan: &[u8],
-    e: Edition,
-    records: usize,
-    grants: &mut [u32],
-) -> Result<u64, Refusal>
+pub fn grant_plan(n: usize, plan: &[u8], e: Edition, records: usize, grants: &mut [u32]) -> Pass
     requires { Readable e n plan.now records × Blank (n * n) grants.old }
-    ensures told { result ≡ passing e n plan.now records total }
+    ensures end { result.end ≡ passing e n plan.now records (λ p. tt) }
+    ensures held { result.total ≡ total (plan_from e.width plan.now 0 (malformed e.width e.byte n plan.now records 0)) }
     ensures granted { Grants n (plan_from e.width plan.now 0 (malformed e.width e.byte n plan.now records 0)) grants.new }
 {
     let mut total: u64 = 0;
     for k in 0..records {
         let rec = plans::record_at(plan, e.width, k);
         if !records::record_fine(rec, n, e.byte) {
-            return Err(Refusal::Malformed(k));
+            return Pass {
+                total,
+                end: Err(Refusal::Malformed(k)),
+            };
         }
         let hold = u32::from(records::hold_of(rec));
         grant_record(rec, n, hold, grants);
         total += u64::from(hold);
     }
-    Ok(total)
+    Pass { total, end: Ok(()) }
 }
 
 // Adds a record's hold to the grant of each pair that the record joins. An idle input's 255 is no output.

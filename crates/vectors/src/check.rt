@@ -1,6 +1,4 @@
 // A plan from anywhere, of either edition: the checker and the length.
-ghost use Rattle.std.specs.Prelude.{◌≤◌};
-
 use crate::tape::Step;
 use crate::{show, tape};
 use std::io;
@@ -10,15 +8,13 @@ use switch::Outcome;
 const CELLS: usize = 16641;
 
 // Checks a plan against a demand: of what is laid, so many cells come first.
-pub fn check(rt: &impl Print, step: Step, laid: &[u8]) -> io::Result<()>
-    requires { step.second ≤ 65535 }
-{
+pub fn check(rt: &impl Print, step: Step, laid: &[u8]) -> io::Result<()> {
     let mut cells = [0u32; CELLS];
-    let split = tape::within(tape::CELL * step.second, laid);
+    let split = tape::within(tape::CELL * usize::from(step.second), laid);
     let lent = tape::load_cells(&laid[..split], &mut cells);
     show::line(
         rt,
-        checked(step.letter, step.first, &cells[..lent], &laid[split..]),
+        checked(step.letter, step.ports(), &cells[..lent], &laid[split..]),
     )
 }
 
@@ -31,13 +27,8 @@ fn checked(letter: u8, n: usize, cells: &[u32], plan: &[u8]) -> Outcome {
 }
 
 // The length of the plan that is laid, at the switching time that the step says.
-pub fn length(rt: &impl Print, step: Step, plan: &[u8]) -> io::Result<()>
-    requires { step.second ≤ 65535 }
-{
-    show::line(
-        rt,
-        measured(step.letter, step.first, plan, step.second as u16),
-    )
+pub fn length(rt: &impl Print, step: Step, plan: &[u8]) -> io::Result<()> {
+    show::line(rt, measured(step.letter, step.ports(), plan, step.second))
 }
 
 // The length by the call that the letter stands for.

@@ -1,6 +1,4 @@
 // The console: the record in force at a slot of two plans, and what a stopped batch leaves to ask.
-ghost use Rattle.std.specs.Prelude.{◌≤◌};
-
 use crate::tape::Step;
 use crate::{show, tape};
 use carry::Carried;
@@ -24,12 +22,16 @@ const CELLS: usize = 4225;
 const BEFORE: u32 = 7;
 
 // The record in force at the slot that is laid first. Of the plans behind it tonight's has as many records, and bytes more, as the step says.
-pub fn in_force(rt: &impl Print, step: Step, laid: &[u8]) -> io::Result<()>
-    requires { (step.small ≤ 255) × (step.second ≤ 65535) }
-{
+pub fn in_force(rt: &impl Print, step: Step, laid: &[u8]) -> io::Result<()> {
     let from = tape::within(SLOT, laid);
-    let size = step.second * RECORD + step.small;
-    look_up(rt, step.first, &laid[from..], size, tape::long_at(laid, 0))
+    let size = step.room(RECORD);
+    look_up(
+        rt,
+        step.ports(),
+        &laid[from..],
+        size,
+        tape::long_at(laid, 0),
+    )
 }
 
 // The same, of plans one behind the other of which the first has so many bytes.
@@ -75,12 +77,12 @@ pub fn carry_over(rt: &impl Print, step: Step, laid: &[u8]) -> io::Result<()> {
     let from = tape::within(HEAD, laid);
     carry_asked(
         rt,
-        step.first,
+        step.ports(),
         &laid[from..],
         tape::half_at(laid, ASKED),
         tape::half_at(laid, WISHED),
         tape::long_at(laid, 0) as usize,
-        step.second,
+        usize::from(step.second),
     )
 }
 
@@ -89,15 +91,13 @@ fn carry_asked(
     rt: &impl Print,
     n: usize,
     laid: &[u8],
-    asks: usize,
-    wishes: usize,
+    asks: u16,
+    wishes: u16,
     first: usize,
     size: usize,
-) -> io::Result<()>
-    requires { (asks ≤ 65535) × (wishes ≤ 65535) }
-{
+) -> io::Result<()> {
     let mut asked = [0u32; CELLS];
-    let split = tape::within(tape::CELL * asks, laid);
+    let split = tape::within(tape::CELL * usize::from(asks), laid);
     let count = tape::load_cells(&laid[..split], &mut asked);
     carry_wished(rt, n, &asked[..count], &laid[split..], wishes, first, size)
 }
@@ -108,19 +108,17 @@ fn carry_wished(
     n: usize,
     asked: &[u32],
     laid: &[u8],
-    wishes: usize,
+    wishes: u16,
     first: usize,
     size: usize,
-) -> io::Result<()>
-    requires { wishes ≤ 65535 }
-{
+) -> io::Result<()> {
     let mut wished = [0u32; CELLS];
-    let split = tape::within(tape::CELL * wishes, laid);
+    let split = tape::within(tape::CELL * usize::from(wishes), laid);
     let count = tape::load_cells(&laid[..split], &mut wished);
     carry_within(rt, n, asked, &laid[split..], first, &wished[..count], size)
 }
 
-// The same into so many cells.
+// The same into so many cells, which are made here, since `lend` has bytes.
 fn carry_within(
     rt: &impl Print,
     n: usize,

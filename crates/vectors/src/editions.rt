@@ -10,21 +10,26 @@ use switch::Outcome;
 const WIDE_RECORD: usize = 132;
 
 // The bytes that a step lends for a plan: so many whole records, and bytes more.
-pub fn room_of(step: Step) -> usize
-    requires { (step.small ≤ 255) × (step.second ≤ 65535) }
-{
-    size_of(step.letter, step.second) + step.small
+pub fn room_of(step: Step) -> usize {
+    step.room(record_of(step.letter))
 }
 
 // The bytes of so many records of the plan that the letter's call writes.
 pub fn size_of(letter: u8, records: usize) -> usize
-    requires { records ≤ 1081599 }
     ensures { result ≤ 132 * records }
 {
+    records.saturating_mul(record_of(letter))
+}
+
+// The bytes of a record of that plan.
+fn record_of(letter: u8) -> usize
+    ensures { result ≤ 132 }
+{
     if is_second(letter) {
-        return records * WIDE_RECORD;
+        WIDE_RECORD
+    } else {
+        records::RECORD
     }
-    records * records::RECORD
 }
 
 // Is that plan one of the second edition?

@@ -1,6 +1,4 @@
 // The grating fabric: what a plan does to the wavelengths, and the least total within a limit.
-ghost use Rattle.std.specs.Prelude.{◌≤◌, length};
-
 use crate::plan::LIMIT;
 use crate::{show, tape};
 use records::RECORD;
@@ -17,11 +15,9 @@ const ROOM: usize = 8448;
 const SHORT: usize = 128;
 
 // Reports the plan that was just written at the start of lent bytes.
-pub fn report_written(rt: &impl Print, n: usize, outcome: Outcome, lent: &[u8]) -> io::Result<()>
-    requires { length lent.now ≤ 278783 }
-{
-    let count = tape::within(switch::numbers_of(outcome).counts.records, lent);
-    let size = tape::within(count * RECORD, lent);
+pub fn report_written(rt: &impl Print, n: usize, outcome: Outcome, lent: &[u8]) -> io::Result<()> {
+    let count = switch::numbers_of(outcome).counts.records;
+    let size = tape::within(count.saturating_mul(RECORD), lent);
     print!(rt; "reported:")?;
     report(rt, n, &lent[..size], SHORT)
 }
@@ -37,14 +33,11 @@ pub fn least(rt: &impl Print, n: usize, laid: &[u8]) -> io::Result<()> {
 
 // Reports a plan, into so many bytes.
 pub fn report(rt: &impl Print, n: usize, plan: &[u8], size: usize) -> io::Result<()> {
-    let mut bytes = [0u8; ROOM];
-    let room = tape::within(size, &bytes);
-    report_into(rt, n, plan, &mut bytes[..room])
+    tape::lend::<ROOM, _>(size, |lent| report_into(rt, n, plan, lent))
 }
 
 // Reports into lent bytes, and prints what comes of it.
 fn report_into(rt: &impl Print, n: usize, plan: &[u8], lent: &mut [u8]) -> io::Result<()> {
-    tape::blank(lent);
     let outcome = wavelengths::grating_report(n, plan, lent);
     show::written(rt, outcome, lent)?;
     numbers(rt, outcome, lent)

@@ -1,6 +1,4 @@
 // Joining: a plan of either edition into a second buffer.
-ghost use Rattle.std.specs.Prelude.{◌≤◌};
-
 use crate::tape::Step;
 use crate::{editions, show, tape};
 use std::io;
@@ -10,17 +8,10 @@ use switch::Outcome;
 const ROOM: usize = 278783;
 
 // Joins the plan that is laid, into as many records and bytes as the step says.
-pub fn join(rt: &impl Print, step: Step, plan: &[u8]) -> io::Result<()>
-    requires { (step.small ≤ 255) × (step.second ≤ 65535) }
-{
-    join_within(rt, step.letter, step.first, plan, editions::room_of(step))
-}
-
-// Joins a plan into so many bytes.
-fn join_within(rt: &impl Print, letter: u8, n: usize, plan: &[u8], size: usize) -> io::Result<()> {
-    let mut bytes = [0u8; ROOM];
-    let room = tape::within(size, &bytes);
-    join_into(rt, letter, n, plan, &mut bytes[..room])
+pub fn join(rt: &impl Print, step: Step, plan: &[u8]) -> io::Result<()> {
+    tape::lend::<ROOM, _>(editions::room_of(step), |lent| {
+        join_into(rt, step.letter, step.ports(), plan, lent)
+    })
 }
 
 // Joins into lent bytes, and prints what comes of it.
@@ -31,7 +22,6 @@ fn join_into(
     plan: &[u8],
     lent: &mut [u8],
 ) -> io::Result<()> {
-    tape::blank(lent);
     let outcome = joined(letter, n, plan, lent);
     show::written(rt, outcome, lent)?;
     editions::show_plan(rt, letter, n, outcome, lent)

@@ -80,19 +80,17 @@ fn run_call(rt: &impl Print, tape: &[u8], at: usize, bytes: &mut [u8]) -> io::Re
 
 // The call that the step's letter stands for.
 // Its module matches the letter again: as an enum it would be told from the letter first, and then matched just so.
-fn run(rt: &impl Print, step: Step, laid: &[u8]) -> io::Result<()>
-    requires { (step.small ≤ 255) × (step.second ≤ 65535) }
-{
+fn run(rt: &impl Print, step: Step, laid: &[u8]) -> io::Result<()> {
     let letter = step.letter;
     match letter {
         b'x' | b'd' | b'e' | b'q' | b'g' | b'X' | b'D' | b'E' | b'Q' => plan::plan(rt, step, laid),
         b'u' => plan::plan_limited(rt, step, laid),
-        b'y' => fabric::least(rt, step.first, laid),
+        b'y' => fabric::least(rt, step.ports(), laid),
         b'k' | b'K' => check::check(rt, step, laid),
         b'l' | b'L' => check::length(rt, step, laid),
         b'j' | b'J' => join::join(rt, step, laid),
         b'1' | b'2' => moved::move_plan(rt, step, laid),
-        b'f' => fabric::report(rt, step.first, laid, step.second),
+        b'f' => fabric::report(rt, step.ports(), laid, usize::from(step.second)),
         b'r' | b'R' => record::read(rt, step, laid),
         b'w' | b'W' => record::write(rt, step, laid),
         b'b' => wished::patterns(rt, laid),
@@ -102,7 +100,7 @@ fn run(rt: &impl Print, step: Step, laid: &[u8]) -> io::Result<()>
         b'c' => console::carry_over(rt, step, laid),
         b'm' => rooms::room(rt, step.small, laid),
         b'o' => schedule::plan(rt, step, laid),
-        b'a' => schedule::read(rt, step.first, laid),
+        b'a' => schedule::read(rt, step.ports(), laid),
         b'v' => saved::rescue(rt, step, laid),
         _ => println!(rt; " no such call"),
     }

@@ -1,6 +1,4 @@
 // Moving: a plan of one edition into a second buffer as one of the other, and what was written back again.
-ghost use Rattle.std.specs.Prelude.{◌≡◌, ◌≤◌, length};
-
 use crate::tape::Step;
 use crate::{editions, show, tape};
 use std::io;
@@ -13,12 +11,10 @@ const ROOM: usize = 1081599;
 const BACK: usize = 139264;
 
 // Moves the plan that is laid, into as many records and bytes as the step says, and back.
-pub fn move_plan(rt: &impl Print, step: Step, plan: &[u8]) -> io::Result<()>
-    requires { (step.small ≤ 255) × (step.second ≤ 65535) }
-{
-    let mut bytes = [0u8; ROOM];
-    let room = tape::within(editions::room_of(step), &bytes);
-    there_and_back(rt, step.letter, step.first, plan, &mut bytes[..room])
+pub fn move_plan(rt: &impl Print, step: Step, plan: &[u8]) -> io::Result<()> {
+    tape::lend::<ROOM, _>(editions::room_of(step), |lent| {
+        there_and_back(rt, step.letter, step.ports(), plan, lent)
+    })
 }
 
 // Moves a plan into lent bytes, and what is there then back into as many bytes as were read.
@@ -28,14 +24,15 @@ fn there_and_back(
     n: usize,
     plan: &[u8],
     lent: &mut [u8],
-) -> io::Result<()>
-    requires { length lent.old ≤ 1081599 }
-{
-    let outcome = move_into(rt, letter, n, plan, lent)?;
-    let count = tape::within(switch::numbers_of(outcome).counts.records, lent);
+) -> io::Result<()> {
+    let outcome = moved(letter, n, plan, lent);
+    show::written(rt, outcome, lent)?;
+    let count = switch::numbers_of(outcome).counts.records;
     let size = tape::within(editions::size_of(letter, count), lent);
     print!(rt; "and back:")?;
-    move_within(rt, back(letter), n, &lent[..size], plan.len())
+    tape::lend::<BACK, _>(plan.len(), |room| {
+        move_into(rt, back(letter), n, &lent[..size], room)
+    })
 }
 
 // The letter of the call that moves a plan back.
@@ -46,14 +43,6 @@ fn back(letter: u8) -> u8 {
     }
 }
 
-// Moves a plan into so many bytes.
-fn move_within(rt: &impl Print, letter: u8, n: usize, plan: &[u8], size: usize) -> io::Result<()> {
-    let mut bytes = [0u8; BACK];
-    let room = tape::within(size, &bytes);
-    let _ = move_into(rt, letter, n, plan, &mut bytes[..room])?;
-    Ok(())
-}
-
 // Moves a plan into lent bytes, and prints what comes of it.
 fn move_into(
     rt: &impl Print,
@@ -61,13 +50,9 @@ fn move_into(
     n: usize,
     plan: &[u8],
     lent: &mut [u8],
-) -> io::Result<Outcome>
-    ensures { length lent.new ≡ length lent.old }
-{
-    tape::blank(lent);
+) -> io::Result<()> {
     let outcome = moved(letter, n, plan, lent);
-    show::written(rt, outcome, lent)?;
-    Ok(outcome)
+    show::written(rt, outcome, lent)
 }
 
 // The move that the letter stands for.

@@ -1,6 +1,4 @@
 // The planners of both editions: a demand into lent bytes. A plan for the grating fabric is reported too.
-ghost use Rattle.std.specs.Prelude.{◌≤◌, length};
-
 use crate::tape::Step;
 use crate::{editions, show, tape};
 use std::io;
@@ -16,42 +14,24 @@ const CELLS: usize = 16641;
 const ROOM: usize = 278783;
 
 // Plans the cells that are laid, into as many records and bytes as the step says.
-pub fn plan(rt: &impl Print, step: Step, laid: &[u8]) -> io::Result<()>
-    requires { (step.small ≤ 255) × (step.second ≤ 65535) }
-{
+pub fn plan(rt: &impl Print, step: Step, laid: &[u8]) -> io::Result<()> {
     plan_cells(rt, step, 0, laid)
 }
 
 // The same within the wavelength limit that is laid before the cells.
-pub fn plan_limited(rt: &impl Print, step: Step, laid: &[u8]) -> io::Result<()>
-    requires { (step.small ≤ 255) × (step.second ≤ 65535) }
-{
+pub fn plan_limited(rt: &impl Print, step: Step, laid: &[u8]) -> io::Result<()> {
     let from = tape::within(LIMIT, laid);
     plan_cells(rt, step, tape::long_at(laid, 0), &laid[from..])
 }
 
 // The same of cells alone.
-fn plan_cells(rt: &impl Print, step: Step, limit: u64, laid: &[u8]) -> io::Result<()>
-    requires { (step.small ≤ 255) × (step.second ≤ 65535) }
-{
+fn plan_cells(rt: &impl Print, step: Step, limit: u64, laid: &[u8]) -> io::Result<()> {
     let mut cells = [0u32; CELLS];
     let count = tape::load_cells(laid, &mut cells);
     let size = editions::room_of(step);
-    plan_within(rt, step.letter, step.first, limit, &cells[..count], size)
-}
-
-// Plans cells into so many bytes.
-fn plan_within(
-    rt: &impl Print,
-    letter: u8,
-    n: usize,
-    limit: u64,
-    cells: &[u32],
-    size: usize,
-) -> io::Result<()> {
-    let mut bytes = [0u8; ROOM];
-    let room = tape::within(size, &bytes);
-    plan_into(rt, letter, n, limit, cells, &mut bytes[..room])
+    tape::lend::<ROOM, _>(size, |lent| {
+        plan_into(rt, step.letter, step.ports(), limit, &cells[..count], lent)
+    })
 }
 
 // Plans into lent bytes, and prints what comes of it.
@@ -62,10 +42,7 @@ fn plan_into(
     limit: u64,
     cells: &[u32],
     lent: &mut [u8],
-) -> io::Result<()>
-    requires { length lent.old ≤ 278783 }
-{
-    tape::blank(lent);
+) -> io::Result<()> {
     let outcome = planned(letter, n, limit, cells, lent);
     show::written(rt, outcome, lent)?;
     editions::show_plan(rt, letter, n, outcome, lent)?;

@@ -1,8 +1,7 @@
 // Plan records of either edition: a plan read step by step, and one record written.
-ghost use Rattle.std.specs.Prelude.{◌≤◌};
-
 use crate::tape::Step;
 use crate::{show, tape};
+use plans::Stepped;
 use std::io;
 use switch::Outcome;
 
@@ -11,10 +10,10 @@ const ROOM: usize = 255;
 
 // Opens a plan and makes as many steps over it as the step of the tape says.
 pub fn read(rt: &impl Print, step: Step, plan: &[u8]) -> io::Result<()> {
-    show::line(rt, opened(step.letter, step.first, plan))?;
+    show::line(rt, opened(step.letter, step.ports(), plan))?;
     let mut at = 0;
     for _ in 0..step.second {
-        at = step_from(rt, step.letter, step.first, plan, at)?;
+        at = step_from(rt, step.letter, step.ports(), plan, at)?;
     }
     Ok(())
 }
@@ -30,55 +29,29 @@ fn opened(letter: u8, n: usize, plan: &[u8]) -> Outcome {
 // Makes and prints the step at a record; and the record that the next is at.
 fn step_from(rt: &impl Print, letter: u8, n: usize, plan: &[u8], at: usize) -> io::Result<usize> {
     match letter {
-        b'R' => step_second(rt, n, plan, at),
-        _ => step_first(rt, n, plan, at),
+        b'R' => show_step(rt, plans::step_second(n, plan, at)),
+        _ => show_step(rt, reader::step_from(n, plan, at)),
     }
 }
 
-// A step of the first edition, by a reader.
-fn step_first(rt: &impl Print, n: usize, plan: &[u8], at: usize) -> io::Result<usize> {
-    let stepped = reader::step_from(n, plan, at);
-    let step = stepped.step;
-    let outputs = stepped.outputs;
-    show_step(rt, step, stepped.hold, &outputs)?;
-    Ok(stepped.next)
-}
-
-// A step of the second edition.
-fn step_second(rt: &impl Print, n: usize, plan: &[u8], at: usize) -> io::Result<usize> {
-    let stepped = plans::step_second(n, plan, at);
-    let step = stepped.step;
-    let outputs = stepped.outputs;
-    show_step(rt, step, stepped.hold, &outputs)?;
-    Ok(stepped.next)
-}
-
-// What a step gave.
-fn show_step(rt: &impl Print, step: plans::Step, hold: u16, outputs: &[u8]) -> io::Result<()> {
-    match step {
+// What a step of either edition gave; and the record that the next is at.
+fn show_step<const W: usize>(rt: &impl Print, stepped: Stepped<W>) -> io::Result<usize> {
+    match stepped.step {
         plans::Step::Record => print!(rt; "record")?,
         plans::Step::End => print!(rt; "end")?,
         plans::Step::Malformed(k) => print!(rt; "malformed {k}")?,
     }
-    print!(rt; " hold {hold}")?;
-    show::sum(rt, outputs)?;
-    show::end(rt)
+    print!(rt; " hold {}", stepped.hold)?;
+    show::sum(rt, &stepped.outputs)?;
+    show::end(rt)?;
+    Ok(stepped.next)
 }
 
 // Writes one record of the outputs that are laid, into as many bytes as the step's small number says.
-pub fn write(rt: &impl Print, step: Step, laid: &[u8]) -> io::Result<()>
-    requires { step.second ≤ 65535 }
-{
-    let mut bytes = [0u8; ROOM];
-    let room = tape::within(step.small, &bytes);
-    write_into(
-        rt,
-        step.letter,
-        step.second as u16,
-        step.first,
-        laid,
-        &mut bytes[..room],
-    )
+pub fn write(rt: &impl Print, step: Step, laid: &[u8]) -> io::Result<()> {
+    tape::lend::<ROOM, _>(usize::from(step.small), |lent| {
+        write_into(rt, step.letter, step.second, step.ports(), laid, lent)
+    })
 }
 
 // Writes one record into lent bytes.
@@ -90,7 +63,6 @@ fn write_into(
     laid: &[u8],
     lent: &mut [u8],
 ) -> io::Result<()> {
-    tape::blank(lent);
     let outcome = wrote(letter, hold, n, laid, lent);
     show::written(rt, outcome, lent)
 }

@@ -1,6 +1,4 @@
 // Rescue: a damaged plan for a demand into a second buffer, and the list of what was dropped into a third.
-ghost use Rattle.std.specs.Prelude.{◌≤◌};
-
 use crate::tape::Step;
 use crate::{show, tape};
 use records::RECORD;
@@ -20,18 +18,16 @@ const ROOM: usize = 557379;
 const LIST: usize = 32772;
 
 // Rescues the plan that is laid behind the cells, into as many records and bytes as the step says.
-pub fn rescue(rt: &impl Print, step: Step, laid: &[u8]) -> io::Result<()>
-    requires { (step.small ≤ 255) × (step.second ≤ 65535) }
-{
+pub fn rescue(rt: &impl Print, step: Step, laid: &[u8]) -> io::Result<()> {
     let from = tape::within(HEAD, laid);
-    let size = step.second * RECORD + step.small;
+    let size = step.room(RECORD);
     with_cells(
         rt,
-        step.first,
+        step.ports(),
         &laid[from..],
         tape::half_at(laid, 0),
         size,
-        tape::half_at(laid, LISTED),
+        usize::from(tape::half_at(laid, LISTED)),
     )
 }
 
@@ -40,30 +36,16 @@ fn with_cells(
     rt: &impl Print,
     n: usize,
     laid: &[u8],
-    count: usize,
-    size: usize,
-    listed: usize,
-) -> io::Result<()>
-    requires { count ≤ 65535 }
-{
-    let mut cells = [0u32; CELLS];
-    let split = tape::within(tape::CELL * count, laid);
-    let loaded = tape::load_cells(&laid[..split], &mut cells);
-    with_plan(rt, n, &cells[..loaded], &laid[split..], size, listed)
-}
-
-// The same into so many bytes.
-fn with_plan(
-    rt: &impl Print,
-    n: usize,
-    cells: &[u32],
-    damaged: &[u8],
+    count: u16,
     size: usize,
     listed: usize,
 ) -> io::Result<()> {
-    let mut bytes = [0u8; ROOM];
-    let room = tape::within(size, &bytes);
-    with_list(rt, n, cells, damaged, &mut bytes[..room], listed)
+    let mut cells = [0u32; CELLS];
+    let split = tape::within(tape::CELL * usize::from(count), laid);
+    let loaded = tape::load_cells(&laid[..split], &mut cells);
+    tape::lend::<ROOM, _>(size, |plan| {
+        with_list(rt, n, &cells[..loaded], &laid[split..], plan, listed)
+    })
 }
 
 // The same, with so many bytes for the list.
@@ -75,9 +57,9 @@ fn with_list(
     plan: &mut [u8],
     listed: usize,
 ) -> io::Result<()> {
-    let mut bytes = [0u8; LIST];
-    let room = tape::within(listed, &bytes);
-    rescue_into(rt, n, cells, damaged, plan, &mut bytes[..room])
+    tape::lend::<LIST, _>(listed, |list| {
+        rescue_into(rt, n, cells, damaged, plan, list)
+    })
 }
 
 // Rescues into lent bytes, and prints what comes of it.
@@ -89,8 +71,6 @@ fn rescue_into(
     plan: &mut [u8],
     list: &mut [u8],
 ) -> io::Result<()> {
-    tape::blank(plan);
-    tape::blank(list);
     let answer = rescue::rescue_plan(n, cells, damaged, plan, list);
     let outcome = answer.outcome;
     show::answer(rt, outcome)?;

@@ -1,6 +1,4 @@
 // The open shop: a demand into task records, which are read again, and the reader by itself.
-ghost use Rattle.std.specs.Prelude.{◌≤◌, length};
-
 use crate::tape::Step;
 use crate::{show, tape};
 use std::io;
@@ -19,33 +17,23 @@ const ROOM: usize = 49419;
 const SHORT: usize = 12;
 
 // Plans the cells that are laid behind a switching time, into as many records and bytes as the step says.
-pub fn plan(rt: &impl Print, step: Step, laid: &[u8]) -> io::Result<()>
-    requires { (step.small ≤ 255) × (step.second ≤ 65535) }
-{
+pub fn plan(rt: &impl Print, step: Step, laid: &[u8]) -> io::Result<()> {
     let mut cells = [0u32; CELLS];
     let from = tape::within(TIME, laid);
     let count = tape::load_cells(&laid[from..], &mut cells);
-    let d = tape::half_at(laid, 0) as u16;
-    let size = step.second * TASK + step.small;
-    plan_within(rt, step.first, &cells[..count], d, size)
-}
-
-// Plans cells into so many bytes.
-fn plan_within(rt: &impl Print, n: usize, cells: &[u32], d: u16, size: usize) -> io::Result<()> {
-    let mut bytes = [0u8; ROOM];
-    let room = tape::within(size, &bytes);
-    plan_into(rt, n, cells, d, &mut bytes[..room])
+    let d = tape::half_at(laid, 0);
+    let size = step.room(TASK);
+    tape::lend::<ROOM, _>(size, |lent| {
+        plan_into(rt, step.ports(), &cells[..count], d, lent)
+    })
 }
 
 // Plans into lent bytes, and prints what comes of it.
-fn plan_into(rt: &impl Print, n: usize, cells: &[u32], d: u16, lent: &mut [u8]) -> io::Result<()>
-    requires { length lent.old ≤ 49419 }
-{
-    tape::blank(lent);
+fn plan_into(rt: &impl Print, n: usize, cells: &[u32], d: u16, lent: &mut [u8]) -> io::Result<()> {
     let outcome = shop::shop_plan(n, cells, d, lent);
     show::written(rt, outcome, lent)?;
-    let count = tape::within(switch::numbers_of(outcome).counts.records, lent);
-    let size = tape::within(count * TASK, lent);
+    let count = switch::numbers_of(outcome).counts.records;
+    let size = tape::within(count.saturating_mul(TASK), lent);
     print_all(rt, &lent[..size])?;
     print!(rt; "read again:")?;
     read(rt, n, &lent[..size])

@@ -2,8 +2,10 @@
 // bytes and the number of bytes that follow, low byte first.
 // A step `+` lays the bytes that follow it, as often as its first number says; any other step is a call on what is laid, and the
 // bytes that follow it are its name. Any bytes can be read so: past a tape's end everything is 0.
-ghost use Rattle.std.specs.Prelude.{◌≡◌, ◌+◌, ◌-◌, ◌≤◌, ◌<◌, length, get_or};
+ghost use Rattle.std.specs.Prelude.{◌≡◌, ◌+◌, ◌-◌, ◌*◌, ◌≤◌, ◌<◌, length, get_or};
 ghost use Rattle.input.specs.Counts.{IsPrefixLen};
+
+use std::io;
 
 // The bytes of a step before those that follow it.
 const STEP: usize = 8;
@@ -21,10 +23,27 @@ const BLANK: u8 = 170;
 #[derive(Clone, Copy)]
 pub struct Step {
     pub letter: u8,
-    pub small: usize,
-    pub first: usize,
-    pub second: usize,
-    pub size: usize,
+    pub small: u8,
+    pub first: u16,
+    pub second: u16,
+    pub size: u16,
+}
+
+impl Step {
+    // The number of ports that a call takes.
+    pub fn ports(self) -> usize
+        ensures { result ≡ self.first }
+    {
+        usize::from(self.first)
+    }
+
+    // So many whole records of a size, and bytes more.
+    pub fn room(self, whole: usize) -> usize
+        requires { whole ≤ 132 }
+        ensures { result ≡ self.second * whole + self.small }
+    {
+        usize::from(self.second) * whole + usize::from(self.small)
+    }
 }
 
 // A call that a tape asks for: its step, how many bytes are laid for it, where its name starts, and where the next step does.
@@ -44,8 +63,6 @@ pub fn next_call(tape: &[u8], at: usize, bytes: &mut [u8]) -> Call
     ensures at_lt_name { at < result.name }
     ensures name_le_next { result.name ≤ result.next }
     ensures next_in_bounds { result.next ≤ length tape.now }
-    ensures small_bound { result.step.small ≤ 255 }
-    ensures second_bound { result.step.second ≤ 65535 }
 {
     let mut laid = 0;
     let mut here = at;
@@ -53,7 +70,7 @@ pub fn next_call(tape: &[u8], at: usize, bytes: &mut [u8]) -> Call
     while here < tape.len() && step.letter == LAY {
         let from = forward(tape, here, STEP);
         laid = lay(tape, from, step.size, step.first, bytes, laid);
-        here = forward(tape, from, step.size);
+        here = forward(tape, from, usize::from(step.size));
         step = step_at(tape, here);
     }
     let name = forward(tape, here, STEP);
@@ -61,7 +78,7 @@ pub fn next_call(tape: &[u8], at: usize, bytes: &mut [u8]) -> Call
         step,
         laid,
         name,
-        next: forward(tape, name, step.size),
+        next: forward(tape, name, usize::from(step.size)),
     }
 }
 
@@ -76,15 +93,11 @@ fn forward(tape: &[u8], at: usize, by: usize) -> usize
 // The step at a place of the tape.
 fn step_at(tape: &[u8], at: usize) -> Step
     requires { at ≤ length tape.now }
-    ensures small_bound { result.small ≤ 255 }
-    ensures first_bound { result.first ≤ 65535 }
-    ensures second_bound { result.second ≤ 65535 }
-    ensures size_bound { result.size ≤ 65535 }
 {
     let part = &tape[at..];
     Step {
         letter: byte_at(part, 0),
-        small: usize::from(byte_at(part, 1)),
+        small: byte_at(part, 1),
         first: half_at(part, 2),
         second: half_at(part, 4),
         size: half_at(part, 6),
@@ -92,29 +105,26 @@ fn step_at(tape: &[u8], at: usize) -> Step
 }
 
 // Lays `size` bytes of the tape after those already laid, so many times and as far as there is room; answers how many bytes are laid then.
-fn lay(tape: &[u8], at: usize, size: usize, times: usize, bytes: &mut [u8], laid: usize) -> usize
+fn lay(tape: &[u8], at: usize, size: u16, times: u16, bytes: &mut [u8], laid: usize) -> usize
     requires at_in_bounds { at ≤ length tape.now }
-    requires size_bound { size ≤ 65535 }
-    requires times_bound { times ≤ 65535 }
     requires laid_in_bounds { laid ≤ length bytes.old }
     ensures { IsPrefixLen result bytes.new }
 {
-    let end = laid + (times * size).min(bytes.len() - laid);
-    let mut k = 0;
+    let room = usize::from(times) * usize::from(size);
+    let end = laid + room.min(bytes.len() - laid);
+    let part = &tape[at..];
+    let mut k = 0u16;
     for b in &mut bytes[laid..end] {
-        *b = byte_at(tape, at + k);
+        *b = byte_at(part, usize::from(k));
         k = around(k, size);
     }
     end
 }
 
 // The index after k among `size`, and 0 after the last.
-fn around(k: usize, size: usize) -> usize
-    requires k_bound { k ≤ 65535 }
-    requires size_bound { size ≤ 65535 }
-    ensures { result ≤ 65535 }
-{
-    if k + 1 < size { k + 1 } else { 0 }
+fn around(k: u16, size: u16) -> u16 {
+    let next = k.saturating_add(1);
+    if next < size { next } else { 0 }
 }
 
 // Reads bytes as cells, four to a cell, low byte first; answers how many there are.
@@ -135,34 +145,37 @@ pub fn within(size: usize, bytes: &[u8]) -> usize
     size.min(bytes.len())
 }
 
-// Fills lent bytes before a call.
-pub fn blank(bytes: &mut [u8])
-    ensures { length bytes.new ≡ length bytes.old }
+// Lends a call so many bytes, or N where there are fewer. The memory is this frame's: nothing here takes any from a heap.
+pub fn lend<const N: usize, F: FnOnce(&mut [u8]) -> io::Result<()>>(
+    size: usize,
+    call: F,
+) -> io::Result<()>
+    requires fits { N ≤ 4194304 }
+    requires callable { F.IsAlwaysCallable call }
 {
-    bytes.fill(BLANK);
+    let mut bytes = [BLANK; N];
+    call(&mut bytes[..size.min(N)])
 }
 
 // Eight bytes as a number, low byte first.
 pub fn long_at(bytes: &[u8], at: usize) -> u64
     requires { at ≤ 8 }
 {
-    word_at(bytes, at) + 4294967296 * word_at(bytes, at + 4)
+    u64::from(word_at(bytes, at)) + 4294967296 * u64::from(word_at(bytes, at + 4))
 }
 
 // Four bytes as a number, low byte first.
-pub fn word_at(bytes: &[u8], at: usize) -> u64
+pub fn word_at(bytes: &[u8], at: usize) -> u32
     requires { at ≤ 12 }
-    ensures { result ≤ 4294967295 }
 {
-    (half_at(bytes, at) + 65536 * half_at(bytes, at + 2)) as u64
+    u32::from(half_at(bytes, at)) + 65536 * u32::from(half_at(bytes, at + 2))
 }
 
 // Two bytes as a number, low byte first.
-pub fn half_at(bytes: &[u8], at: usize) -> usize
+pub fn half_at(bytes: &[u8], at: usize) -> u16
     requires { at ≤ 14 }
-    ensures { result ≤ 65535 }
 {
-    usize::from(byte_at(bytes, at)) + 256 * usize::from(byte_at(bytes, at + 1))
+    u16::from_le_bytes([byte_at(bytes, at), byte_at(bytes, at + 1)])
 }
 
 // The byte at a place; 0 past the end.

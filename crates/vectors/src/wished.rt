@@ -32,11 +32,11 @@ fn pattern(rt: &impl Print, bits: u32) -> io::Result<()> {
     println!(rt; " {} {}", wish::code_of(wish), wish::slots_of(wish))
 }
 
-// Reads the wish list that is laid into as many cells as the step says.
+// Reads the wish list that is laid into as many cells as the step says. Cells are made here, since `lend` has bytes.
 pub fn read(rt: &impl Print, step: Step, list: &[u8]) -> io::Result<()> {
     let mut cells = [BEFORE; CELLS];
-    let count = step.second.min(CELLS);
-    read_into(rt, step.letter, step.first, list, &mut cells[..count])
+    let count = CELLS.min(usize::from(step.second));
+    read_into(rt, step.letter, step.ports(), list, &mut cells[..count])
 }
 
 // The call's answer in a line, and the cells after it in another.

@@ -6,7 +6,7 @@ use Rattle.checker.proofs.Check.{check-faulty, check-fine}
 use Rattle.checker.proofs.check_for.Goals as goal
 
 pub check_records-requires : goal.check_records-requires
-check_records-requires g c = (c.requires.0, c.requires.1, (fine-asked _ _ _ _ (sym c.check_demand.ensures ∙ c.in_ok-longest.was)).size)
+check_records-requires g c = (c.requires.0, c.requires.1, c.requires.2, (fine-asked _ _ _ _ (sym c.check_demand.ensures ∙ c.in_ok-longest.was)).size)
 
 pub returns-in_err-longest : goal.returns-in_err-longest
 returns-in_err-longest g c =

@@ -17,25 +17,25 @@ returns-in_err-records g c =
     let p = err_from_is_err_and c.from_residual.result c.from_residual.ensures.1 in
     rw (p.1, p.2) (reading-refused _ _ _ _ (sym c.in_err-records.was ∙ c.open.ensures))
 
-pub grant_plan-requires : goal.grant_plan-requires
-grant_plan-requires g c =
+pub grant_plan-pass-requires : goal.grant_plan-pass-requires
+grant_plan-pass-requires g c =
     let r = readable _ _ _ _ c.requires.0 (sym c.in_ok-records.was ∙ c.open.ensures) in
     let z = blank-zeros g.row.GRANTS in
     (r, record { room = omega (arith, c.requires.1, z.room, mul-le-mul r.few r.few); clear = z.clear })
 
-pub returns-in_err-total : goal.returns-in_err-total
-returns-in_err-total g c =
-    let p = err_from_is_err_and c.from_residual-in_err-total.result c.from_residual-in_err-total.ensures.1 in
-    rw (p.1, p.2) (reading-malformed _ _ _ _ total (sym c.in_ok-records.was ∙ c.open.ensures) (sym c.in_err-total.was ∙ c.grant_plan.ensures.told))
+pub returns-in_err-pass : goal.returns-in_err-pass
+returns-in_err-pass g c =
+    let p = err_from_is_err_and c.from_residual-in_err-pass.result c.from_residual-in_err-pass.ensures.1 in
+    rw (p.1, p.2) (reading-malformed _ _ _ _ (λ q. tt) (sym c.in_ok-records.was ∙ c.open.ensures) (sym c.in_err-pass.was ∙ c.grant_plan-pass.ensures.end))
 
 pub returns-in_err-empty : goal.returns-in_err-empty
 returns-in_err-empty g c =
-    let e : c.from_residual-in_err-empty.result ≡ answers c.in_ok-records.field-0.records c.args.longest c.in_ok-total.total c.meet.result = search rules in
-    let done = sym c.in_ok-total.was ∙ c.grant_plan.ensures.told in
-    e ∙ check-met _ _ _ _ _ _ _ (sym c.in_ok-records.was ∙ c.open.ensures) _ done c.grant_plan.ensures.granted _ c.meet.ensures
+    let e : c.from_residual-in_err-empty.result ≡ answers c.in_ok-records.field-0.records c.args.longest c.grant_plan-pass.result.total c.meet.result = search rules in
+    let o = sym c.in_ok-records.was ∙ c.open.ensures in
+    e ∙ check-met _ _ _ _ _ _ _ o _ (sym c.in_ok-pass.was ∙ c.grant_plan-pass.ensures.end) c.grant_plan-pass.ensures.held c.grant_plan-pass.ensures.granted _ c.meet.ensures
 
 pub returns : goal.returns
 returns g c =
     let e : c.meet.result ≡ Ok c.in_ok-empty.empty = search rules in
-    let done = sym c.in_ok-total.was ∙ c.grant_plan.ensures.told in
-    check-met _ _ _ _ _ _ _ (sym c.in_ok-records.was ∙ c.open.ensures) _ done c.grant_plan.ensures.granted _ (sym e ∙ c.meet.ensures)
+    let o = sym c.in_ok-records.was ∙ c.open.ensures in
+    check-met _ _ _ _ _ _ _ o _ (sym c.in_ok-pass.was ∙ c.grant_plan-pass.ensures.end) c.grant_plan-pass.ensures.held c.grant_plan-pass.ensures.granted _ (sym e ∙ c.meet.ensures)

@@ -20,10 +20,15 @@ record_fine-requires c =
     let p = c.requires.0 in
     (omega (arith, p.few, p.bounded.ports, p.bounded.width), omega (arith, p.few, p.bounded.ports, read-size _ _ _ _ p _ 0 (omega arith) _ c.record_at-rec.ensures))
 
-pub returns-then-not-record_fine-clause-told : goal.returns-then-not-record_fine-clause-told
-returns-then-not-record_fine-clause-told c =
+pub returns-then-not-record_fine-clause-end : goal.returns-then-not-record_fine-clause-end
+returns-then-not-record_fine-clause-end c =
     let l = c.loop-k in
-    pass-stop _ _ _ _ c.requires.0 _ _ (omega arith) _ c.record_at-rec.ensures l.invariant.0 _ c.record_fine.ensures total (ap not c.if-not-record_fine.true)
+    pass-stop _ _ _ _ c.requires.0 _ _ (omega arith) _ c.record_at-rec.ensures l.invariant.0 _ c.record_fine.ensures (λ p. tt) (ap not c.if-not-record_fine.true)
+
+pub returns-then-not-record_fine-clause-held : goal.returns-then-not-record_fine-clause-held
+returns-then-not-record_fine-clause-held c =
+    let l = c.loop-k in
+    rw (pass-damaged _ _ _ _ c.requires.0 _ _ (omega arith) _ c.record_at-rec.ensures l.invariant.0 _ c.record_fine.ensures (ap not c.if-not-record_fine.true)) l.invariant.0.holds
 
 pub returns-then-not-record_fine-clause-granted : goal.returns-then-not-record_fine-clause-granted
 returns-then-not-record_fine-clause-granted c =
@@ -58,11 +63,16 @@ loop-k-preserved c =
       grants-more _ _ _ l.k _ is _ h _ _ l.invariant.2 c.grant_record.ensures,
     )
 
-pub returns-clause-told : goal.returns-clause-told
-returns-clause-told c =
+pub returns-clause-end : goal.returns-clause-end
+returns-clause-end c =
+    let l = c.loop-k in
+    pass-end _ _ _ _ c.requires.0 (λ p. tt) l.k _ (omega arith) l.invariant.0 tt refl
+
+pub returns-clause-held : goal.returns-clause-held
+returns-clause-held c =
     let l = c.loop-k in
     let end : c.args.records ≤ l.k = omega arith in
-    pass-end _ _ _ _ c.requires.0 total l.k _ end l.invariant.0 _ (pass-holds _ _ _ _ c.requires.0 l.k _ end l.invariant.0)
+    rw (pass-all _ _ _ _ c.requires.0 l.k _ end l.invariant.0) (pass-holds _ _ _ _ c.requires.0 l.k _ end l.invariant.0)
 
 pub returns-clause-granted : goal.returns-clause-granted
 returns-clause-granted c =

@@ -4,7 +4,7 @@ use Rattle.input.specs.Counts.{IsPrefixLen}
 use Rattle.vectors.proofs.tape.next_call.Given as goal
 
 abbrev pub invariant-loop-here : goal.invariant-loop-here
-invariant-loop-here l = (l.at ≤ l.here) × (l.here ≤ length l.tape) × (length l.bytes ≡ length l.initial.bytes) × IsPrefixLen l.laid l.bytes × (l.step.small ≤ 255) × (l.step.first ≤ 65535) × (l.step.second ≤ 65535) × (l.step.size ≤ 65535)
+invariant-loop-here l = (l.at ≤ l.here) × (l.here ≤ length l.tape) × (length l.bytes ≡ length l.initial.bytes) × IsPrefixLen l.laid l.bytes
 
 abbrev pub decreases-loop-here : goal.decreases-loop-here
 decreases-loop-here l = length l.tape - l.here
