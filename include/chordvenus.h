@@ -37,8 +37,8 @@
  *           pointer, or touches anything but its arguments and its stack, so calls may run at once,
  *           on memory of their own or on memory that all of them only read.
  * Stack     CV_STACK_EXACT and the like say how many bytes of stack must be left for each call.
- * Archive   libchordvenus.a and libchordvenus.so are for x86-64 Linux; from outside they take memcpy,
- *           memmove and memset alone. Header and archive belong together: an answer is returned by value, so
+ * Archive   libchordvenus.a and libchordvenus.so are for x86-64 Linux; from outside they take memcpy
+ *           and memset alone. Header and archive belong together: an answer is returned by value, so
  *           neither of the two can gain a field alone. CV_VERSION is the header's number and
  *           cv_version() the archive's. A program built with one number does not link with an archive
  *           of another, and does not start with a shared library of another, whose name ends in it.

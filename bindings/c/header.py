@@ -1,7 +1,7 @@
 #!/usr/bin/env python3
 """Holds the header against all that stands beside it: header.py ARCHIVE, or a shared library in its place.
 
-The calls that it declares are the ones that the library has, which takes memcpy, memmove and memset alone from outside; a thrown away answer of
+The calls that it declares are the ones that the library has, which takes memcpy and memset alone from outside; a thrown away answer of
 each draws a warning in C and in C++; the Rust crate declares each; the test of the stack runs each; and each, those of the Rust crate's
 module `owned` too, is in an example of C and of Rust.
 """
@@ -67,7 +67,7 @@ def main():
         "declared without CV_NODISCARD": re.findall(r"^(?:uint64_t|cv2?_\w+) (cv2?_\w+)\(", HEADER, re.M),
         "declared, and not in the library": set(declared) - defined,
         "in the library, and not declared": defined - set(declared) - {f"cv_interface_{version}", "_init", "_fini"},
-        "wanted from outside": wanted - {"memcpy", "memmove", "memset"},
+        "wanted from outside": wanted - {"memcpy", "memset"},
         "not in the Rust crate, or only there": in_sys ^ set(declared),
         "thrown away without a warning": warned(declared),
         "without a run on its own stack": [name for name in declared if f'"{name}"' not in stack],

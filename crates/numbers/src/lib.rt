@@ -13,10 +13,12 @@ pub fn word_at(bytes: &[u8], at: usize) -> u32
     u32::from_le_bytes([bytes[at], bytes[at + 1], bytes[at + 2], bytes[at + 3]])
 }
 
-// Copies cells over the first of others.
+// Copies cells over the first of others. By a loop: std's copy calls memmove here, which the header does not ask of who links the archive.
 pub fn copy(from: &[u32], to: &mut [u32])
     requires { length from.now ≤ length to.old }
     ensures { to.new ≡ from.now ++ drop (length from.now) to.old }
 {
-    to[..from.len()].copy_from_slice(from);
+    for k in 0..from.len() {
+        to[k] = from[k];
+    }
 }

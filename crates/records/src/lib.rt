@@ -149,16 +149,18 @@ fn later_idle(outputs: &[u8], n: usize) -> bool
     idle
 }
 
-// Lays one record over a plan from `at` on; its width is the number of outputs.
+// Lays one record over a plan from `at` on; its width is the number of outputs. By a loop, as `numbers::copy` is, and for its reason.
 pub fn put_record(plan: &mut [u8], at: usize, edition: u8, hold: u16, n: usize, outputs: &[u8])
     requires { (n < 256) × (at + (length outputs.now + 4) ≤ length plan.old) }
     ensures { plan.new ≡ laid plan.old at (encode edition hold n outputs.now) }
 {
-    let rec = &mut plan[at..at + HEAD + outputs.len()];
-    rec[..2].copy_from_slice(&hold.to_le_bytes());
-    rec[2] = n as u8;
-    rec[3] = edition;
-    rec[HEAD..].copy_from_slice(outputs);
+    plan[at] = (hold % 256) as u8;
+    plan[at + 1] = (hold / 256) as u8;
+    plan[at + 2] = n as u8;
+    plan[at + 3] = edition;
+    for i in 0..outputs.len() {
+        plan[at + HEAD + i] = outputs[i];
+    }
 }
 
 // The same where the record is to be written, and nothing where it is only counted; and where the next one goes.
