@@ -3,7 +3,7 @@
 // new cells are computed in working memory, so that nothing is written before all is known.
 #![tactic(auto)]
 
-ghost use Rattle.std.specs.Prelude.{◌≡◌, ◌*◌, length, ◌≤◌};
+ghost use Rattle.std.specs.Prelude.{◌≡◌, ◌*◌, length, ◌≤◌, ◌<◌, ◌^◌};
 ghost use Rattle.switch.specs.Editions.{first_edition, Bounded};
 ghost use Rattle.demand.specs.Lines.{Sized};
 ghost use Rattle.carry.specs.Rest.{Renewing, Renewed};
@@ -50,7 +50,7 @@ pub fn carry_for<const GRANTS: usize>(
     cells: &mut [u32],
     e: Edition,
 ) -> Carried
-    requires { Bounded e × (e.ports * e.ports ≤ GRANTS) × (GRANTS ≤ 16384) }
+    requires { Bounded e × (e.ports * e.ports ≤ GRANTS) × (GRANTS < 2 ^ 61) }
     ensures { Carries e n asked.now plan.now first wished.now cells.old result cells.new }
 {
     fault_of(n, asked, plan, first, wished, cells.len(), e)?;

@@ -4,7 +4,7 @@
 // the planners' plans pass here is a law of the crate promises.
 #![tactic(auto)]
 
-ghost use Rattle.std.specs.Prelude.{◌≡◌, ◌*◌, ◌≤◌, length};
+ghost use Rattle.std.specs.Prelude.{◌≡◌, ◌*◌, ◌≤◌, length, ◌<◌, ◌^◌};
 ghost use Rattle.switch.specs.Demand.{cell};
 ghost use Rattle.switch.specs.Editions.{first_edition, second_edition, Bounded};
 ghost use Rattle.plans.specs.Reading.{reading};
@@ -34,7 +34,7 @@ pub fn check_plan_second(n: usize, cells: &[u32], plan: &[u8]) -> Outcome
 
 // The checker for an edition, with a grant for each pair of its largest switch.
 pub fn check_for<const GRANTS: usize>(n: usize, cells: &[u32], plan: &[u8], e: Edition) -> Outcome
-    requires { Bounded e × (e.ports * e.ports ≤ GRANTS) × (GRANTS ≤ 16384) }
+    requires { Bounded e × (e.ports * e.ports ≤ GRANTS) × (GRANTS < 2 ^ 61) }
     ensures { result ≡ check_plan e n cells.now plan.now }
 {
     let longest = demand::check_demand(n, e.ports, cells)?;
@@ -49,7 +49,7 @@ fn check_records<const GRANTS: usize>(
     plan: &[u8],
     e: Edition,
 ) -> Outcome
-    requires { Bounded e × (e.ports * e.ports ≤ GRANTS) × (GRANTS ≤ 16384) × (length cells.now ≡ n * n) }
+    requires { Bounded e × (e.ports * e.ports ≤ GRANTS) × (GRANTS < 2 ^ 61) × (length cells.now ≡ n * n) }
     ensures { result ≡ reading e n plan.now (covering longest n cells.now) }
 {
     let records = plans::open(n, plan, e)?.records;

@@ -5,7 +5,7 @@
 // and what a demand is refused for is `demand`'s: this crate counts what both parts need, and adds up.
 #![tactic(auto)]
 
-ghost use Rattle.std.specs.Prelude.{◌≡◌, ℕ, ◌+◌, ◌*◌, ◌<◌, ◌≤◌, length, Ok};
+ghost use Rattle.std.specs.Prelude.{◌≡◌, ℕ, ◌+◌, ◌*◌, ◌<◌, ◌≤◌, length, Ok, ◌^◌};
 ghost use Rattle.switch.specs.Editions.{first_edition, second_edition, Bounded};
 ghost use Rattle.switch.specs.Result.{Gives};
 ghost use Rattle.demand.specs.Check.{check_demand};
@@ -66,7 +66,7 @@ pub fn plan_for<const C: usize, const P: usize>(
     cells: &[u32],
     plan: &mut [u8],
 ) -> Outcome
-    requires { Bounded e × (e.ports * e.ports ≤ C) × (e.ports ≤ P) × (C ≤ 16384) × (P ≤ 128) }
+    requires { Bounded e × (e.ports * e.ports ≤ C) × (e.ports ≤ P) × (C < 2 ^ 61) × (P < 2 ^ 62) }
     ensures { Gives (planned e n cells.now (doubled_rule rule Forward e.width n cells.now) plan.old) result plan.new }
 {
     let longest = check_demand(n, e.ports, cells)?;

@@ -4,7 +4,7 @@
 // multiplied, so that a planner above needs nothing but their promises.
 #![tactic(auto)]
 
-ghost use Rattle.std.specs.Prelude.{◌≡◌, map, ℕ, ◌*◌, ◌≤◌, length, Ok};
+ghost use Rattle.std.specs.Prelude.{◌≡◌, map, ℕ, ◌*◌, ◌≤◌, length, Ok, ◌<◌, ◌^◌};
 ghost use Rattle.switch.specs.Editions.{first_edition, second_edition, Bounded};
 ghost use Rattle.switch.specs.Result.{Gives};
 ghost use Rattle.demand.specs.Check.{check_demand};
@@ -59,7 +59,7 @@ pub fn exact_plan_second(n: usize, cells: &[u32], plan: &mut [u8]) -> Outcome
 
 // The exact plan of an edition, with a working copy of as many cells as its largest switch has.
 pub fn plan_for<const ROOM: usize>(e: Edition, n: usize, cells: &[u32], plan: &mut [u8]) -> Outcome
-    requires { Bounded e × (e.ports * e.ports ≤ ROOM) × (ROOM ≤ 16384) }
+    requires { Bounded e × (e.ports * e.ports ≤ ROOM) × (ROOM < 2 ^ 61) }
     ensures { Gives (planned e n cells.now (exact_plan e.width n cells.now) plan.old) result plan.new }
 {
     let longest = check_demand(n, e.ports, cells)?;

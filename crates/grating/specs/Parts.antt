@@ -1,5 +1,5 @@
 -- Inner: what the code is told of the first part, which stands as a plan of its own in a buffer. Definitions only.
-use Rattle.std.specs.Prelude.{◌≡◌, List, ◌++◌, map, ℕ, ◌+◌, ◌*◌, ◌/◌, ◌≤◌}
+use Rattle.std.specs.Prelude.{◌≡◌, List, ◌++◌, map, ℕ, ◌+◌, ◌*◌, ◌/◌, ◌≤◌, ◌<◌, ◌^◌}
 use Rattle.switch.specs.declared.Edition.{Edition}
 use Rattle.switch.specs.Editions.{Bounded}
 use Rattle.switch.specs.Plan.{Record, total}
@@ -30,4 +30,4 @@ pub record Roomy (E : Edition) (cells holds first : ℕ) : Type 0 where
   pub held : E.ports ≤ holds
   pub parted : E.ports ≤ first / (E.width + 4)
   -- and fit an array
-  pub few : (cells ≤ 16384) × (holds ≤ 128) × (first ≤ 65536)
+  pub few : (cells < 2 ^ 61) × (holds < 2 ^ 62) × (first < 2 ^ 63)

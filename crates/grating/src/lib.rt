@@ -4,7 +4,7 @@
 // does to the wavelengths is told by the crate wavelengths.
 #![tactic(auto)]
 
-ghost use Rattle.std.specs.Prelude.{◌≡◌, ◌+◌, ◌*◌, ◌≤◌, length, Ok};
+ghost use Rattle.std.specs.Prelude.{◌≡◌, ◌+◌, ◌*◌, ◌≤◌, length, Ok, ◌<◌, ◌^◌};
 ghost use Rattle.switch.specs.Editions.{first_edition, Bounded};
 ghost use Rattle.switch.specs.Result.{Gives};
 ghost use Rattle.switch.specs.Answer.{plan_counts};
@@ -74,7 +74,7 @@ fn plan_fine<const C: usize>(
     first: &mut [u8],
     plan: &mut [u8],
 ) -> Outcome
-    requires { (check_demand e.ports n cells.now ≡ Ok longest) × Bounded e × (length quotients.old ≡ length cells.now) × ((e.ports * e.ports ≤ C) × (C ≤ 16384)) × (length holds.old ≡ n) × (e.ports ≤ whole e.width first.old) }
+    requires { (check_demand e.ports n cells.now ≡ Ok longest) × Bounded e × (length quotients.old ≡ length cells.now) × ((e.ports * e.ports ≤ C) × (C < 2 ^ 61)) × (length holds.old ≡ n) × (e.ports ≤ whole e.width first.old) }
     ensures { Gives (grating_planned e n cells.now plan.old) result plan.new }
 {
     if longest == 0 {

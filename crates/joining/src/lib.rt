@@ -4,7 +4,7 @@
 // Finding equal settings is left to the crate tally.
 #![tactic(auto)]
 
-ghost use Rattle.std.specs.Prelude.{◌≡◌, List, ℕ, ◌+◌, ◌<◌, ◌≤◌, length};
+ghost use Rattle.std.specs.Prelude.{◌≡◌, List, ℕ, ◌+◌, ◌<◌, ◌≤◌, length, ◌^◌};
 ghost use Rattle.switch.specs.Result.{Gives};
 ghost use Rattle.records.specs.Bytes.{whole, bytes, laid};
 ghost use Rattle.switch.specs.Editions.{first_edition, second_edition, Bounded};
@@ -34,7 +34,7 @@ pub fn join_plan_second(n: usize, plan: &[u8], joined: &mut [u8]) -> Outcome
 
 // Joins a plan of an edition, which has at most M records, by numbers of 16 bits.
 pub fn join_for<const M: usize>(n: usize, plan: &[u8], e: Edition, buffer: &mut [u8]) -> Outcome
-    requires { Bounded e × (e.records ≤ M) × (M < 65536) }
+    requires { Bounded e × (e.records < 65536) × (e.records ≤ M) × (M < 2 ^ 60) }
     ensures { Gives (joining e n plan.now buffer.old) result buffer.new }
 {
     let counts = plans::check_plan(n, plan, e)?;

@@ -1,6 +1,6 @@
 -- Inner: what the planner is lent, and the working copy that it makes of a demand. Definitions only.
 use Rattle.labels.specs.Ports.{Outputs}
-use Rattle.std.specs.Prelude.{◌≡◌, Ok, Err, ⊤, List, ℕ, ◌*◌, ◌≤◌, ◌<◌, length}
+use Rattle.std.specs.Prelude.{◌≡◌, Ok, Err, ⊤, List, ℕ, ◌*◌, ◌≤◌, ◌<◌, length, ◌^◌}
 use Rattle.std.specs.declared.result.Result.{Result}
 use Rattle.switch.specs.declared.Edition.{Edition}
 use Rattle.switch.specs.declared.Refusal.{Refusal}
@@ -24,7 +24,7 @@ pub record Space (N : ℕ) (w : List ℕ) (rows : List Outputs) (out : List ℕ)
 pub record Lent (E : Edition) (ports cells : ℕ) : Type 0 where
   pub bounded : Bounded E
   pub squared : E.ports * E.ports ≤ cells
-  pub few : cells ≤ 16384
+  pub few : cells < 2 ^ 61
   pub each : E.ports ≤ ports
   pub wide : ports ≡ E.width
 

@@ -85,7 +85,7 @@ module _ (N hold : ℕ) (w₀ out : List ℕ) (room : N * N ≤ length w₀) (w 
 module _ (N L : ℕ) (w : List ℕ) (rows : List Outputs) (r : Ready N L w rows) where
   -- the labels have outputs of the switch alone
   pub labels-ask : Rows N rows
-  labels-ask = record { some = r.copy.sized.some; few = r.few; size = omega (arith, r.copy.labels.each); inside = λ i j li h. ((r.copy.labels.row i li).only j h).0 }
+  labels-ask = record { some = r.copy.sized.some; few = r.few; size = omega (arith, r.copy.labels.each); inside = λ i j li _ h. ((r.copy.labels.row i li).only j h).0 }
 
   same-pairs : (i j : ℕ) → i < N → j < N → ltb 0 (asks rows i j) ≡ ltb 0 (cell N w i j)
   unfolding asks

@@ -53,10 +53,16 @@ pub record Took (N L : ℕ) (w w' : List ℕ) (rows' : List Outputs) (out' : Lis
   pub more : leftover N L w ≡ record { hold = hold; outputs = out' } ∷ leftover N L w'
   pub fits : (most : ℕ) → ((i j : ℕ) → i < N → j < N → cell N w i j ≤ most) → (hold ≤ most) × ((i j : ℕ) → i < N → j < N → cell N w' i j ≤ most)
 
+-- nothing was left, and the working copy stands with its labels in step
+pub record Ended (N L : ℕ) (w w' : List ℕ) (rows' : List Outputs) : Type 0 where
+  pub copy : Loaded N w' rows'
+  pub none : leftover N L w ≡ []
+  pub fits : (most : ℕ) → ((i j : ℕ) → i < N → j < N → cell N w i j ≤ most) → (i j : ℕ) → i < N → j < N → cell N w' i j ≤ most
+
 -- the next record was taken off; without a hold there was none
 abbrev pub Stepped : (N L : ℕ) (w w' : List ℕ) (rows' : List Outputs) (out' : List ℕ) → Option ℕ → Type 0
 Stepped N L w w' rows' out' (Some hold) = Took N L w w' rows' out' hold
-Stepped N L w w' rows' out' None = leftover N L w ≡ []
+Stepped N L w w' rows' out' None = Ended N L w w' rows'
 
 -- no cell is longer than a hold can be, and all holds together are a number of 32 bits
 pub record Short (N : ℕ) (w : List ℕ) (p : List Record) : Type 0 where

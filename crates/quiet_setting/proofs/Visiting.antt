@@ -200,7 +200,7 @@ module _ (N L : ℕ) (rows : List Outputs) (v : ℕ) (out counts : List ℕ) (bu
       asked = word j m.small ∙ rest.less j m.here
 
       pub given-in : j < N
-      given-in = ask.inside v j lv asked
+      given-in = ask.inside v j lv m.small asked
 
       pub not_full : In busy.full.0 j → ⊥
       not_full h = rest.gone j m.here (both.right j h)

@@ -26,12 +26,12 @@ asks rows i j = digit (row_of rows i) j
 abbrev pub FirstWord : (l r : ℕ) → Type 0
 FirstWord l r = (k : ℕ) → k < 64 → digit l k ≡ digit r k
 
--- a label of outputs for each of N inputs, all of them in its first word
+-- a label of outputs for each of N inputs: in its first word, which alone is read, none but the first N
 pub record Rows (N : ℕ) (rows : List Outputs) : Type 0 where
   pub some : 0 < N
   pub few : N ≤ 64
   pub size : N ≤ length rows
-  pub inside : (i j : ℕ) → i < N → In (row_of rows i) j → j < N
+  pub inside : (i j : ℕ) → i < N → j < 64 → In (row_of rows i) j → j < N
 
 -- l has the outputs below N that input v would reach by a wavelength that L inputs of setting o use
 pub record FullFor (N L : ℕ) (o : ℕ → ℕ) (v l : ℕ) : Type 0 where

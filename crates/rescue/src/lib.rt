@@ -3,7 +3,7 @@
 // bytes, and nothing is written before all is known. What is kept, dropped and added stands on paper in the crate rescue_rule.
 #![tactic(auto)]
 
-ghost use Rattle.std.specs.Prelude.{◌≡◌, ◌++◌, length, ℕ, ◌+◌, ◌*◌, ◌-◌, ◌<◌, ◌≤◌, Ok};
+ghost use Rattle.std.specs.Prelude.{◌≡◌, ◌++◌, length, ℕ, ◌+◌, ◌*◌, ◌-◌, ◌<◌, ◌≤◌, Ok, ◌^◌};
 ghost use Rattle.switch.specs.Demand.{cell, Blank};
 ghost use Rattle.switch.specs.Editions.{first_edition, Bounded};
 ghost use Rattle.switch.specs.Empty.{beyond};
@@ -71,7 +71,7 @@ pub fn rescue_for<const P: usize>(
     list: &mut [u8],
     e: Edition,
 ) -> Answer
-    requires { Bounded e × (e.ports * e.ports ≤ P) × (P < 65536) }
+    requires { Bounded e × (e.ports * e.ports ≤ P) × (P < 2 ^ 61) }
     ensures { Saves (rescuing e n cells.now damaged.now plan.old list.old) result plan.new list.new }
 {
     rescued_or_refused::<P>(n, cells, damaged, plan, list, e).unwrap_or_else(refused)
@@ -97,7 +97,7 @@ fn rescued_or_refused<const P: usize>(
     list: &mut [u8],
     e: Edition,
 ) -> Result<Answer, Refusal>
-    requires { Bounded e × (e.ports * e.ports ≤ P) × (P < 65536) }
+    requires { Bounded e × (e.ports * e.ports ≤ P) × (P < 2 ^ 61) }
     ensures { Saves (rescuing e n cells.now damaged.now plan.old list.old) (answer_of result) plan.new list.new }
 {
     let longest = check_in(n, cells, damaged, e)?;
@@ -156,7 +156,7 @@ fn write_or_refuse<const P: usize>(
     list: &mut [u8],
     e: Edition,
 ) -> Result<Answer, Refusal>
-    requires { Stocked e n damaged.now stock left.old × (P < 65536) }
+    requires { Stocked e n damaged.now stock left.old × (P < 2 ^ 61) }
     ensures { Saves (fitting e n stock.longest stock.empty (kept e.width e.byte n damaged.now) (exact_plan e.width n left.old) (dropped e.width e.byte n damaged.now) plan.old list.old) (answer_of result) plan.new list.new }
 {
     let room = plan.len() / (e.width + HEAD);

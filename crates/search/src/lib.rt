@@ -73,7 +73,7 @@ impl Pairs {
         requires { j.0 < 128 }
         ensures { (self.new.by ≡ set self.old.by j.0 0) × (self.new.out ≡ self.old.out) }
     {
-        self.by[j.0] = FREE;
+        release(&mut self.by, j);
     }
 
     // Input i takes output j, in both pairs.
@@ -272,4 +272,12 @@ fn mover(rows: &[Outputs], pairs: &Pairs, wave: Outputs, wanted: OutputPort) -> 
         rest = rest.without_lowest();
     }
     unreachable!()
+}
+
+// Nobody holds output j any more, in a table of any length that has it.
+pub fn release(by: &mut [u8], j: OutputPort)
+    requires { j.0 < length by.old }
+    ensures { by.new ≡ set by.old j.0 0 }
+{
+    by[j.0] = FREE;
 }

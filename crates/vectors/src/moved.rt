@@ -1,4 +1,6 @@
 // Moving: a plan of one edition into a second buffer as one of the other, and what was written back again.
+ghost use Rattle.std.specs.Prelude.{◌≡◌, length};
+
 use crate::tape::Step;
 use crate::{editions, show, tape};
 use std::io;
@@ -44,13 +46,9 @@ fn back(letter: u8) -> u8 {
 }
 
 // Moves a plan into lent bytes, and prints what comes of it.
-fn move_into(
-    rt: &impl Print,
-    letter: u8,
-    n: usize,
-    plan: &[u8],
-    lent: &mut [u8],
-) -> io::Result<()> {
+fn move_into(rt: &impl Print, letter: u8, n: usize, plan: &[u8], lent: &mut [u8]) -> io::Result<()>
+    ensures { length lent.new ≡ length lent.old }
+{
     let outcome = moved(letter, n, plan, lent);
     show::written(rt, outcome, lent)
 }

@@ -3,6 +3,8 @@ use Rattle.std.specs.Prelude.{Ok}
 use mathlib.Core.Path.{◌≡◌, sym, ◌∙◌}
 use native.Mathlib.Nat.{mul-le-mul}
 use native.Mathlib.Omega.{arith}
+use Prim.Native.Nat.{ℕ}
+use lib.ListN.{length-replicate}
 use Rattle.std.proofs.Common.{rules}
 use Rattle.std.proofs.lemmas.Result.{err_from_is_err_and}
 use Rattle.switch.specs.Plan.{total}
@@ -27,6 +29,12 @@ pub returns-in_err-pass : goal.returns-in_err-pass
 returns-in_err-pass g c =
     let p = err_from_is_err_and c.from_residual-in_err-pass.result c.from_residual-in_err-pass.ensures.1 in
     rw (p.1, p.2) (reading-malformed _ _ _ _ (λ q. tt) (sym c.in_ok-records.was ∙ c.open.ensures) (sym c.in_err-pass.was ∙ c.grant_plan-pass.ensures.end))
+
+pub meet-requires : goal.meet-requires
+meet-requires g c =
+    let p = c.requires in
+    let r = readable _ _ _ _ p.0 (sym c.in_ok-records.was ∙ c.open.ensures) in
+    (omega (arith, r.few, p.0.ports, p.0.width), p.3, omega (arith, c.grant_plan-pass.auto.grants, length-replicate {A = ℕ} g.row.GRANTS 0, p.1, mul-le-mul r.few r.few))
 
 pub returns-in_err-empty : goal.returns-in_err-empty
 returns-in_err-empty g c =

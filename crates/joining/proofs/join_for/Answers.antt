@@ -1,6 +1,7 @@
 -- A plan that is refused by itself changes nothing; the records are counted before the first is laid; and else the joined plan is laid.
 use native.Mathlib.Omega.{arith}
 use lib.ListN.{length-replicate}
+use lib.Seq.{length-take-le}
 use Rattle.std.proofs.lemmas.Result.{err_from_is_err_and}
 use Rattle.joining.proofs.Answer.{answers-refused, records-whole, records-few, ports-few, first-inside, table-room, answers-short, answers-done}
 use Rattle.joining.proofs.join_for.Goals as goal
@@ -14,7 +15,14 @@ pub sum_up-count-requires : goal.sum_up-count-requires
 sum_up-count-requires g c =
     let p = c.requires in
     let m = records-few _ _ _ c.args.buffer.now p.0 _ c.in_ok-counts.ensures in
-    (p.0.width, records-whole _ _ _ c.args.buffer.now p.0 _ c.in_ok-counts.ensures, omega (arith, m.1, p.1, p.2), omega (arith, m.1, p.1, length-replicate g.row.M c.default-entries.result))
+    (p.0.width, records-whole _ _ _ c.args.buffer.now p.0 _ c.in_ok-counts.ensures, omega (arith, m.1, p.1), omega (arith, m.1, p.2, length-replicate g.row.M c.default-entries.result))
+
+pub count_pieces-need-requires : goal.count_pieces-need-requires
+count_pieces-need-requires g c =
+    let p = c.requires in
+    let m = records-few _ _ _ c.args.buffer.now p.0 _ c.in_ok-counts.ensures in
+    let s = c.sum_up-count.ensures in
+    omega (arith, length-take-le c.sum_up-count.result c.sum_up-count.new.entries s.room, s.few, m.1, p.1)
 
 pub returns-then-buffer-e : goal.returns-then-buffer-e
 returns-then-buffer-e g c =

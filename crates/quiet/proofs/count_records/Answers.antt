@@ -21,4 +21,4 @@ loop-records-preserved c =
     record { running = running-next _ _ _ _ _ _ c.loop-records.invariant.running _ _ _ _ c.in-Some.ensures; long = c.next_record.auto.out ∙ c.loop-records.invariant.long }
 
 pub returns : goal.returns
-returns c = running-last _ _ _ _ _ _ c.loop-records.invariant.running c.in_default.ensures
+returns c = running-last _ _ _ _ _ _ c.loop-records.invariant.running c.in_default.ensures.none

@@ -48,5 +48,5 @@ loop-hold-preserved c =
 
 pub returns : goal.returns
 returns c =
-    let z = laying-last _ _ _ _ _ _ _ _ _ c.loop-hold.invariant.laying c.in_default.ensures in
-    (running-last _ _ _ _ _ _ c.loop-hold.invariant.running c.in_default.ensures, z.0, z.1)
+    let z = laying-last _ _ _ _ _ _ _ _ _ c.loop-hold.invariant.laying c.in_default.ensures.none in
+    (running-last _ _ _ _ _ _ c.loop-hold.invariant.running c.in_default.ensures.none, z.0, z.1)

@@ -15,7 +15,7 @@ hold_of-requires c = (c.requires.0.copy.sized, omega (arith, c.requires.1, c.req
 pub returns-in_err-hold : goal.returns-in_err-hold
 returns-in_err-hold c =
     let a = c.args in
-    rw c.from_residual.ensures (none_left a.n a.limit a.work.now a.rows.now c.requires.0 c.choose.new.out (c.choose.auto.out ∙ c.requires.1) c.choose.ensures 0 (sym c.in_err-hold.ensures) refl)
+    rw c.from_residual.ensures (record { copy = c.requires.0.copy; none = none_left a.n a.limit a.work.now a.rows.now c.requires.0 c.choose.new.out (c.choose.auto.out ∙ c.requires.1) c.choose.ensures 0 (sym c.in_err-hold.ensures) refl; fits = λ most f. f })
 
 pub subtract-requires : goal.subtract-requires
 subtract-requires c =

@@ -26,7 +26,7 @@ returns-in_default c =
 
 pub wavelength_of-w-requires : goal.wavelength_of-w-requires
 wavelength_of-w-requires c = let found : LowestAt 64 c.but-free.result.0 c.in-Some.j = subst (λ (f : (Option ℕ)). Lowest 64 c.but-free.result.0 f) c.in-Some.is c.lowest.ensures in
-    let inside : c.in-Some.j < c.args.n = c.requires.1.inside c.args.i.0 c.in-Some.j c.requires.0 (c.first_word-row.ensures c.in-Some.j found.small ∙ c.but-free.ensures.less c.in-Some.j found.here) in
+    let inside : c.in-Some.j < c.args.n = c.requires.1.inside c.args.i.0 c.in-Some.j c.requires.0 found.small (c.first_word-row.ensures c.in-Some.j found.small ∙ c.but-free.ensures.less c.in-Some.j found.here) in
     let p = c.requires in (p.0, inside, omega (arith, p.1.few))
 
 pub bounds-counts-w : goal.bounds-counts-w
@@ -69,14 +69,14 @@ mark-requires c = let found : LowestAt 64 c.but-free.result.0 c.in-Some.j = subs
 pub turned-requires-2 : goal.turned-requires-2
 turned-requires-2 c =
     let found : LowestAt 64 c.but-free.result.0 c.in-Some.j = subst (λ (f : (Option ℕ)). Lowest 64 c.but-free.result.0 f) c.in-Some.is c.lowest.ensures in
-    let inside : c.in-Some.j < c.args.n = c.requires.1.inside c.args.i.0 c.in-Some.j c.requires.0 (c.first_word-row.ensures c.in-Some.j found.small ∙ c.but-free.ensures.less c.in-Some.j found.here) in
+    let inside : c.in-Some.j < c.args.n = c.requires.1.inside c.args.i.0 c.in-Some.j c.requires.0 found.small (c.first_word-row.ensures c.in-Some.j found.small ∙ c.but-free.ensures.less c.in-Some.j found.here) in
     let p = c.requires in
     (p.1.some, p.1.few, marked-inside _ _ _ _ _ p.2.full.inside inside c.mark_if-fuller.ensures)
 
 pub returns : goal.returns
 returns c =
     let found : LowestAt 64 c.but-free.result.0 c.in-Some.j = subst (λ (f : (Option ℕ)). Lowest 64 c.but-free.result.0 f) c.in-Some.is c.lowest.ensures in
-    let inside : c.in-Some.j < c.args.n = c.requires.1.inside c.args.i.0 c.in-Some.j c.requires.0 (c.first_word-row.ensures c.in-Some.j found.small ∙ c.but-free.ensures.less c.in-Some.j found.here) in
+    let inside : c.in-Some.j < c.args.n = c.requires.1.inside c.args.i.0 c.in-Some.j c.requires.0 found.small (c.first_word-row.ensures c.in-Some.j found.small ∙ c.but-free.ensures.less c.in-Some.j found.here) in
     let a = c.args in
     visit-at a.n a.limit a.rows.now a.i.0 a.out.now a.counts.now a.busy c.requires.0 c.requires.1 c.requires.2 c.in-Some.j c.wavelength_of-w.result c.wavelength_of-w.ensures.1 inside
     (not_full a.n a.limit a.rows.now a.i.0 a.out.now a.counts.now a.busy c.requires.0 c.requires.1 c.requires.2 c.with.result.0 c.but-free.result.0 c.with.ensures c.first_word-row.result.0 c.first_word-row.ensures c.but-free.ensures c.in-Some.j found)
