@@ -208,8 +208,8 @@ fn hold_of(cells: &[u32], n: usize, out: &[u8]) -> Option<u32>
     if 0 < hold { Some(hold) } else { None }
 }
 
-// The same as a number, which is 0 where all inputs are idle. With an `Option` carried from input to input the plan of few inputs took a third
-// longer.
+// The same as a number, which is 0 where all inputs are idle. With an `Option` carried from input to input the plan of few inputs took longer
+// by a quarter and more.
 // A loop: of a chain that passes over inputs without a cell and takes the least, the promise did not follow.
 fn least_cell(cells: &[u32], n: usize, out: &[u8]) -> u32
     requires { Sized n cells.now × (n ≤ length out.now) }

@@ -75,7 +75,7 @@ fn plan_checked(n: usize, cells: &[u32], d: u32, tasks: &mut [u8]) -> Outcome
 }
 
 // How many pairs have slots.
-// By an index: a filter that is counted branches at each cell, and a refusal of the room took up to four times as long; of ones that are summed
+// By an index: a filter that is counted branches at each cell, and a refusal of the room took several times as long; of ones that are summed
 // it was not proved that the sum fits.
 fn count_tasks(cells: &[u32]) -> usize
     ensures { result ≡ count_by (λ c. not (c == 0)) cells.now }
